@@ -1,0 +1,4 @@
+pub mod ByteLaws
+pub mod WriteLaws
+pub mod FieldLaws
+pub mod MaskLaws

@@ -1,0 +1,91 @@
+-- Writes to a list: one read back, one apart from what is read, one after the other, one within the other, one to a lent part.
+use mathlib.Core.Path.{_≡_, refl, ap, sym, _∙_}
+use mathlib.Core.List.{List, [], _∷_, _++_, append-assoc}
+use Prim.Native.Nat.{ℕ, zero, suc, _+_, _-_, _≤_, _<_}
+use native.Mathlib.Nat.{add-zero, zero-add, add-suc, suc-add, not-suc-le-zero}
+use native.Mathlib.Omega.{arith}
+use borrow.Rule.Slice.PartMut.{putMid}
+use lib.ListN.{length, getD, set, take, drop, length-set, length-drop, take-append-drop}
+use native.Mathlib.Numerals.{add-one}
+use lib.Seq.{paste, paste-suc, take-all, sets, sets-eq, length-sets, set-append-left, length-take-le, getD-set-same, getD-set-other}
+use Rattle.bits.specs.Bytes.{bytesAt, number, numberAt}
+use Rattle.bits.proofs.ByteLaws.{bytesAt-ext, bytesAt-is}
+
+-- the code's places i + 1, i + 2, i + 3 as `sets` goes through them
+pub next1 : (i : ℕ) → i + 1 ≡ suc i
+next1 i = omega arith
+
+pub next2 : (i : ℕ) → i + 2 ≡ suc (suc i)
+next2 i = omega arith
+
+pub next3 : (i : ℕ) → i + 3 ≡ suc (suc (suc i))
+next3 i = omega arith
+
+-- ---- one write read
+
+-- a place that the write does not touch
+pub sets-off : (vs s : List ℕ) (at p : ℕ) → (at ≤ p → at + length vs ≤ p) → getD (sets s at vs) p 0 ≡ getD s p 0
+sets-off [] s at p o = refl
+sets-off (v ∷ vs) s at p o =
+    sets-off vs (set s at v) (suc at) p (λ h. omega (arith, o (omega arith)))
+    ∙ getD-set-other s at p v 0 (λ e. omega (arith, o (omega arith)))
+
+-- a place that it does
+pub sets-in : (vs s : List ℕ) (at j : ℕ) → at + length vs ≤ length s → j < length vs → getD (sets s at vs) (at + j) 0 ≡ getD vs j 0
+sets-in [] s at j h k = absurd (not-suc-le-zero k)
+sets-in (v ∷ vs) s at zero h k =
+    rw add-zero (sets-off vs (set s at v) (suc at) at (omega arith) ∙ getD-set-same s at v 0 (omega arith))
+sets-in (v ∷ vs) s at (suc j) h k =
+    rw (add-suc, ← suc-add) (sets-in vs (set s at v) (suc at) j (rw length-set (omega arith)) (omega arith))
+
+-- n bytes apart from the write are as they were: no byte of the two is the same
+pub bytesAt-off : (vs s : List ℕ) (at p n : ℕ) → (at < p + n → at + length vs ≤ p) → bytesAt (sets s at vs) p n ≡ bytesAt s p n
+bytesAt-off vs s at p n o = bytesAt-ext (sets s at vs) s n p p (λ j h. sets-off vs s at (p + j) (λ k. omega (arith, o (omega arith))))
+
+-- the bytes that were written are read back
+pub bytesAt-back : (vs s : List ℕ) (at : ℕ) → at + length vs ≤ length s → bytesAt (sets s at vs) at (length vs) ≡ vs
+bytesAt-back vs s at h = bytesAt-is (sets s at vs) vs at (length vs) refl (λ j k. sets-in vs s at j h k)
+
+-- ---- two writes
+
+pub sets-append : (a b l : List ℕ) (i : ℕ) → sets l i (a ++ b) ≡ sets (sets l i a) (i + length a) b
+sets-append [] b l i = rw add-zero
+sets-append (x ∷ a) b l i = rw (add-suc, ← suc-add) (sets-append a b (set l i x) (suc i))
+
+set-append-right : (p q : List ℕ) (j x : ℕ) → set (p ++ q) (length p + j) x ≡ p ++ set q j x
+set-append-right [] q j x = rw zero-add
+set-append-right (y ∷ p) q j x = rw suc-add (ap (λ (l : List ℕ). y ∷ l) (set-append-right p q j x))
+
+sets-mid : (p ys r bs : List ℕ) (j : ℕ) → j + length bs ≤ length ys → sets (p ++ (ys ++ r)) (length p + j) bs ≡ p ++ (sets ys j bs ++ r)
+sets-mid p ys r [] j h = refl
+sets-mid p ys r (x ∷ bs) j h =
+    let k : j < length ys = omega arith in
+    let h′ : suc j + length bs ≤ length (set ys j x) = rw length-set (omega arith) in
+    rw (set-append-right p (ys ++ r) j x, set-append-left ys r j x k, ← add-suc) (sets-mid p (set ys j x) r bs (suc j) h′)
+
+-- an edit within what was written is a write of the edited
+pub sets-within : (l s bs : List ℕ) (i j : ℕ) → i + length s ≤ length l → j + length bs ≤ length s → sets (sets l i s) (i + j) bs ≡ sets l i (sets s j bs)
+sets-within l s bs i j h g =
+    let t : length (take i l) ≡ i = length-take-le i l (omega arith) in
+    let k : length (sets s j bs) ≡ length s = length-sets s j bs in
+    let m : sets (take i l ++ (s ++ drop (i + length s) l)) (length (take i l) + j) bs ≡ take i l ++ (sets s j bs ++ drop (i + length s) l)
+    = sets-mid (take i l) s (drop (i + length s) l) bs j g in
+    rw (sets-eq s l i h, sets-eq (sets s j bs) l i (omega arith), k, append-assoc (take i l) s, append-assoc (take i l) (sets s j bs)) (rw t at m)
+
+-- a part that is lent and written is a write to the whole
+pub part-sets : (l bs : List ℕ) (a k j : ℕ) → a + k ≤ length l → j + length bs ≤ k → putMid a k l (sets (take k (drop a l)) j bs) ≡ sets l (a + j) bs
+part-sets l bs a k j h g =
+    let e : length (take k (drop a l)) ≡ k = length-take-le k (drop a l) (rw length-drop (omega arith)) in
+    let m : sets (take a l ++ (take k (drop a l) ++ drop k (drop a l))) (length (take a l) + j) bs ≡ take a l ++ (sets (take k (drop a l)) j bs ++ drop k (drop a l))
+    = sets-mid (take a l) (take k (drop a l)) (drop k (drop a l)) bs j (omega arith) in
+    let t : length (take a l) ≡ a = length-take-le a l (omega arith) in
+    sym (rw (take-append-drop k (drop a l), take-append-drop a l, t) at m)
+
+-- ---- a copy, byte by byte
+
+module _ (d s out : List ℕ) (at i : ℕ) (e : out ≡ paste d at s i) where
+  pub copied-more : at + i < length d → i < length s → set out (at + i) (getD s i 0) ≡ paste d at s (i + 1)
+  copied-more h k = rw (e, add-one) (paste-suc d at s i 0 h k)
+
+  pub copied-all : at + length s ≤ length d → i ≡ length s → out ≡ sets d at s
+  copied-all h k = rw (sets-eq s d at h) (e ∙ rw (k, take-all (length s) s (omega arith)))

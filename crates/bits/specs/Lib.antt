@@ -1,0 +1,5 @@
+pub mod Choice
+pub mod Bytes
+pub mod Fields
+pub mod Words
+pub mod Outcome
