@@ -1,1 +1,5 @@
 pub mod Table
+pub mod Record
+pub mod Entry
+pub mod Hash
+pub mod Move
