@@ -225,6 +225,14 @@ pub fn get(k: usize) -> Field
     }
 }
 
+// The width of a field, by the name of its row.
+pub fn width(k: usize) -> usize
+    requires { ⌜ k < 58 ⌝ }
+    ensures { λ r. ⌜ r ≡ rowOf k .width ⌝ }
+{
+    get(k).width
+}
+
 // `n` where the fact holds, else 0.
 pub fn if_set(fact: bool, n: usize) -> usize
     ensures { λ r. ⌜ (r ≡ ifSet fact n) × (r ≤ n) ⌝ }

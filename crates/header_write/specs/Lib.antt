@@ -1,0 +1,3 @@
+pub mod Delta
+pub mod Records
+pub mod Slots
