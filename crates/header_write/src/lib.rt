@@ -4,6 +4,7 @@
 // slot, edits fields that the table of crate format places, and stores it. No leaf relies on a check
 // by its caller: a slot, word or header buffer that is too short is refused with number 1 and stays
 // as it is.
+pub mod headers;
 pub mod records;
 
 ghost use mathlib.Core.Path.{_≡_};
