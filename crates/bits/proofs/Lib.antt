@@ -2,3 +2,5 @@ pub mod ByteLaws
 pub mod WriteLaws
 pub mod FieldLaws
 pub mod MaskLaws
+pub mod TestLaws
+pub mod OutcomeLaws

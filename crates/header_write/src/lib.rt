@@ -184,12 +184,12 @@ pub fn shift_u32_at(buf: &mut [u8], pos: usize, delta: i32) -> Wrote
     ensures { λ r. ⌜ Writes (shiftWord pos (turned delta) (now (buf .entry))) r (now (buf .entry)) (now (buf .exit)) ⌝ }
 {
     if buf.len() < pos {
-        return Wrote::Refused(1);
+        return Wrote::Refused(1); // the position lies past the end
     }
     if buf.len() - pos < 4 {
         return Wrote::Refused(1);
     }
     let d = records::turn(delta);
     bits::put_word(buf, pos, bits::word(buf, pos) + d);
-    Wrote::Done
+    Wrote::Done // 4 bytes are stored, so that the sum wraps
 }
