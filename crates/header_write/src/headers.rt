@@ -8,7 +8,7 @@ ghost use Prim.Native.Nat.{_+_, _≤_};
 ghost use lib.ListN.{length};
 ghost use lib.Seq.{sets};
 ghost use Rattle.format.specs.declared.Layout.the-variants.{Modern, Legacy};
-ghost use Rattle.format.specs.Table.{legacyOptions};
+ghost use Rattle.format.specs.Table.{rowCount, legacyOptions};
 ghost use Rattle.header_write.specs.Slots.{Writes};
 ghost use Rattle.header_write.specs.Headers.{putAll, put, optional, run, headerWords, identity, onHeader, modernHeader, layoutOf, segmentOf, legacyPuts, legacyHeader};
 
@@ -48,7 +48,7 @@ pub struct LegacyHeader {
 // A run of header words, `values[i]` in the field of row `first + i`.
 fn put_rows(buf: &mut [u8], layout: Layout, first: usize, values: &[u32])
     requires { ⌜ 128 ≤ length (now buf) ⌝ }
-    requires { ⌜ first + length (now values) ≤ 58 ⌝ }
+    requires { ⌜ first + length (now values) ≤ rowCount ⌝ }
     requires { ⌜ headerWords first (length (now values)) ≡ true ⌝ }
     ensures { λ _. ⌜ now (buf .exit) ≡ putAll layout (run first (now (values .entry))) (now (buf .entry)) ⌝ }
 {
@@ -63,7 +63,7 @@ fn put_rows(buf: &mut [u8], layout: Layout, first: usize, values: &[u32])
 // The same where the fact holds, else nothing.
 fn put_rows_if(fact: bool, buf: &mut [u8], layout: Layout, first: usize, values: &[u32])
     requires { ⌜ 128 ≤ length (now buf) ⌝ }
-    requires { ⌜ first + length (now values) ≤ 58 ⌝ }
+    requires { ⌜ first + length (now values) ≤ rowCount ⌝ }
     requires { ⌜ headerWords first (length (now values)) ≡ true ⌝ }
     ensures { λ _. ⌜ now (buf .exit) ≡ putAll layout (optional fact (run first (now (values .entry)))) (now (buf .entry)) ⌝ }
 {

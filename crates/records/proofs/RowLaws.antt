@@ -11,14 +11,14 @@ use Rattle.bits.specs.Choice.{pick}
 use Rattle.bits.specs.Words.{InOneWord}
 use Rattle.bits.specs.Fields.{fieldOf}
 use Rattle.format.specs.declared.Field.{Field}
-use Rattle.format.specs.Table.{rowOf}
+use Rattle.format.specs.Table.{rowOf, rowCount}
 use Rattle.format.specs.Record.{valueOf}
 use Rattle.bits.proofs.TestLaws.{both-0, both-1}
 use Rattle.records.specs.Records.{isRecordRow}
 
 -- what the test of a record's row says
 pub record RecordRow (k : ℕ) : Type 0 where
-  pub named : k < 58
+  pub named : k < rowCount
   pub placed : InOneWord (rowOf k .at) (rowOf k .width)
   pub small : rowOf k .width ≤ 32
 
@@ -28,12 +28,12 @@ in-low at w t h = leb-true (w + at) 64 (rw (lt-ltb at 64 h) at t)
 pub record-row : (k : ℕ) → isRecordRow k ≡ true → RecordRow k
 record-row k t =
     let f = rowOf k in
-    let t₁ = both-1 (ltb k 58) _ t in
+    let t₁ = both-1 (ltb k rowCount) _ t in
     let t₂ = both-1 (leb (f .width) 32) _ t₁ in
     let t₃ = both-1 (ltb (f .at) 128) _ t₂ in
     let s : f .width ≤ 32 = leb-true (f .width) 32 (both-0 (leb (f .width) 32) _ t₁) in
     record {
-      named = ltb-true k 58 (both-0 (ltb k 58) _ t);
+      named = ltb-true k rowCount (both-0 (ltb k rowCount) _ t);
       placed = record {
         narrow = omega arith;
         within = leb-true (f .width + f .at) 128 (both-0 (leb (f .width + f .at) 128) _ t₃);

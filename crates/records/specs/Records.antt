@@ -6,7 +6,7 @@ use Rattle.bits.specs.Choice.{pick, both}
 use Rattle.format.specs.declared.Field.{Field}
 use Rattle.format.specs.declared.Layout.{Layout}
 use Rattle.format.specs.declared.Layout.the-variants.{Modern, Legacy}
-use Rattle.format.specs.Table.{rowOf, modernOffset, modernSize, modernFlags, legacyOffset, legacyParams, legacySize, legacyName, legacyInfo, legacyFrame, legacyEnvironment, legacyReadCache, legacyWriteCache, legacyFlags}
+use Rattle.format.specs.Table.{rowOf, rowCount, modernOffset, modernSize, modernFlags, legacyOffset, legacyParams, legacySize, legacyName, legacyInfo, legacyFrame, legacyEnvironment, legacyReadCache, legacyWriteCache, legacyFlags}
 use Rattle.format.specs.Record.{valueOf, withValue, pointer, putPointer}
 use Rattle.records.specs.declared.LegacyFunctionHeader.{LegacyFunctionHeader}
 use Rattle.records.specs.declared.ModernFunctionHeader.{ModernFunctionHeader}
@@ -15,7 +15,7 @@ use Rattle.records.specs.declared.ModernFunctionHeader.{ModernFunctionHe
 abbrev pub isRecordRow : ℕ → Bool
 isRecordRow k =
     let f = rowOf k in
-    both (ltb k 58) (both (leb (f .width) 32) (both (ltb (f .at) 128) (both (leb (f .width + f .at) 128) (pick (ltb (f .at) 64) (leb (f .width + f .at) 64) true))))
+    both (ltb k rowCount) (both (leb (f .width) 32) (both (ltb (f .at) 128) (both (leb (f .width + f .at) 128) (pick (ltb (f .at) 64) (leb (f .width + f .at) 64) true))))
 
 -- ---- edits; d is the delta modulo 2^41
 
