@@ -2,3 +2,4 @@ pub mod ByteLaws
 pub mod WriteLaws
 pub mod FieldLaws
 pub mod MaskLaws
+pub mod Word32Laws

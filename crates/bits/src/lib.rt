@@ -1,5 +1,7 @@
 // Words and bit fields: the bytes of a slice as little-endian numbers, and fields of a number of
 // one or two 64-bit words.
+pub mod word32;
+
 ghost use mathlib.Core.Path.{_≡_};
 ghost use Prim.Native.Nat.{_+_, _≤_, _<_, _^_};
 ghost use lib.ListN.{length};
