@@ -148,3 +148,8 @@ with-high hi lo at w v h =
   where
     regroup : (a b c d e k l : ℕ) → a * (b * k) + (c * (d * k) + (e * k + l)) ≡ (a * b + (c * d + e)) * k + l
     regroup a b c d e k l = rw (← mul-assoc a b k, ← mul-assoc c d k, add-mul, add-mul) (omega arith)
+
+-- the lowest bits
+pub field-front : (n w : ℕ) → fieldOf n 0 w ≡ n % 2 ^ w
+unfolding fieldOf
+field-front n w = ap (λ (m : ℕ). m % 2 ^ w) (let e : n / 1 ≡ n = omega arith in e)

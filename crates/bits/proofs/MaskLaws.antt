@@ -4,7 +4,7 @@ use Prim.Native.Nat.{ℕ, _+_, _-_, _*_, _/_, _%_, _^_, _≤_, _<_}
 use native.Mathlib.Nat.{one-mul, zero-mul, zero-add, mod-lt, sub-add-cancel}
 use native.Mathlib.Omega.{arith}
 use lib.Pow.{high-ones, pow-pos, pow-mono, split, shr-mod, mod-mod-pow, shl-exact, shl-lt}
-use lib.Bits.{bitAnd, bitOr, and-mask, and-block, or-block, or-zero-r, or-shifted-r}
+use lib.Bits.{bitAnd, bitOr, and-mask, and-block, or-block, or-zero-r, or-shifted, or-shifted-r}
 use Rattle.bits.specs.Fields.{withField}
 
 -- the code's `1 << w`
@@ -45,3 +45,7 @@ put-is w at n v h k =
     let e : 64 - (w + at) + (w + at) ≡ 64 = sub-add-cancel h in
     let z : bitAnd n (2 ^ 64 - 1 - (2 ^ w - 1) * 2 ^ at) ≡ n / 2 ^ (w + at) * 2 ^ (w + at) + n % 2 ^ at = rw e at (cleared (64 - (w + at)) w at n (rw e k)) in
     rw (z, and-mask) (laid w at (n / 2 ^ (w + at)) (n % 2 ^ at) (v % 2 ^ w) (mod-lt n (pow-pos at)) (mod-lt v (pow-pos w)))
+
+-- the code's `(a << k) | b`
+pub or-add : (j k a b : ℕ) → a < 2 ^ j → b < 2 ^ k → j + k ≤ 64 → bitOr (a * 2 ^ k % 2 ^ 64) b ≡ a * 2 ^ k + b
+or-add j k a b h g l = ap (λ (m : ℕ). bitOr m b) (shl-exact j k 64 h l) ∙ or-shifted a k b g

@@ -3,7 +3,7 @@
 pub mod word32;
 
 ghost use mathlib.Core.Path.{_≡_};
-ghost use Prim.Native.Nat.{_+_, _≤_, _<_, _^_};
+ghost use Prim.Native.Nat.{_+_, _*_, _≤_, _<_, _^_};
 ghost use lib.ListN.{length};
 ghost use lib.Seq.{sets};
 ghost use Rattle.bits.specs.Bytes.{wordAt, numberAt, bytesOf};
@@ -74,6 +74,14 @@ pub fn with_field(n: u64, at: usize, width: usize, v: u64) -> u64
 {
     let ones = (1u64 << width) - 1;
     (n & !(ones << at)) | ((v & ones) << at)
+}
+
+// The number whose low `width` bits are `low` and whose upper ones are `high`.
+pub fn join(high: u64, low: u64, width: usize) -> u64
+    requires { ⌜ (width ≤ 32) × (high < 2 ^ 32) × (low < 2 ^ width) ⌝ }
+    ensures { λ r. ⌜ r ≡ high * 2 ^ width + low ⌝ }
+{
+    (high << width) | low
 }
 
 // A field of a number of two words: it lies in one of them.

@@ -225,6 +225,22 @@ pub fn get(k: usize) -> Field
     }
 }
 
+// The width of a field, by the name of its row.
+pub fn width(k: usize) -> usize
+    requires { ⌜ k < 58 ⌝ }
+    ensures { λ r. ⌜ r ≡ rowOf k .width ⌝ }
+{
+    get(k).width
+}
+
+// The place of a field that no layout pushes, by the name of its row.
+pub fn at(k: usize) -> usize
+    requires { ⌜ k < 58 ⌝ }
+    ensures { λ r. ⌜ r ≡ rowOf k .at ⌝ }
+{
+    get(k).at
+}
+
 // `n` where the fact holds, else 0.
 pub fn if_set(fact: bool, n: usize) -> usize
     ensures { λ r. ⌜ (r ≡ ifSet fact n) × (r ≤ n) ⌝ }

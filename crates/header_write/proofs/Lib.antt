@@ -1,0 +1,4 @@
+pub mod RowLaws
+pub mod SlotLaws
+pub mod HeaderLaws
+pub mod DeltaLaws

@@ -1,0 +1,22 @@
+use native.Mathlib.Omega.{arith}
+use Rattle.header_write.proofs.SlotLaws.{slot-short, slot-done}
+use mir.Facts.{toZ-ofZ}
+use Rattle.format.specs.Table.{legacyRecord}
+use Rattle.header_write.specs.Records.{shiftPointer, pointerRead}
+use borrow.Author.Needs.{needs}
+use Rattle.header_write.proofs.shift_legacy_large_pointer.Statement.{statement}
+use Rattle.header_write.proofs.shift_legacy_large_pointer.Tie as tie
+
+returns : tie.Need-returns
+returns c = slot-short (legacyRecord .width) _ _ (omega arith)
+
+returns-2 : tie.Need-returns-2
+unfolding shiftPointer pointerRead
+returns-2 c =
+    slot-done (legacyRecord .width) _ _ _ _ (omega arith) (c .before .before .store16 .ensures)
+    (rw (c .before .before .before .with-legacy-pointer .ensures, c .before .before .before .before .before .legacy-pointer .ensures .0, c .before .before .before .before .before .before .load16 .ensures, c .before .before .before .before .before .before .before .before .turn .ensures .0, toZ-ofZ (c .before .before .before .before .before .before .before .before .before .before .before .before .fits .delta)))
+
+pub shift-legacy-large-pointer-spec : {M : Type 1} → statement M
+shift-legacy-large-pointer-spec =
+    tie.close
+    (tie.spec (λ c κs. search needs) returns (λ c κs. search needs) (λ c κs. search needs) (λ c κs. search needs) (λ c. search needs) (λ c κs. search needs) (λ c κs. search needs) (λ c. search needs) returns-2)

@@ -1,0 +1,26 @@
+use mathlib.Core.Path.{_≡_, ap, _∙_}
+use Prim.Native.Nat.{ℕ}
+use native.Mathlib.Omega.{arith}
+use mir.Facts.{toZ-ofZ}
+use Rattle.format.specs.Table.{modernRecord, modernOffset}
+use Rattle.format.specs.declared.Layout.the-variants.{Modern}
+use Rattle.header_write.specs.Delta.{turned}
+use Rattle.header_write.specs.Records.{shiftSmall, shiftField}
+use Rattle.header_write.proofs.SlotLaws.{slot-short, slot-done}
+use borrow.Author.Needs.{needs}
+use Rattle.header_write.proofs.shift_modern_small_header_offset.Statement.{statement}
+use Rattle.header_write.proofs.shift_modern_small_header_offset.Tie as tie
+
+returns : tie.Need-returns
+returns c = slot-short (modernRecord .width) _ _ (omega arith)
+
+returns-2 : tie.Need-returns-2
+unfolding shiftSmall
+returns-2 c =
+    slot-done (modernRecord .width) _ _ _ _ (omega arith) (c .before .before .store12 .ensures)
+    (rw (c .before .before .before .before .shift-field .ensures, c .before .before .before .before .before .load12 .ensures, c .before .before .before .before .before .before .before .turn .ensures .0, toZ-ofZ (c .before .before .before .before .before .before .before .before .before .before .before .fits .delta)))
+
+pub shift-modern-small-header-offset-spec : {M : Type 1} → statement M
+shift-modern-small-header-offset-spec =
+    tie.close
+    (tie.spec (λ c κs. search needs) returns (λ c κs. search needs) (λ c κs. search needs) (λ c κs. search needs) (λ c κs. search needs) (λ c. search needs) returns-2)

@@ -1,0 +1,21 @@
+use native.Mathlib.Omega.{arith}
+use mir.Facts.{toZ-ofZ}
+use Rattle.header_write.proofs.SlotLaws.{word-short, word-done}
+use borrow.Author.Needs.{needs}
+use Rattle.header_write.proofs.shift_u32_at.Statement.{statement}
+use Rattle.header_write.proofs.shift_u32_at.Tie as tie
+
+returns : tie.Need-returns
+returns c = word-short _ _ _ (omega arith)
+
+returns-2 : tie.Need-returns-2
+returns-2 c = word-short _ _ _ (omega arith)
+
+returns-3 : tie.Need-returns-3
+returns-3 c =
+    word-done _ _ _ _ _ (omega arith) (c .before .before .put-word .ensures) (rw (c .before .before .before .word .ensures .0, c .before .before .before .before .before .before .turn .ensures .0, toZ-ofZ (c .before .before .before .before .before .before .before .before .before .before .fits .delta)))
+
+pub shift-u32-at-spec : {M : Type 1} → statement M
+shift-u32-at-spec =
+    tie.close
+    (tie.spec returns (λ c. search needs) returns-2 (λ c κs. search needs) (λ c κs. search needs) (λ c. search needs) (λ c κs. search needs) (λ c. search needs) returns-3)

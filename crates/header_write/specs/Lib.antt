@@ -1,0 +1,4 @@
+pub mod Delta
+pub mod Records
+pub mod Slots
+pub mod Headers

@@ -1,0 +1,59 @@
+-- What each leaf answers and leaves in its buffer. 01, Refusal numbers: "a record slot, word or header buffer too short" is 1.
+use mathlib.Core.Bool.{false}
+use mathlib.Core.List.{List}
+use mathlib.Core.Path.{_≡_}
+use Prim.Native.Nat.{ℕ, _+_}
+use lib.Dec.{leb}
+use lib.ListN.{length}
+use lib.Seq.{sets}
+use Rattle.bits.specs.Choice.{pick}
+use Rattle.bits.specs.Bytes.{numberAt, wordAt, bytesOf}
+use Rattle.bits.specs.Outcome.{Outcome, refused, made, written}
+use Rattle.format.specs.declared.Layout.{Layout}
+use Rattle.format.specs.declared.Layout.the-variants.{Modern, Legacy}
+use Rattle.format.specs.Table.{modernRecord, legacyRecord}
+use Rattle.header_write.specs.Records.{pointerRead, legacyFields, modernFields}
+use Rattle.header_write.specs.declared.Wrote.{Wrote}
+use Rattle.header_write.specs.declared.Wrote.the-variants as wrote-is
+use Rattle.header_write.specs.declared.Pointer.{Pointer}
+use Rattle.header_write.specs.declared.Pointer.the-variants as pointer-is
+use Rattle.header_write.specs.declared.LegacyRead.{LegacyRead}
+use Rattle.header_write.specs.declared.LegacyRead.the-variants as legacy-is
+use Rattle.header_write.specs.declared.ModernRead.{ModernRead}
+use Rattle.header_write.specs.declared.ModernRead.the-variants as modern-is
+
+-- ---- a leaf that writes: its answer and its buffer, both by one outcome
+
+-- the answer of an outcome: 01's number, or done
+abbrev pub wrote : Outcome → Wrote
+wrote (refused n) = wrote-is.Refused n
+wrote (made new) = wrote-is.Done
+
+-- what it promises of its answer r and of its buffer, before and after
+abbrev pub Writes : Outcome → Wrote → List ℕ → List ℕ → Type 0
+Writes o r old new = (r ≡ wrote o) × (new ≡ written o old)
+
+-- the record in a slot of `size` bytes edited, as one number; what follows it stays
+unfoldable pub onSlot : ℕ → (ℕ → ℕ) → List ℕ → Outcome
+onSlot size edit slot = pick (leb size (length slot)) (made (bytesOf size (edit (numberAt slot 0 size)))) (refused 1)
+
+-- delta added to the word at a position, modulo 2^32
+unfoldable pub shiftWord : ℕ → ℕ → List ℕ → Outcome
+shiftWord at d s = pick (leb (at + 4) (length s)) (made (sets s at (bytesOf 4 (wordAt s at + d)))) (refused 1)
+
+-- ---- a leaf that reads the record in a slot of `size` bytes
+
+unfoldable pub ofSlot : {A : Type 0} → ℕ → (ℕ → A) → A → List ℕ → A
+ofSlot size read short slot = pick (leb size (length slot)) (read (numberAt slot 0 size)) short
+
+abbrev pub readLegacy : List ℕ → LegacyRead
+readLegacy slot = ofSlot (legacyRecord .width) (λ n. legacy-is.Record (legacyFields n)) (legacy-is.Refused 1) slot
+
+abbrev pub readModern : List ℕ → ModernRead
+readModern slot = ofSlot (modernRecord .width) (λ n. modern-is.Record (modernFields n)) (modern-is.Refused 1) slot
+
+abbrev pub readLegacyPointer : List ℕ → Pointer
+readLegacyPointer slot = ofSlot (legacyRecord .width) (λ n. pointer-is.At (pointerRead (Legacy false false) n)) (pointer-is.Refused 1) slot
+
+abbrev pub readModernPointer : List ℕ → Pointer
+readModernPointer slot = ofSlot (modernRecord .width) (λ n. pointer-is.At (pointerRead Modern n)) (pointer-is.Refused 1) slot

@@ -1,0 +1,195 @@
+// Function records and file headers in a lent buffer: a port of the Rust's header_write.rs.
+//
+// A record is a number of 96 or 128 bits, held in two 64-bit words. Each leaf loads it from its
+// slot, edits fields that the table of crate format places, and stores it. No leaf relies on a check
+// by its caller: a slot, word or header buffer that is too short is refused with number 1 and stays
+// as it is.
+pub mod headers;
+pub mod records;
+
+ghost use mathlib.Core.Path.{_≡_};
+ghost use mathlib.Core.Bool.{false};
+ghost use Rattle.bits.specs.Bytes.{bytesOf};
+ghost use Rattle.format.specs.Table.{modernRecord, legacyRecord};
+ghost use Rattle.format.specs.declared.Layout.the-variants.{Modern, Legacy};
+ghost use Rattle.header_write.specs.Delta.{turned};
+ghost use Rattle.header_write.specs.Records.{shiftSmall, shiftPointer, putOffsetSize, packed};
+ghost use Rattle.header_write.specs.Slots.{Writes, onSlot, readLegacy, readModern, readLegacyPointer, readModernPointer, shiftWord};
+
+// The answer of a leaf that writes.
+pub enum Wrote {
+    Done,
+    Refused(u8),
+}
+
+// The answer of a pointer's reader.
+pub enum Pointer {
+    At(u32),
+    Refused(u8),
+}
+
+// The fields of a legacy record.
+pub struct LegacyFunctionHeader {
+    pub offset: u32,
+    pub param_count: u32,
+    pub bytecode_size: u32,
+    pub function_name: u32,
+    pub info_offset: u32,
+    pub frame_size: u32,
+    pub environment_size: u32,
+    pub highest_read_cache: u32,
+    pub highest_write_cache: u32,
+    pub flags: u8,
+}
+
+// The fields of a modern record that the port reads.
+pub struct ModernFunctionHeader {
+    pub offset: u32,
+    pub bytecode_size: u32,
+    pub flags: u8,
+}
+
+pub enum LegacyRead {
+    Record(LegacyFunctionHeader),
+    Refused(u8),
+}
+
+pub enum ModernRead {
+    Record(ModernFunctionHeader),
+    Refused(u8),
+}
+
+// Every field of the legacy record in a slot.
+pub fn read_legacy_function_header(slot: &[u8]) -> LegacyRead
+    ensures { λ r. ⌜ r ≡ readLegacy (now (slot .entry)) ⌝ }
+{
+    if slot.len() < format::width(format::LEGACY_RECORD) {
+        return LegacyRead::Refused(1);
+    }
+    LegacyRead::Record(records::legacy_fields(bits::load16(slot)))
+}
+
+// Every field of the modern record in a slot.
+pub fn read_modern_function_header(slot: &[u8]) -> ModernRead
+    ensures { λ r. ⌜ r ≡ readModern (now (slot .entry)) ⌝ }
+{
+    if slot.len() < format::width(format::MODERN_RECORD) {
+        return ModernRead::Refused(1);
+    }
+    ModernRead::Record(records::modern_fields(bits::load12(slot)))
+}
+
+// A legacy record from its fields, each cut to its width.
+pub fn write_function_header_legacy_small(header: LegacyFunctionHeader) -> [u8; 16]
+    ensures { λ r. ⌜ r ≡ bytesOf (legacyRecord .width) (packed header) ⌝ }
+{
+    let mut slot = [0u8; 16];
+    bits::store16(&mut slot, records::pack(header));
+    slot
+}
+
+// A legacy record's body offset and size, each cut to its field.
+pub fn patch_legacy_small_header_offset_size(slot: &mut [u8], offset: u32, size: u32) -> Wrote
+    ensures { λ r. ⌜ Writes (onSlot (legacyRecord .width) (putOffsetSize offset size) (now (slot .entry))) r (now (slot .entry)) (now (slot .exit)) ⌝ }
+{
+    if slot.len() < format::width(format::LEGACY_RECORD) {
+        return Wrote::Refused(1);
+    }
+    let placed = records::with_value(bits::load16(slot), format::LEGACY_OFFSET, offset as u64);
+    let sized = records::with_value(placed, format::LEGACY_SIZE, size as u64);
+    bits::store16(slot, sized);
+    Wrote::Done
+}
+
+// The body offset of a modern record without a large header, moved.
+pub fn shift_modern_small_header_offset(slot: &mut [u8], delta: i32) -> Wrote
+    ensures { λ r. ⌜ Writes (onSlot (modernRecord .width) (shiftSmall Modern (turned delta)) (now (slot .entry))) r (now (slot .entry)) (now (slot .exit)) ⌝ }
+{
+    if slot.len() < format::width(format::MODERN_RECORD) {
+        return Wrote::Refused(1);
+    }
+    let d = records::turn(delta);
+    let moved = records::shift_field(bits::load12(slot), format::MODERN_OFFSET, d);
+    bits::store12(slot, moved);
+    Wrote::Done
+}
+
+// The body offset of a legacy record without a large header, moved, and its info place unless that
+// is 0.
+pub fn shift_legacy_small_header_offsets(slot: &mut [u8], delta: i32) -> Wrote
+    ensures { λ r. ⌜ Writes (onSlot (legacyRecord .width) (shiftSmall (Legacy false false) (turned delta)) (now (slot .entry))) r (now (slot .entry)) (now (slot .exit)) ⌝ }
+{
+    if slot.len() < format::width(format::LEGACY_RECORD) {
+        return Wrote::Refused(1);
+    }
+    let d = records::turn(delta);
+    let moved = records::shift_field(bits::load16(slot), format::LEGACY_OFFSET, d);
+    bits::store16(slot, records::shift_info(moved, d));
+    Wrote::Done
+}
+
+// The large pointer of a legacy record, modulo 2^32.
+pub fn read_legacy_large_pointer(slot: &[u8]) -> Pointer
+    ensures { λ r. ⌜ r ≡ readLegacyPointer (now (slot .entry)) ⌝ }
+{
+    if slot.len() < format::width(format::LEGACY_RECORD) {
+        return Pointer::Refused(1);
+    }
+    let whole = records::legacy_pointer(bits::load16(slot));
+    Pointer::At((whole % 4294967296) as u32)
+}
+
+// The large pointer of a legacy record, moved. The sum is of the pointer as it is read; of what is
+// stored, 16 bits go into the offset field, whose upper bits become 0, and 25 into the info field.
+pub fn shift_legacy_large_pointer(slot: &mut [u8], delta: i32) -> Wrote
+    ensures { λ r. ⌜ Writes (onSlot (legacyRecord .width) (shiftPointer (Legacy false false) (turned delta)) (now (slot .entry))) r (now (slot .entry)) (now (slot .exit)) ⌝ }
+{
+    if slot.len() < format::width(format::LEGACY_RECORD) {
+        return Wrote::Refused(1);
+    }
+    let d = records::turn(delta);
+    let w = bits::load16(slot);
+    let moved = records::legacy_pointer(w) % 4294967296 + d;
+    bits::store16(slot, records::with_legacy_pointer(w, moved));
+    Wrote::Done
+}
+
+// The large pointer of a modern record.
+pub fn read_modern_large_pointer(slot: &[u8]) -> Pointer
+    ensures { λ r. ⌜ r ≡ readModernPointer (now (slot .entry)) ⌝ }
+{
+    if slot.len() < format::width(format::MODERN_RECORD) {
+        return Pointer::Refused(1);
+    }
+    Pointer::At(records::modern_pointer(bits::load12(slot)) as u32)
+}
+
+// The large pointer of a modern record, moved. Bit 24 is no part of it and stays.
+pub fn shift_modern_large_pointer(slot: &mut [u8], delta: i32) -> Wrote
+    ensures { λ r. ⌜ Writes (onSlot (modernRecord .width) (shiftPointer Modern (turned delta)) (now (slot .entry))) r (now (slot .entry)) (now (slot .exit)) ⌝ }
+{
+    if slot.len() < format::width(format::MODERN_RECORD) {
+        return Wrote::Refused(1);
+    }
+    let d = records::turn(delta);
+    let w = bits::load12(slot);
+    let moved = records::modern_pointer(w) + d;
+    bits::store12(slot, records::with_modern_pointer(w, moved));
+    Wrote::Done
+}
+
+// The word at a position, moved. The position may be any number: what is left of the buffer behind
+// it is compared with 4, so that no sum wraps.
+pub fn shift_u32_at(buf: &mut [u8], pos: usize, delta: i32) -> Wrote
+    ensures { λ r. ⌜ Writes (shiftWord pos (turned delta) (now (buf .entry))) r (now (buf .entry)) (now (buf .exit)) ⌝ }
+{
+    if buf.len() < pos {
+        return Wrote::Refused(1);
+    }
+    if buf.len() - pos < 4 {
+        return Wrote::Refused(1);
+    }
+    let d = records::turn(delta);
+    bits::put_word(buf, pos, bits::word(buf, pos) + d);
+    Wrote::Done
+}

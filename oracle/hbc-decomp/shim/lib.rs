@@ -1,0 +1,5 @@
+// The modules that are compiled. The text has no file for the crate's root.
+
+pub mod error;
+pub mod format;
+pub mod write;

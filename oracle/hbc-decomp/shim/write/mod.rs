@@ -1,0 +1,4 @@
+// The modules of `write` that are compiled. The text has no file for `write` itself.
+
+pub mod footer;
+pub mod header_write;
