@@ -3,3 +3,4 @@ pub mod WriteLaws
 pub mod FieldLaws
 pub mod MaskLaws
 pub mod Word32Laws
+pub mod OutcomeLaws

@@ -102,3 +102,18 @@ sets-same (v ∷ vs) s at h =
 pub sets-all : (vs s : List ℕ) → length vs ≡ length s → sets s 0 vs ≡ vs
 sets-all vs s l =
     sets-eq vs s 0 (omega arith) ∙ rw (zero-add, drop-of-length-le s {i = length vs} (omega arith)) (append-nil vs)
+
+pub sets-twice : (vs s : List ℕ) (at : ℕ) → at + length vs ≤ length s → sets (sets s at vs) at vs ≡ sets s at vs
+sets-twice vs s at h = sets-same vs (sets s at vs) at (λ j k. sets-in vs s at j h k)
+
+-- ---- a write, cut off at a place
+
+take-set : (n : ℕ) (s : List ℕ) (i x : ℕ) → take n (set s i x) ≡ set (take n s) i x
+take-set zero s i x = refl
+take-set (suc n) [] i x = refl
+take-set (suc n) (y ∷ s) zero x = refl
+take-set (suc n) (y ∷ s) (suc i) x = ap (λ (l : List ℕ). y ∷ l) (take-set n s i x)
+
+pub take-sets : (n : ℕ) (vs s : List ℕ) (at : ℕ) → take n (sets s at vs) ≡ sets (take n s) at vs
+take-sets n [] s at = refl
+take-sets n (v ∷ vs) s at = rw (take-sets n vs (set s at v) (suc at), take-set n s at v)

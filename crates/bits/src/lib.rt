@@ -16,6 +16,13 @@ pub struct Words {
     pub high: u64,
 }
 
+// What a function that writes to a lent buffer answers: the length of what it wrote, or a refusal's
+// number.
+pub enum Answer {
+    Length(usize),
+    Refused(u8),
+}
+
 pub fn wide(b: u8) -> u64
     ensures { λ r. ⌜ (r ≡ b) × (r < 256) ⌝ }
 {

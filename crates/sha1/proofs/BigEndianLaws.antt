@@ -53,6 +53,10 @@ pub big-sum : (s : List ℕ) (at : ℕ)
 unfolding bigAt
 big-sum s at = rw (add-zero, zero-add)
 
+pub length-digestBytes : (h : List ℕ) → length (digestBytes h) ≡ 20
+unfolding digestBytes
+length-digestBytes h = simp (length-append, length-bigBytes)
+
 -- five words, stored one after the other over all of a list of 20 bytes
 pub five-words : (z o1 o2 o3 o4 o5 h : List ℕ) → length z ≡ 20
     → o1 ≡ sets z 0 (bigBytes 4 (getD h 0 0)) → o2 ≡ sets o1 4 (bigBytes 4 (getD h 1 0)) → o3 ≡ sets o2 8 (bigBytes 4 (getD h 2 0))
@@ -60,4 +64,4 @@ pub five-words : (z o1 o2 o3 o4 o5 h : List ℕ) → length z ≡ 20
 unfolding digestBytes
 five-words z o1 o2 o3 o4 o5 h l p q r s t =
     rw (t, s, r, q, p) (sym (simp (sets-append, length-bigBytes)))
-    ∙ sets-all (digestBytes h) z (simp (length-append, length-bigBytes) (sym l))
+    ∙ sets-all (digestBytes h) z (length-digestBytes h ∙ sym l)

@@ -10,7 +10,7 @@ use lib.Seq.{take-all, take-append-le, drop-append-le, drop-drop, sets, sets-eq,
 use Rattle.bits.proofs.WriteLaws.{sets-append, sets-off, sets-same}
 use Rattle.sha1.specs.BigEndian.{bigBytes}
 use Rattle.sha1.specs.Sha1.{zeros, padding, padded, blockAt, initial, hashed, hashes, digestBytes, digest}
-use Rattle.sha1.proofs.BigEndianLaws.{length-bigBytes, length-words}
+use Rattle.sha1.proofs.BigEndianLaws.{length-bigBytes, length-words, length-digestBytes}
 
 -- ---- blocks
 
@@ -88,3 +88,7 @@ whole s last h c a p q =
     let w : last ≡ d ++ drop (length d) (replicate 128 0) = (rw t at q) ∙ rw (sets-eq d (replicate 128 0) 0 (omega arith), zero-add) in
     rw (w, hashes-only c h d (drop (length d) (replicate 128 0)) (omega arith), p)
     (sym (rw (k, hashes-append f c initial (s ++ padding n), hashes-only f initial s (padding n) (omega arith), drop-append-le (f * 64) s (padding n) (omega arith))))
+
+pub length-digest : (m : List ℕ) → length (digest m) ≡ 20
+unfolding digest
+length-digest m = length-digestBytes (hashes (length (padded m) / 64) initial (padded m))

@@ -1,4 +1,4 @@
-use mathlib.Core.Path.{refl, ap, _∙_}
+use mathlib.Core.Path.{ap, _∙_}
 use Rattle.sha1.specs.Sha1.{initial, digestBytes}
 use Rattle.sha1.proofs.BlockLaws.{whole}
 use borrow.Author.Needs.{needs}
