@@ -1,8 +1,30 @@
--- A contract that gives the answer and the buffer by equations admits one outcome.
-use mathlib.Core.Path.{_≡_, sym, _∙_}
+-- A contract that gives the answer and the buffer by equations admits one outcome; what the room of a lent buffer does to it.
+use mathlib.Core.Path.{_≡_, refl, sym, _∙_}
 use mathlib.Core.List.{List}
-use Prim.Native.Nat.{ℕ}
+use Prim.Native.Nat.{ℕ, _≤_, _<_}
+use native.Mathlib.Nat.{lt-of-not-le, le-of-suc-le-suc}
+use native.Mathlib.Omega.{arith}
+use borrow.Author.Tests.{lt-ltb, le-ltb}
+use lib.ListN.{length}
+use Rattle.bits.specs.Outcome.{Outcome, refused, made, roomed}
 
 -- two runs on the same input whose answers and buffers both meet such a contract end alike
 pub one-outcome : {A : Type 0} (answer r r′ : A) (buffer b b′ : List ℕ) → (r ≡ answer) × (b ≡ buffer) → (r′ ≡ answer) × (b′ ≡ buffer) → (r ≡ r′) × (b ≡ b′)
 one-outcome answer r r′ buffer b b′ p q = (p .0 ∙ sym (q .0), p .1 ∙ sym (q .1))
+
+module _ (room : ℕ) (new : List ℕ) where
+  pub roomed-short : room < length new → roomed room (made new) ≡ refused 13
+  unfolding roomed
+  roomed-short h = rw (lt-ltb _ _ h)
+
+  pub roomed-fits : length new ≤ room → roomed room (made new) ≡ made new
+  unfolding roomed
+  roomed-fits h = rw (le-ltb _ _ h)
+
+-- a longer buffer changes no answer but 13
+pub roomed-more : (o : Outcome) (room more : ℕ) → room ≤ more → (roomed room o ≡ refused 13 → ⊥) → roomed more o ≡ roomed room o
+unfolding roomed
+roomed-more (refused n) room more h k = refl
+roomed-more (made new) room more h k =
+    let l : length new ≤ room = le-of-suc-le-suc (lt-of-not-le (λ p. k (roomed-short room new p))) in
+    roomed-fits more new (omega arith) ∙ sym (roomed-fits room new l)

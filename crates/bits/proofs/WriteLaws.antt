@@ -1,13 +1,13 @@
 -- Writes to a list: one read back, one apart from what is read, one after the other, one within the other, one to a lent part.
 use mathlib.Core.Path.{_≡_, refl, ap, sym, _∙_}
-use mathlib.Core.List.{List, [], _∷_, _++_, append-assoc}
+use mathlib.Core.List.{List, [], _∷_, _++_, append-assoc, append-nil}
 use Prim.Native.Nat.{ℕ, zero, suc, _+_, _-_, _≤_, _<_}
 use native.Mathlib.Nat.{add-zero, zero-add, add-suc, suc-add, not-suc-le-zero}
 use native.Mathlib.Omega.{arith}
 use borrow.Rule.Slice.PartMut.{putMid}
-use lib.ListN.{length, getD, set, take, drop, length-set, length-drop, take-append-drop}
+use lib.ListN.{length, getD, set, take, drop, length-set, length-drop, take-append-drop, drop-of-length-le}
 use native.Mathlib.Numerals.{add-one}
-use lib.Seq.{paste, paste-suc, take-all, sets, sets-eq, length-sets, set-append-left, length-take-le, getD-set-same, getD-set-other}
+use lib.Seq.{paste, paste-suc, take-all, sets, sets-eq, length-sets, set-append-left, length-take-le, getD-set-same, getD-set-other, set-getD}
 use Rattle.bits.specs.Bytes.{bytesAt, number, numberAt}
 use Rattle.bits.proofs.ByteLaws.{bytesAt-ext, bytesAt-is}
 
@@ -89,3 +89,31 @@ module _ (d s out : List ℕ) (at i : ℕ) (e : out ≡ paste d at s i) where
 
   pub copied-all : at + length s ≤ length d → i ≡ length s → out ≡ sets d at s
   copied-all h k = rw (sets-eq s d at h) (e ∙ rw (k, take-all (length s) s (omega arith)))
+
+-- ---- a write that changes nothing, a write of everything
+
+pub sets-same : (vs s : List ℕ) (at : ℕ) → ((j : ℕ) → j < length vs → getD s (at + j) 0 ≡ getD vs j 0) → sets s at vs ≡ s
+sets-same [] s at h = refl
+sets-same (v ∷ vs) s at h =
+    let e : getD s at 0 ≡ v = rw add-zero at (h 0 (omega arith)) in
+    let k : set s at v ≡ s = rw (← e) (set-getD s at 0) in
+    rw k (sets-same vs s (suc at) (λ j l. rw (suc-add, ← add-suc) (h (suc j) (omega arith))))
+
+pub sets-all : (vs s : List ℕ) → length vs ≡ length s → sets s 0 vs ≡ vs
+sets-all vs s l =
+    sets-eq vs s 0 (omega arith) ∙ rw (zero-add, drop-of-length-le s {i = length vs} (omega arith)) (append-nil vs)
+
+pub sets-twice : (vs s : List ℕ) (at : ℕ) → at + length vs ≤ length s → sets (sets s at vs) at vs ≡ sets s at vs
+sets-twice vs s at h = sets-same vs (sets s at vs) at (λ j k. sets-in vs s at j h k)
+
+-- ---- a write, cut off at a place
+
+take-set : (n : ℕ) (s : List ℕ) (i x : ℕ) → take n (set s i x) ≡ set (take n s) i x
+take-set zero s i x = refl
+take-set (suc n) [] i x = refl
+take-set (suc n) (y ∷ s) zero x = refl
+take-set (suc n) (y ∷ s) (suc i) x = ap (λ (l : List ℕ). y ∷ l) (take-set n s i x)
+
+pub take-sets : (n : ℕ) (vs s : List ℕ) (at : ℕ) → take n (sets s at vs) ≡ sets (take n s) at vs
+take-sets n [] s at = refl
+take-sets n (v ∷ vs) s at = rw (take-sets n vs (set s at v) (suc at), take-set n s at v)

@@ -1,5 +1,7 @@
 // Words and bit fields: the bytes of a slice as little-endian numbers, and fields of a number of
 // one or two 64-bit words.
+pub mod word32;
+
 ghost use mathlib.Core.Path.{_≡_};
 ghost use Prim.Native.Nat.{_+_, _*_, _≤_, _<_, _^_};
 ghost use lib.ListN.{length};
@@ -12,6 +14,13 @@ ghost use Rattle.bits.specs.Words.{whole, InOneWord};
 pub struct Words {
     pub low: u64,
     pub high: u64,
+}
+
+// What a function that writes to a lent buffer answers: the length of what it wrote, or a refusal's
+// number.
+pub enum Answer {
+    Length(usize),
+    Refused(u8),
 }
 
 pub fn wide(b: u8) -> u64

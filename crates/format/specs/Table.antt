@@ -332,6 +332,10 @@ rowCount = length rows
 abbrev pub rowOf : ℕ → Field
 rowOf k = getD rows k (fixed 0 0)
 
+-- 01: "Bytes 0..8 hold 0x1F1903C103BC1FC6"
+abbrev pub magicNumber : ℕ
+magicNumber = 0x1F1903C103BC1FC6
+
 -- ---- by layout
 
 -- a number that counts only where a fact holds

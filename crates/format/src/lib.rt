@@ -24,6 +24,9 @@ pub struct Field {
 // A row of the table: the four numbers of a field, in that order.
 pub struct Row(pub usize, pub usize, pub usize, pub usize);
 
+// What the first 8 bytes of every image hold.
+pub const MAGIC_NUMBER: u64 = 0x1F1903C103BC1FC6;
+
 // The one table. The names of its rows follow below, in the same order.
 pub const FIELDS: [Row; 70] = [
     // Header fields of every layout, in bytes.

@@ -12,9 +12,6 @@ ghost use Rattle.format.specs.Table.{rowCount, legacyOptions};
 ghost use Rattle.header_write.specs.Slots.{Writes};
 ghost use Rattle.header_write.specs.Headers.{putAll, put, optional, run, headerWords, identity, onHeader, modernHeader, layoutOf, segmentOf, legacyPuts, legacyHeader};
 
-// 0x1F1903C103BC1FC6, the first 8 bytes of every image.
-const MAGIC: u64 = 0x1F1903C103BC1FC6;
-
 // The fields of a legacy header. Big integers and function sources are there only where the version
 // has them; where it has no segment id, 0 stands in its place.
 pub struct LegacyHeader {
@@ -78,7 +75,7 @@ fn put_identity(buf: &mut [u8], version: u32, source_hash: [u8; 20])
     requires { ⌜ length «source_hash» ≡ 20 ⌝ }
     ensures { λ _. ⌜ now (buf .exit) ≡ identity version «source_hash» (now (buf .entry)) ⌝ }
 {
-    bits::put_word64(buf, format::at(format::MAGIC), MAGIC);
+    bits::put_word64(buf, format::at(format::MAGIC), format::MAGIC_NUMBER);
     bits::put_word(buf, format::at(format::VERSION), version as u64);
     bits::put_bytes(buf, format::at(format::SOURCE_HASH), &source_hash);
 }

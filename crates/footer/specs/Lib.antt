@@ -1,0 +1,2 @@
+pub mod Footer
+pub mod Finalize

@@ -1,0 +1,4 @@
+pub mod BigEndianLaws
+pub mod ScheduleLaws
+pub mod RoundLaws
+pub mod BlockLaws

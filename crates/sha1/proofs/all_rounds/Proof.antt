@@ -1,0 +1,12 @@
+use Rattle.sha1.proofs.RoundLaws.{four-quarters}
+use borrow.Author.Needs.{needs}
+use Rattle.sha1.proofs.all_rounds.Statement.{statement}
+use Rattle.sha1.proofs.all_rounds.Tie as tie
+
+returns : tie.Need-returns
+returns c = four-quarters _ _ _ _ _ _ (c .before .before .before .quarter-rounds .ensures) (c .before .before .quarter-rounds2 .ensures) (c .before .quarter-rounds3 .ensures) (c .quarter-rounds4 .ensures)
+
+pub all-rounds-spec : {M : Type 1} → statement M
+all-rounds-spec =
+    tie.close
+    (tie.spec (λ c κs. search needs) (λ c κs. search needs) (λ c κs. search needs) (λ c κs. search needs) returns)

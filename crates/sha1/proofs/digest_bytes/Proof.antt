@@ -1,0 +1,14 @@
+use mathlib.Core.Path.{refl}
+use lib.ListN.{replicate}
+use Rattle.sha1.proofs.BigEndianLaws.{five-words}
+use borrow.Author.Needs.{needs}
+use Rattle.sha1.proofs.digest_bytes.Statement.{statement}
+use Rattle.sha1.proofs.digest_bytes.Tie as tie
+
+returns : tie.Need-returns
+returns c = five-words (replicate 20 0) _ _ _ _ _ _ refl (c .before .before .before .before .before .before .before .before .before .before .before .before .before .put-big-word .ensures) (c .before .before .before .before .before .before .before .before .before .before .put-big-word2 .ensures) (c .before .before .before .before .before .before .before .put-big-word3 .ensures) (c .before .before .before .before .put-big-word4 .ensures) (c .before .put-big-word5 .ensures)
+
+pub digest-bytes-spec : {M : Type 1} → statement M
+digest-bytes-spec =
+    tie.close
+    (tie.spec (λ c. search needs) (λ c. search needs) (λ c κs. search needs) (λ c. search needs) (λ c. search needs) (λ c κs. search needs) (λ c. search needs) (λ c. search needs) (λ c κs. search needs) (λ c. search needs) (λ c. search needs) (λ c κs. search needs) (λ c. search needs) (λ c. search needs) (λ c κs. search needs) returns)

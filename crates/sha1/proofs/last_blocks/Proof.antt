@@ -1,0 +1,21 @@
+use mathlib.Core.Path.{refl}
+use native.Mathlib.Omega.{arith}
+use lib.ListN.{replicate, length-set}
+use Rattle.sha1.proofs.BlockLaws.{padded-rest}
+use borrow.Author.Needs.{needs}
+use Rattle.sha1.proofs.last_blocks.Statement.{statement}
+use Rattle.sha1.proofs.last_blocks.Tie as tie
+
+put-big-word-requires : tie.Need-put-big-word-requires
+put-big-word-requires c κs = simp length-set (omega (arith, c .before .before .put-bytes .kept .0))
+
+returns : tie.Need-returns
+returns c =
+    let a = c .before .before .before .before .before .before .before in
+    let s = a .before .before .before .before in
+    padded-rest (s .args .rest .now) (s .args .n) (s .pre) (replicate 128 0) _ _ _ _ refl (a .before .before .last-count .ensures) (a .put-bytes .ensures) (c .before .before .before .before .put-big-word .ensures) (c .before .put-big-word2 .ensures)
+
+pub last-blocks-spec : {M : Type 1} → statement M
+last-blocks-spec =
+    tie.close
+    (tie.spec (λ c κs. search needs) (λ c. search needs) (λ c. search needs) (λ c κs. search needs) (λ c. search needs) (λ c. search needs) (λ c. search needs) (λ c. search needs) put-big-word-requires (λ c. search needs) (λ c. search needs) (λ c. search needs) (λ c. search needs) (λ c κs. search needs) returns)

@@ -1,0 +1,10 @@
+use borrow.Author.Needs.{needs}
+use Rattle.sha1.proofs.next_word.Statement.{statement}
+use Rattle.sha1.proofs.next_word.Tie as tie
+
+returns : tie.Need-returns
+returns c = rw (c .rotl .ensures, c .before .xor3 .ensures, c .before .before .xor2 .ensures, c .before .before .before .xor .ensures)
+
+pub next-word-spec : {M : Type 1} → statement M
+next-word-spec =
+    tie.close (tie.spec (λ c κs. search needs) (λ c κs. search needs) (λ c κs. search needs) (λ c κs. search needs) returns)
