@@ -3,3 +3,6 @@ pub mod Strings
 pub mod Kinds
 pub mod Functions
 pub mod Admission
+pub mod Admitted
+pub mod Edit
+pub mod Rebuild
