@@ -1,4 +1,4 @@
--- What the room of a lent buffer does to the outcome of a function that writes.
+-- A contract that gives the answer and the buffer by equations admits one outcome; what the room of a lent buffer does to it.
 use mathlib.Core.Path.{_≡_, refl, sym, _∙_}
 use mathlib.Core.List.{List}
 use Prim.Native.Nat.{ℕ, _≤_, _<_}
@@ -7,6 +7,10 @@ use native.Mathlib.Omega.{arith}
 use borrow.Author.Tests.{lt-ltb, le-ltb}
 use lib.ListN.{length}
 use Rattle.bits.specs.Outcome.{Outcome, refused, made, roomed}
+
+-- two runs on the same input whose answers and buffers both meet such a contract end alike
+pub one-outcome : {A : Type 0} (answer r r′ : A) (buffer b b′ : List ℕ) → (r ≡ answer) × (b ≡ buffer) → (r′ ≡ answer) × (b′ ≡ buffer) → (r ≡ r′) × (b ≡ b′)
+one-outcome answer r r′ buffer b b′ p q = (p .0 ∙ sym (q .0), p .1 ∙ sym (q .1))
 
 module _ (room : ℕ) (new : List ℕ) where
   pub roomed-short : room < length new → roomed room (made new) ≡ refused 13

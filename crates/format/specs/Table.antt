@@ -2,7 +2,7 @@
 use mathlib.Core.Bool.{Bool, true, false}
 use mathlib.Core.List.{List, [], _∷_}
 use Prim.Native.Nat.{ℕ, _+_}
-use lib.ListN.{getD}
+use lib.ListN.{length, getD}
 use Rattle.format.specs.declared.Field.{Field}
 use Rattle.format.specs.declared.Layout.{Layout}
 use Rattle.format.specs.declared.Layout.the-variants.{Modern, Legacy}
@@ -206,6 +206,48 @@ entryOffset = fixed 1 23
 abbrev pub entryLength : Field
 entryLength = fixed 24 8
 
+-- ---- Fields of a kind word, in bits.
+
+abbrev pub kindRun : Field
+kindRun = fixed 0 31
+
+abbrev pub kindIdentifier : Field
+kindIdentifier = fixed 31 1
+
+-- ---- Entries of the sections after the records, in bytes: the size of each.
+
+abbrev pub kindEntry : Field
+kindEntry = fixed 0 4
+
+abbrev pub hashEntry : Field
+hashEntry = fixed 0 4
+
+abbrev pub smallEntry : Field
+smallEntry = fixed 0 4
+
+abbrev pub overflowEntry : Field
+overflowEntry = fixed 0 8
+
+-- ---- Words of a large header, in bytes from its pointer; then all of its words.
+
+abbrev pub largeOffset : Field
+largeOffset = fixed 0 4
+
+abbrev pub modernLargeSize : Field
+modernLargeSize = fixed 12 4
+
+abbrev pub legacyLargeSize : Field
+legacyLargeSize = fixed 8 4
+
+abbrev pub legacyLargeInfo : Field
+legacyLargeInfo = fixed 16 4
+
+abbrev pub modernLarge : Field
+modernLarge = fixed 0 16
+
+abbrev pub legacyLarge : Field
+legacyLarge = fixed 0 20
+
 -- ---- all rows, in the order of the code's table
 
 abbrev pub rows : List Field
@@ -268,11 +310,31 @@ rows =
     entryWide ∷
     entryOffset ∷
     entryLength ∷
+    kindRun ∷
+    kindIdentifier ∷
+    kindEntry ∷
+    hashEntry ∷
+    smallEntry ∷
+    overflowEntry ∷
+    largeOffset ∷
+    modernLargeSize ∷
+    legacyLargeSize ∷
+    legacyLargeInfo ∷
+    modernLarge ∷
+    legacyLarge ∷
     []
+
+-- how many there are
+abbrev pub rowCount : ℕ
+rowCount = length rows
 
 -- row k of the table
 abbrev pub rowOf : ℕ → Field
 rowOf k = getD rows k (fixed 0 0)
+
+-- 01: "Bytes 0..8 hold 0x1F1903C103BC1FC6"
+abbrev pub magicNumber : ℕ
+magicNumber = 0x1F1903C103BC1FC6
 
 -- ---- by layout
 
@@ -290,6 +352,16 @@ placeIn (Legacy big sources) f = f .at + ifSet big (f .big) + ifSet sources (f .
 abbrev pub recordRow : Layout → Field
 recordRow Modern = modernRecord
 recordRow (Legacy big sources) = legacyRecord
+
+-- the words of a large header: 01, "20 bytes legacy, 16 modern"
+abbrev pub largeRow : Layout → Field
+largeRow Modern = modernLarge
+largeRow (Legacy big sources) = legacyLarge
+
+-- the word of a large header that holds the body's size: 01, "size at 12 modern, 8 legacy"
+abbrev pub largeSizeRow : Layout → Field
+largeSizeRow Modern = modernLargeSize
+largeSizeRow (Legacy big sources) = legacyLargeSize
 
 -- the debug offset's field
 abbrev pub debugRow : Layout → Field

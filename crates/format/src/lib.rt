@@ -1,7 +1,7 @@
 // The layouts of an image, and the one table of the places and widths of its fields.
 ghost use mathlib.Core.Path.{_≡_};
 ghost use Prim.Native.Nat.{_+_, _<_, _≤_};
-ghost use Rattle.format.specs.Table.{rowOf, placeIn, ifSet, recordRow};
+ghost use Rattle.format.specs.Table.{rowOf, rowCount, placeIn, ifSet, recordRow};
 
 // The layout of an image, as its caller states it.
 pub enum Layout {
@@ -24,8 +24,11 @@ pub struct Field {
 // A row of the table: the four numbers of a field, in that order.
 pub struct Row(pub usize, pub usize, pub usize, pub usize);
 
+// What the first 8 bytes of every image hold.
+pub const MAGIC_NUMBER: u64 = 0x1F1903C103BC1FC6;
+
 // The one table. The names of its rows follow below, in the same order.
-pub const FIELDS: [Row; 58] = [
+pub const FIELDS: [Row; 70] = [
     // Header fields of every layout, in bytes.
     Row(0, 8, 0, 0), // magic
     Row(8, 4, 0, 0), // version
@@ -93,6 +96,21 @@ pub const FIELDS: [Row; 58] = [
     Row(0, 1, 0, 0), // entry wide
     Row(1, 23, 0, 0), // entry offset
     Row(24, 8, 0, 0), // entry length
+    // Fields of a kind word, in bits.
+    Row(0, 31, 0, 0), // kind run
+    Row(31, 1, 0, 0), // kind identifier
+    // Entries of the sections after the records, in bytes: the size of each.
+    Row(0, 4, 0, 0), // kind entry
+    Row(0, 4, 0, 0), // hash entry
+    Row(0, 4, 0, 0), // small entry
+    Row(0, 8, 0, 0), // overflow entry
+    // Words of a large header, in bytes from its pointer; then all of its words.
+    Row(0, 4, 0, 0), // large offset
+    Row(12, 4, 0, 0), // modern large size
+    Row(8, 4, 0, 0), // legacy large size
+    Row(16, 4, 0, 0), // legacy large info
+    Row(0, 16, 0, 0), // modern large
+    Row(0, 20, 0, 0), // legacy large
 ];
 
 pub const MAGIC: usize = 0;
@@ -211,9 +229,33 @@ pub const ENTRY_OFFSET: usize = 56;
 
 pub const ENTRY_LENGTH: usize = 57;
 
+pub const KIND_RUN: usize = 58;
+
+pub const KIND_IDENTIFIER: usize = 59;
+
+pub const KIND_ENTRY: usize = 60;
+
+pub const HASH_ENTRY: usize = 61;
+
+pub const SMALL_ENTRY: usize = 62;
+
+pub const OVERFLOW_ENTRY: usize = 63;
+
+pub const LARGE_OFFSET: usize = 64;
+
+pub const MODERN_LARGE_SIZE: usize = 65;
+
+pub const LEGACY_LARGE_SIZE: usize = 66;
+
+pub const LEGACY_LARGE_INFO: usize = 67;
+
+pub const MODERN_LARGE: usize = 68;
+
+pub const LEGACY_LARGE: usize = 69;
+
 // A row of the table, by its name: here the table and the definitions are joined, for every row.
 pub fn get(k: usize) -> Field
-    requires { ⌜ k < 58 ⌝ }
+    requires { ⌜ k < rowCount ⌝ }
     ensures { λ r. ⌜ r ≡ rowOf k ⌝ }
 {
     let f = FIELDS[k];
@@ -227,7 +269,7 @@ pub fn get(k: usize) -> Field
 
 // The width of a field, by the name of its row.
 pub fn width(k: usize) -> usize
-    requires { ⌜ k < 58 ⌝ }
+    requires { ⌜ k < rowCount ⌝ }
     ensures { λ r. ⌜ r ≡ rowOf k .width ⌝ }
 {
     get(k).width
@@ -235,7 +277,7 @@ pub fn width(k: usize) -> usize
 
 // The place of a field that no layout pushes, by the name of its row.
 pub fn at(k: usize) -> usize
-    requires { ⌜ k < 58 ⌝ }
+    requires { ⌜ k < rowCount ⌝ }
     ensures { λ r. ⌜ r ≡ rowOf k .at ⌝ }
 {
     get(k).at

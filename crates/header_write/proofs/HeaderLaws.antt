@@ -10,8 +10,8 @@ use borrow.Author.Tests.{eqb-true, leb-true, lt-leb, le-leb}
 use lib.Dec.{leb, eqb}
 use lib.ListN.{length, getD, set, drop, drop-of-length-le}
 use lib.Seq.{sets, drop-cons}
-use Rattle.bits.specs.Choice.{both}
 use Rattle.bits.specs.Bytes.{bytesOf}
+use Rattle.bits.proofs.TestLaws.{both-0, both-1}
 use Rattle.format.specs.declared.Field.{Field}
 use Rattle.format.specs.declared.Layout.{Layout}
 use Rattle.format.specs.declared.Layout.the-variants.{Modern, Legacy}
@@ -22,14 +22,6 @@ use Rattle.header_write.specs.Headers.{Put, put, putAll, run, isHeaderWo
 use Rattle.header_write.proofs.SlotLaws.{whole}
 
 -- ---- tests
-
-both-0 : (a b : Bool) → both a b ≡ true → a ≡ true
-both-0 true b h = refl
-both-0 false b h = h
-
-both-1 : (a b : Bool) → both a b ≡ true → b ≡ true
-both-1 true b h = h
-both-1 false b h = let z : _≡_ {A = ℕ} 0 1 = cc in absurd (omega arith)
 
 -- each row of a run is a header word
 words-at : (k n i : ℕ) → headerWords k n ≡ true → i < n → isHeaderWord (rowOf (k + i)) ≡ true

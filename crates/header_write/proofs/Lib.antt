@@ -1,4 +1,2 @@
-pub mod RowLaws
 pub mod SlotLaws
 pub mod HeaderLaws
-pub mod DeltaLaws

@@ -32,13 +32,9 @@ abbrev pub optional : Bool → List Put → List Put
 optional true ps = ps
 optional false ps = []
 
--- 01: "Bytes 0..8 hold 0x1F1903C103BC1FC6"
-abbrev pub magicNumber : ℕ
-magicNumber = 0x1F1903C103BC1FC6
-
 -- the magic number, the version and the source hash
 unfoldable pub identity : ℕ → List ℕ → List ℕ → List ℕ
-identity version hash s = sets (putAll Modern (put table.magic magicNumber ∷ put table.version version ∷ []) s) (table.sourceHash .at) hash
+identity version hash s = sets (putAll Modern (put table.magic table.magicNumber ∷ put table.version version ∷ []) s) (table.sourceHash .at) hash
 
 -- a header buffer of fewer than 128 bytes is refused with 1
 unfoldable pub onHeader : (List ℕ → List ℕ) → List ℕ → Outcome

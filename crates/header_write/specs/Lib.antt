@@ -1,4 +1,2 @@
-pub mod Delta
-pub mod Records
 pub mod Slots
 pub mod Headers

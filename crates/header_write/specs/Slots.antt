@@ -12,7 +12,7 @@ use Rattle.bits.specs.Outcome.{Outcome, refused, made, written}
 use Rattle.format.specs.declared.Layout.{Layout}
 use Rattle.format.specs.declared.Layout.the-variants.{Modern, Legacy}
 use Rattle.format.specs.Table.{modernRecord, legacyRecord}
-use Rattle.header_write.specs.Records.{pointerRead, legacyFields, modernFields}
+use Rattle.records.specs.Records.{pointerRead, legacyFields, modernFields}
 use Rattle.header_write.specs.declared.Wrote.{Wrote}
 use Rattle.header_write.specs.declared.Wrote.the-variants as wrote-is
 use Rattle.header_write.specs.declared.Pointer.{Pointer}

@@ -8,12 +8,9 @@ ghost use Prim.Native.Nat.{_+_, _≤_};
 ghost use lib.ListN.{length};
 ghost use lib.Seq.{sets};
 ghost use Rattle.format.specs.declared.Layout.the-variants.{Modern, Legacy};
-ghost use Rattle.format.specs.Table.{legacyOptions};
+ghost use Rattle.format.specs.Table.{rowCount, legacyOptions};
 ghost use Rattle.header_write.specs.Slots.{Writes};
 ghost use Rattle.header_write.specs.Headers.{putAll, put, optional, run, headerWords, identity, onHeader, modernHeader, layoutOf, segmentOf, legacyPuts, legacyHeader};
-
-// 0x1F1903C103BC1FC6, the first 8 bytes of every image.
-const MAGIC: u64 = 0x1F1903C103BC1FC6;
 
 // The fields of a legacy header. Big integers and function sources are there only where the version
 // has them; where it has no segment id, 0 stands in its place.
@@ -48,7 +45,7 @@ pub struct LegacyHeader {
 // A run of header words, `values[i]` in the field of row `first + i`.
 fn put_rows(buf: &mut [u8], layout: Layout, first: usize, values: &[u32])
     requires { ⌜ 128 ≤ length (now buf) ⌝ }
-    requires { ⌜ first + length (now values) ≤ 58 ⌝ }
+    requires { ⌜ first + length (now values) ≤ rowCount ⌝ }
     requires { ⌜ headerWords first (length (now values)) ≡ true ⌝ }
     ensures { λ _. ⌜ now (buf .exit) ≡ putAll layout (run first (now (values .entry))) (now (buf .entry)) ⌝ }
 {
@@ -63,7 +60,7 @@ fn put_rows(buf: &mut [u8], layout: Layout, first: usize, values: &[u32])
 // The same where the fact holds, else nothing.
 fn put_rows_if(fact: bool, buf: &mut [u8], layout: Layout, first: usize, values: &[u32])
     requires { ⌜ 128 ≤ length (now buf) ⌝ }
-    requires { ⌜ first + length (now values) ≤ 58 ⌝ }
+    requires { ⌜ first + length (now values) ≤ rowCount ⌝ }
     requires { ⌜ headerWords first (length (now values)) ≡ true ⌝ }
     ensures { λ _. ⌜ now (buf .exit) ≡ putAll layout (optional fact (run first (now (values .entry)))) (now (buf .entry)) ⌝ }
 {
@@ -78,7 +75,7 @@ fn put_identity(buf: &mut [u8], version: u32, source_hash: [u8; 20])
     requires { ⌜ length «source_hash» ≡ 20 ⌝ }
     ensures { λ _. ⌜ now (buf .exit) ≡ identity version «source_hash» (now (buf .entry)) ⌝ }
 {
-    bits::put_word64(buf, format::at(format::MAGIC), MAGIC);
+    bits::put_word64(buf, format::at(format::MAGIC), format::MAGIC_NUMBER);
     bits::put_word(buf, format::at(format::VERSION), version as u64);
     bits::put_bytes(buf, format::at(format::SOURCE_HASH), &source_hash);
 }

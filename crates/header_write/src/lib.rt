@@ -5,15 +5,16 @@
 // by its caller: a slot, word or header buffer that is too short is refused with number 1 and stays
 // as it is.
 pub mod headers;
-pub mod records;
 
+use records::LegacyFunctionHeader;
+use records::ModernFunctionHeader;
 ghost use mathlib.Core.Path.{_≡_};
 ghost use mathlib.Core.Bool.{false};
 ghost use Rattle.bits.specs.Bytes.{bytesOf};
 ghost use Rattle.format.specs.Table.{modernRecord, legacyRecord};
 ghost use Rattle.format.specs.declared.Layout.the-variants.{Modern, Legacy};
-ghost use Rattle.header_write.specs.Delta.{turned};
-ghost use Rattle.header_write.specs.Records.{shiftSmall, shiftPointer, putOffsetSize, packed};
+ghost use Rattle.records.specs.Delta.{turned};
+ghost use Rattle.records.specs.Records.{shiftSmall, shiftPointer, putOffsetSize, packed};
 ghost use Rattle.header_write.specs.Slots.{Writes, onSlot, readLegacy, readModern, readLegacyPointer, readModernPointer, shiftWord};
 
 // The answer of a leaf that writes.
@@ -26,27 +27,6 @@ pub enum Wrote {
 pub enum Pointer {
     At(u32),
     Refused(u8),
-}
-
-// The fields of a legacy record.
-pub struct LegacyFunctionHeader {
-    pub offset: u32,
-    pub param_count: u32,
-    pub bytecode_size: u32,
-    pub function_name: u32,
-    pub info_offset: u32,
-    pub frame_size: u32,
-    pub environment_size: u32,
-    pub highest_read_cache: u32,
-    pub highest_write_cache: u32,
-    pub flags: u8,
-}
-
-// The fields of a modern record that the port reads.
-pub struct ModernFunctionHeader {
-    pub offset: u32,
-    pub bytecode_size: u32,
-    pub flags: u8,
 }
 
 pub enum LegacyRead {
@@ -184,12 +164,12 @@ pub fn shift_u32_at(buf: &mut [u8], pos: usize, delta: i32) -> Wrote
     ensures { λ r. ⌜ Writes (shiftWord pos (turned delta) (now (buf .entry))) r (now (buf .entry)) (now (buf .exit)) ⌝ }
 {
     if buf.len() < pos {
-        return Wrote::Refused(1);
+        return Wrote::Refused(1); // the position lies past the end
     }
     if buf.len() - pos < 4 {
         return Wrote::Refused(1);
     }
     let d = records::turn(delta);
     bits::put_word(buf, pos, bits::word(buf, pos) + d);
-    Wrote::Done
+    Wrote::Done // 4 bytes are stored, so that the sum wraps
 }

@@ -1,7 +1,7 @@
 use native.Mathlib.Omega.{arith}
 use Rattle.header_write.proofs.SlotLaws.{slot-short, slot-done}
 use Rattle.format.specs.Table.{legacyRecord}
-use Rattle.header_write.specs.Records.{putOffsetSize}
+use Rattle.records.specs.Records.{putOffsetSize}
 use borrow.Author.Needs.{needs}
 use Rattle.header_write.proofs.patch_legacy_small_header_offset_size.Statement.{statement}
 use Rattle.header_write.proofs.patch_legacy_small_header_offset_size.Tie as tie

@@ -1,6 +1,6 @@
 use native.Mathlib.Omega.{arith}
 use Rattle.header_write.proofs.SlotLaws.{read-short, read-done}
-use Rattle.header_write.specs.Records.{pointerRead}
+use Rattle.records.specs.Records.{pointerRead}
 use borrow.Author.Needs.{needs}
 use Rattle.header_write.proofs.read_legacy_large_pointer.Statement.{statement}
 use Rattle.header_write.proofs.read_legacy_large_pointer.Tie as tie

@@ -2,7 +2,7 @@ use native.Mathlib.Omega.{arith}
 use Rattle.header_write.proofs.SlotLaws.{slot-short, slot-done}
 use mir.Facts.{toZ-ofZ}
 use Rattle.format.specs.Table.{legacyRecord}
-use Rattle.header_write.specs.Records.{shiftPointer, pointerRead}
+use Rattle.records.specs.Records.{shiftPointer, pointerRead}
 use borrow.Author.Needs.{needs}
 use Rattle.header_write.proofs.shift_legacy_large_pointer.Statement.{statement}
 use Rattle.header_write.proofs.shift_legacy_large_pointer.Tie as tie

@@ -2,7 +2,7 @@ use native.Mathlib.Omega.{arith}
 use Rattle.header_write.proofs.SlotLaws.{slot-short, slot-done}
 use mir.Facts.{toZ-ofZ}
 use Rattle.format.specs.Table.{legacyRecord}
-use Rattle.header_write.specs.Records.{shiftSmall}
+use Rattle.records.specs.Records.{shiftSmall}
 use borrow.Author.Needs.{needs}
 use Rattle.header_write.proofs.shift_legacy_small_header_offsets.Statement.{statement}
 use Rattle.header_write.proofs.shift_legacy_small_header_offsets.Tie as tie

@@ -3,7 +3,7 @@ use Rattle.header_write.proofs.SlotLaws.{slot-short, slot-done}
 use mir.Facts.{toZ-ofZ}
 use native.Mathlib.Nat.{mod-eq-of-lt}
 use Rattle.format.specs.Table.{modernRecord}
-use Rattle.header_write.specs.Records.{shiftPointer, pointerRead}
+use Rattle.records.specs.Records.{shiftPointer, pointerRead}
 use borrow.Author.Needs.{needs}
 use Rattle.header_write.proofs.shift_modern_large_pointer.Statement.{statement}
 use Rattle.header_write.proofs.shift_modern_large_pointer.Tie as tie

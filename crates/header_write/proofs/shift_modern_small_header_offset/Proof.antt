@@ -4,8 +4,8 @@ use native.Mathlib.Omega.{arith}
 use mir.Facts.{toZ-ofZ}
 use Rattle.format.specs.Table.{modernRecord, modernOffset}
 use Rattle.format.specs.declared.Layout.the-variants.{Modern}
-use Rattle.header_write.specs.Delta.{turned}
-use Rattle.header_write.specs.Records.{shiftSmall, shiftField}
+use Rattle.records.specs.Delta.{turned}
+use Rattle.records.specs.Records.{shiftSmall, shiftField}
 use Rattle.header_write.proofs.SlotLaws.{slot-short, slot-done}
 use borrow.Author.Needs.{needs}
 use Rattle.header_write.proofs.shift_modern_small_header_offset.Statement.{statement}

@@ -1,0 +1,73 @@
+-- The marked examples of 01, rows a to i: one table, one claim.
+use mathlib.Core.Bool.{Bool, true, false}
+use mathlib.Core.List.{List, [], _∷_}
+use Prim.Native.Nat.{ℕ}
+use lib.Dec.{T, eqb}
+use Rattle.bits.specs.Choice.{both}
+use Rattle.bits.specs.Fields.{fieldOf, withField}
+use Rattle.bits.specs.Word32.{add32, xorN}
+use Rattle.format.specs.declared.Layout.the-variants.{Modern, Legacy}
+use Rattle.format.specs.Table.{modernPointerLow, modernPointerHigh, legacyPointerLow, legacyInfo, placeIn, debugRow}
+use Rattle.format.specs.Record.{withValue, pointer}
+use Rattle.format.specs.Entry.{Place, bit, isOver, entry, smallWord}
+use Rattle.format.specs.Hash.{mixed, hashStep, hashFrom, hashOf}
+use Rattle.format.specs.Move.{moved}
+
+-- what a definition gives, and what 01 says
+pub record Row : Type 0 where
+  pub given : ℕ
+  pub marked : ℕ
+
+abbrev pub row : ℕ → ℕ → Row
+row g m = record { given = g; marked = m }
+
+-- a string's place: wide or not, offset, length
+abbrev pub at : Bool → ℕ → ℕ → Place
+at wide offset count = record { wide = wide; at = offset; count = count }
+
+-- the debug offset's position in a layout
+abbrev pub debug : Rattle.format.specs.declared.Layout.Layout → ℕ
+debug l = placeIn l (debugRow l)
+
+unfoldable pub rows : List Row
+rows =
+    -- a. narrow, length 254, offset 0
+    row (smallWord 0 (at false 0 254)) 0xFE000000
+    -- b. length 255, first overflow
+    ∷ row (smallWord 0 (at false 0 255)) 0xFF000000
+    -- c. offset 8,388,607 small, 8,388,608 overflow
+    ∷ row (bit (isOver (at false 8388607 1))) 0
+    ∷ row (smallWord 0 (at false 8388607 1)) 0x01FFFFFE
+    ∷ row (bit (isOver (at false 8388608 1))) 1
+    ∷ row (smallWord 0 (at false 8388608 1)) 0xFF000000
+    -- d. wide, length 1, offset 0
+    ∷ row (smallWord 0 (at true 0 1)) 0x01000001
+    -- e. modern low 0xA0, name bits 1
+    ∷ row (pointer Modern (withValue modernPointerHigh 1 (withValue modernPointerLow 0xA0 0))) 0x010000A0
+    -- f. legacy low 0x1234, info 2
+    ∷ row (pointer (Legacy false false) (withValue legacyInfo 2 (withValue legacyPointerLow 0x1234 0))) 0x21234
+    -- g. threshold 160, delta 4
+    ∷ row (moved 160 164 160) 164
+    ∷ row (moved 160 164 159) 159
+    -- h. the hash of nothing, of "a", of "ab" and of U+00E9
+    ∷ row (hashOf []) 0
+    ∷ row (hashOf (0x61 ∷ [])) 0x18270
+    ∷ row (hashOf (0x61 ∷ 0x62 ∷ [])) 0x614F9F9
+    ∷ row (hashOf (0xE9 ∷ [])) 0x3AA7A
+    -- i. debug positions
+    ∷ row (debug (Legacy false false)) 92
+    ∷ row (debug (Legacy false true)) 96
+    ∷ row (debug (Legacy true false)) 100
+    ∷ row (debug (Legacy true true)) 104
+    ∷ row (debug Modern) 108
+    ∷ []
+
+-- every row gives what is marked
+unfoldable pub allMarked : List Row → Bool
+allMarked [] = true
+allMarked (r ∷ rs) = both (eqb (r .given) (r .marked)) (allMarked rs)
+
+-- the claim
+pub marked : T (allMarked rows)
+unfolding rows allMarked smallWord entry withField fieldOf pointer moved hashOf hashFrom hashStep mixed add32 xorN
+marked = tt

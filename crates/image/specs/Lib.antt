@@ -1,0 +1,5 @@
+pub mod Sections
+pub mod Strings
+pub mod Kinds
+pub mod Functions
+pub mod Admission

@@ -1,0 +1,16 @@
+use native.Mathlib.Omega.{arith}
+use Rattle.format.specs.Record.{pointer}
+use borrow.Author.Needs.{needs}
+use Rattle.records.proofs.legacy_pointer.Statement.{statement}
+use Rattle.records.proofs.legacy_pointer.Tie as tie
+
+join-requires : tie.Need-join-requires
+join-requires c κs = rw (c .width .ensures) (omega arith)
+
+returns : tie.Need-returns
+unfolding pointer
+returns c = rw (c .join .ensures, c .before .width .ensures) (rw (← c .before .before .before .value .ensures .0, ← c .before .before .value2 .ensures .0) (omega arith))
+
+pub legacy-pointer-spec : {M : Type 1} → statement M
+legacy-pointer-spec =
+    tie.close (tie.spec (λ c κs. search needs) (λ c κs. search needs) (λ c κs. search needs) join-requires returns)

@@ -1,0 +1,13 @@
+use Rattle.format.specs.Record.{putPointer}
+use borrow.Author.Needs.{needs}
+use Rattle.records.proofs.with_modern_pointer.Statement.{statement}
+use Rattle.records.proofs.with_modern_pointer.Tie as tie
+
+returns : tie.Need-returns
+unfolding putPointer
+returns c = rw (c .with-value2 .ensures, c .before .with-value .ensures, c .before .before .width .ensures)
+
+pub with-modern-pointer-spec : {M : Type 1} → statement M
+with-modern-pointer-spec =
+    tie.close
+    (tie.spec (λ c κs. search needs) (λ c κs. search needs) (λ c. search needs) (λ c κs. search needs) returns)
