@@ -243,3 +243,12 @@ pub fn sha1(s: &[u8]) -> [u8; 20]
     let last = last_blocks(&s[begin..], n);
     digest_bytes(hash_blocks(h, &last, last_count(n)))
 }
+
+// SHA-1 for callers in C and in Rust: the digest of a slice, stored in `out`.
+#[no_mangle]
+pub extern "C" fn nepuladrim_sha1(s: &[u8], out: &mut [u8; 20])
+    ensures { λ _. ⌜ now (out .exit) ≡ digest (now (s .entry)) ⌝ }
+{
+    let d = sha1(s);
+    *out = d;
+}
