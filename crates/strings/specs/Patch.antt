@@ -3,7 +3,7 @@ use mathlib.Core.Bool.{Bool, true, false, not}
 use mathlib.Core.List.{List, [], _∷_, _++_}
 use Prim.Native.Nat.{ℕ, zero, suc, _+_, _*_}
 use lib.Dec.{leb, ltb, eqb}
-use lib.ListN.{length}
+use lib.ListN.{length, getD}
 use lib.Seq.{sets}
 use Rattle.bits.specs.Choice.{pick, both, either, implies, allBelow, Check, judge}
 use Rattle.bits.specs.Bytes.{bytesOf}
@@ -21,7 +21,15 @@ use Rattle.image.specs.Kinds.{isIdentifier, rankOf}
 use Rattle.image.specs.Admission.{check, checks}
 use Rattle.image.specs.Rebuild.{region, padded, rebuild}
 use Rattle.image.specs.Fit.{fieldsFit}
-use Rattle.strings.specs.Utf8.{isUtf8, isAscii, utf16, asString}
+use Rattle.unicode.specs.Utf8.{isUtf8, utf16, unitBytes}
+
+-- every byte is below 0x80
+unfoldable pub isAscii : List ℕ → Bool
+isAscii bs = allBelow (length bs) (λ j. ltb (getD bs j 0) 0x80)
+
+-- a value as a string: "the value is narrow if ASCII, else UTF-16"
+unfoldable pub asString : List ℕ → Str
+asString value = pick (isAscii value) (record { wide = false; bytes = value }) (record { wide = true; bytes = unitBytes (utf16 value) })
 
 -- ---- in place: "entry narrow, value ASCII, byte lengths equal, and no other entry overlaps"
 

@@ -1,20 +1,15 @@
 -- Well-formed UTF-8 and its UTF-16 units, one byte at a time. The Unicode Standard, Table 3-7, Well-Formed UTF-8 Byte Sequences, and Table 3-5, UTF-16 Bit Distribution.
 use mathlib.Core.Bool.{Bool, true, false}
 use mathlib.Core.List.{List, [], _∷_, _++_}
-use Prim.Native.Nat.{ℕ, _+_, _-_, _*_, _/_, _%_}
+use Prim.Native.Nat.{ℕ, _+_, _-_, _*_, _/_, _%_, _^_, _≤_}
 use lib.Dec.{leb, ltb, eqb}
-use lib.ListN.{length, getD}
-use Rattle.bits.specs.Choice.{pick, both, allBelow}
+use Rattle.bits.specs.Choice.{pick, both}
 use Rattle.bits.specs.Bytes.{bytesOf}
-use Rattle.image.specs.Strings.{Str}
+use Rattle.unicode.specs.declared.Reading.{Reading}
+use Rattle.unicode.specs.declared.Units.{Units}
+use Rattle.unicode.specs.declared.Units.the-variants.{None, One, Two}
 
--- where a reader stands: `need` bytes of a code point are to come, the next of them from `lo` to `hi`; `point` is what was read of it
-pub record Reading : Type 0 where
-  pub ok : Bool
-  pub need : ℕ
-  pub point : ℕ
-  pub lo : ℕ
-  pub hi : ℕ
+-- `Reading` is where a reader stands: `need` bytes of a code point are to come, the next of them from `lo` to `hi`; `point` is what was read of it; not `ok` after a wrong byte
 
 -- n further bytes of the common range 80..BF
 abbrev pub further : ℕ → ℕ → Reading
@@ -26,7 +21,7 @@ between = further 0 0
 
 -- a byte that no row of the table has in its place
 abbrev pub wrong : Reading
-wrong = record { ok = false; need = 0; point = 0; lo = 0; hi = 0 }
+wrong = record { ok = false; need = 0; point = 0; lo = 0x80; hi = 0xBF }
 
 -- the first byte of a code point, row by row: 00..7F; C2..DF; E0 (then A0..BF), E1..EC, ED (then 80..9F), EE..EF; F0 (then 90..BF), F1..F3, F4 (then 80..8F)
 unfoldable pub opens : ℕ → Reading
@@ -74,10 +69,16 @@ unfoldable pub unitBytes : List ℕ → List ℕ
 unitBytes [] = []
 unitBytes (u ∷ us) = bytesOf 2 u ++ unitBytes us
 
--- every byte is below 0x80
-unfoldable pub isAscii : List ℕ → Bool
-isAscii bs = allBelow (length bs) (λ j. ltb (getD bs j 0) 0x80)
+-- ---- what the code needs of a reading: the code point stays below 2^21, and a further byte is from 80 to BF
 
--- a value as a string: 01, "the value is narrow if ASCII, else UTF-16"
-unfoldable pub asString : List ℕ → Str
-asString value = pick (isAscii value) (record { wide = false; bytes = value }) (record { wide = true; bytes = unitBytes (utf16 value) })
+pub record Small (r : Reading) : Type 0 where
+  pub few : r .need ≤ 3
+  pub low : (r .point + 1) * 64 ^ r .need ≤ 2097152
+  pub from : 128 ≤ r .lo
+  pub to : r .hi ≤ 191
+
+-- the units of the code's answer
+abbrev pub listOf : Units → List ℕ
+listOf None = []
+listOf (One u) = u ∷ []
+listOf (Two u v) = u ∷ v ∷ []
