@@ -1,3 +1,4 @@
+pub mod ListLaws
 pub mod ByteLaws
 pub mod WriteLaws
 pub mod FieldLaws

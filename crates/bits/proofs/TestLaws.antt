@@ -25,6 +25,14 @@ pub both-false : (a b : Bool) → both a b ≡ false → (a ≡ false) ⊎ (b �
 both-false true b h = inr h
 both-false false b h = inl refl
 
+pub either-0 : (a b : Bool) → either a b ≡ false → a ≡ false
+either-0 true b h = h
+either-0 false b h = refl
+
+pub either-1 : (a b : Bool) → either a b ≡ false → b ≡ false
+either-1 true b h = let z : _≡_ {A = ℕ} 0 1 = cc in absurd (omega arith)
+either-1 false b h = h
+
 -- one of two tests that holds settles it, whichever it is
 pub either-or : (a b : Bool) → either a b ≡ true → (a ≡ true) ⊎ (b ≡ true)
 either-or true b h = inl refl
