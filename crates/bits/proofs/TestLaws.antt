@@ -113,6 +113,11 @@ sum-le f m n h =
     let e : n ≡ m + (n - m) = omega arith in
     rw (e, sum-split f m (n - m)) (omega arith)
 
+-- and it holds each of its terms beside the sum before it
+pub sum-at : (f : ℕ → ℕ) (i n : ℕ) → i < n → sumBelow i f + f i ≤ sumBelow n f
+unfolding sumBelow
+sum-at f i n h = sum-le f (suc i) n h
+
 -- a sum of equal terms
 pub sum-same : (f : ℕ → ℕ) (c n : ℕ) → ((i : ℕ) → i < n → f i ≡ c) → sumBelow n f ≡ n * c
 unfolding sumBelow

@@ -20,6 +20,7 @@ use Rattle.image.specs.Kinds.{kindIn, covered, identified}
 use Rattle.image.specs.Admission.{overflowsCounted, overflowsNumbered, stringsStored, stringsNarrow, headersIn, bodiesIn, infosIn, debugInTail, headersApart, bodiesApart, checks, refusal}
 use Rattle.image.specs.Faults.{ShareByte, Fault}
 use Rattle.image.specs.Faults.Fault.{short, long, magic, sections, kinds, identifiers, overflows, misnumbered, leaves, exceeds, body, info, debug, header, headers, bodies}
+use Rattle.image.proofs.PlaceLaws.{records-at}
 use Rattle.image.proofs.CheckLaws.{overflows-counted, overflows-numbered, strings-stored, strings-narrow, headers-in, bodies-in, infos-in, debug-in, headers-apart, bodies-apart}
 
 -- ---- a byte in common, and two starts that each lie before the other's end
@@ -33,16 +34,12 @@ some-words : (l : Layout) → 0 < table.largeRow l .width
 some-words Modern = omega arith
 some-words (Legacy big sources) = omega arith
 
-least-size : (l : Layout) → table.recordRow l .at + footerLength ≡ 148
-least-size Modern = refl
-least-size (Legacy big sources) = refl
-
 module _ (l : Layout) (s : List ℕ) where
   -- a check that is met is a fault of its number
   shows : Shows (Fault l s) (checks l s)
   unfolding checks
   shows = (
-    λ t. short (rw (least-size l) at (ltb-true (length s) (table.recordRow l .at + footerLength) t)),
+    λ t. short (rw (records-at l) at (ltb-true (length s) (table.recordRow l .at + footerLength) t)),
     (
       λ t. long (ltb-true 67108864 (length s) t),
       (
@@ -96,7 +93,7 @@ module _ (l : Layout) (s : List ℕ) where
   -- and a fault's check is met
   gives : (n : ℕ) → Fault l s n → given n (checks l s) ≡ true
   unfolding checks
-  gives n (short h) = rw (lt-ltb (length s) (table.recordRow l .at + footerLength) (rw (least-size l) h))
+  gives n (short h) = rw (lt-ltb (length s) (table.recordRow l .at + footerLength) (rw (records-at l) h))
   gives n (long h) = simp (lt-ltb 67108864 (length s) h, either-true)
   gives n (magic h) = rw (ne-eqb _ _ h)
   gives n (sections h) = rw (lt-ltb (length s) (tailAt l s + footerLength) h)

@@ -1,3 +1,4 @@
 pub mod CheckLaws
 pub mod AdmitLaws
 pub mod FaultLaws
+pub mod PlaceLaws
