@@ -1,10 +1,9 @@
 -- What each test of admission decides: what holds where it is passed, and what is wrong where it is not.
 use mathlib.Core.Path.{_≡_}
 use mathlib.Core.Bool.{true, false}
-use mathlib.Core.Logic.{_⊎_, _≢_}
+use mathlib.Core.Logic.{_≢_}
 use mathlib.Core.List.{List}
 use Prim.Native.Nat.{ℕ, _+_, _≤_, _<_}
-use lib.Dec.{leb, ltb, eqb}
 use lib.ListN.{length, getD}
 use Rattle.bits.proofs.DecideLaws.{Decides, leb-decides, eqb-decides, itself-decides, not-decides, both-decides, implies-decides, all-decides}
 use Rattle.format.specs.declared.Layout.{Layout}
@@ -12,9 +11,9 @@ use Rattle.format.specs.Table as table
 use Rattle.format.specs.Record.{valueOf}
 use Rattle.format.specs.Entry.{Place}
 use Rattle.footer.specs.Footer.{footerLength}
-use Rattle.image.specs.Sections.{functionsIn, kindsIn, identifiersIn, stringsIn, overflowsIn, storageIn, debugIn, storageAt, tailAt}
+use Rattle.image.specs.Sections.{functionsIn, stringsIn, overflowsIn, storageIn, debugIn, storageAt, tailAt}
 use Rattle.image.specs.Strings.{isFull, overBefore, smallIn, placeAt, sizeOf}
-use Rattle.image.specs.Functions.{Func, funcOf}
+use Rattle.image.specs.Functions.{funcOf}
 use Rattle.image.specs.Admission.{overflowsCounted, overflowsNumbered, stringsStored, bytesNarrow, stringsNarrow, inTail, placeInTail, headersIn, bodiesIn, infosIn, debugInTail, apart, headersApart, bodiesApart}
 use Rattle.image.specs.Admitted.{Disjoint, InTail}
 use Rattle.image.specs.Faults.{OutOfTail}

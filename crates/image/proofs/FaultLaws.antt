@@ -1,14 +1,12 @@
 -- Refusals are exact: an image is refused with n where fault n is there and none of a lower number is.
 use mathlib.Core.Path.{_≡_, refl}
-use mathlib.Core.Bool.{true, not}
-use mathlib.Core.Logic.{_⊎_, inl, inr, _↔_}
+use mathlib.Core.Bool.{true}
+use mathlib.Core.Logic.{inl, inr, _↔_}
 use mathlib.Core.List.{List}
 use Prim.Native.Nat.{ℕ, _+_, _≤_, _<_}
 use native.Mathlib.Omega.{arith}
 use borrow.Author.Tests.{ltb-true, lt-ltb, eqb-false, ne-eqb, not-true}
-use lib.Dec.{ltb, eqb}
 use lib.ListN.{length}
-use Rattle.bits.specs.Bytes.{numberAt}
 use Rattle.bits.proofs.TestLaws.{below-or, either-true}
 use Rattle.bits.proofs.JudgeLaws.{rising, given, Shows, judge-most, judged-exactly, judged-none}
 use Rattle.format.specs.declared.Layout.{Layout}
@@ -17,7 +15,7 @@ use Rattle.format.specs.Table as table
 use Rattle.footer.specs.Footer.{footerLength}
 use Rattle.image.specs.Sections.{kindsIn, identifiersIn, stringsIn, tailAt}
 use Rattle.image.specs.Kinds.{kindIn, covered, identified}
-use Rattle.image.specs.Admission.{overflowsCounted, overflowsNumbered, stringsStored, stringsNarrow, headersIn, bodiesIn, infosIn, debugInTail, headersApart, bodiesApart, checks, refusal}
+use Rattle.image.specs.Admission.{checks, refusal}
 use Rattle.image.specs.Faults.{ShareByte, Fault}
 use Rattle.image.specs.Faults.Fault.{short, long, magic, sections, kinds, identifiers, overflows, misnumbered, leaves, exceeds, body, info, debug, header, headers, bodies}
 use Rattle.image.proofs.PlaceLaws.{records-at}

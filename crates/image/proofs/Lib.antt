@@ -2,3 +2,4 @@ pub mod CheckLaws
 pub mod AdmitLaws
 pub mod FaultLaws
 pub mod PlaceLaws
+pub mod KindLaws
