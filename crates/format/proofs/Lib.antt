@@ -1,1 +1,3 @@
 pub mod RecordLaws
+pub mod EntryLaws
+pub mod MoveLaws
