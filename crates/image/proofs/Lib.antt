@@ -1,2 +1,3 @@
 pub mod WriteLaws
 pub mod SlotLaws
+pub mod EditLaws
