@@ -1,3 +1,4 @@
 pub mod WriteLaws
 pub mod SlotLaws
 pub mod EditLaws
+pub mod BodyLaws

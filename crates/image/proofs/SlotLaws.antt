@@ -1,6 +1,7 @@
 -- A function record: the function that is put into it is read back, and its flag stays.
 use mathlib.Core.Path.{_≡_, refl, sym, _∙_}
 use mathlib.Core.Bool.{Bool, true, false, not}
+use mathlib.Core.List.{List}
 use Prim.Native.Nat.{ℕ, _/_, _%_, _^_, _<_}
 use native.Mathlib.Nat.{mod-eq-of-lt}
 use native.Mathlib.Omega.{arith}
@@ -12,8 +13,8 @@ use Rattle.format.specs.declared.Layout.{Layout}
 use Rattle.format.specs.declared.Layout.the-variants.{Modern, Legacy}
 use Rattle.format.specs.Table as table
 use Rattle.format.specs.Record.{withValue, isLarge, pointer, putPointer}
-use Rattle.format.proofs.RecordLaws.{value-kept, value-put, PointerFits, pointer-flag, pointer-back, pointer-lt}
-use Rattle.image.specs.Functions.{Func, small}
+use Rattle.format.proofs.RecordLaws.{value-kept, value-put, value-lt, PointerFits, pointer-flag, pointer-back, pointer-lt}
+use Rattle.image.specs.Functions.{Func, small, header, recordIn, funcOf}
 use Rattle.image.specs.Edit.{putSmall, pointed, putRecord}
 
 pub func-eq : (f g : Func) → f .large ≡ g .large → f .ptr ≡ g .ptr → f .begin ≡ g .begin → f .size ≡ g .size → f .info ≡ g .info → f ≡ g
@@ -119,3 +120,35 @@ module _ (l : Layout) (whole : Bool) (f : Func) (n : ℕ) where
       go : (b : Bool) → b ≡ false → small l (pick b (pointed l whole (f .ptr) n) (putSmall l f n)) ≡ f
       go false t = small-back l f n h
       go true t = let z : _≡_ {A = ℕ} 0 1 = cc in absurd (omega arith)
+
+-- ---- a function as it is read
+
+-- its flag is its record's
+pub func-flag : (l : Layout) (s : List ℕ) (i : ℕ) → isLarge l (recordIn l s i) ≡ funcOf l s i .large
+unfolding funcOf header small
+func-flag l s i = go l (isLarge l (recordIn l s i))
+  where
+    go : (l : Layout) (b : Bool) → b ≡ pick b (header l (pointer l (recordIn l s i)) s) (small l (recordIn l s i)) .large
+    go Modern true = refl
+    go (Legacy big sources) true = refl
+    go Modern false = refl
+    go (Legacy big sources) false = refl
+
+small-holds : (l : Layout) (n : ℕ) → SmallFits l (small l n)
+unfolding small
+small-holds Modern n = (refl, refl, value-lt table.modernOffset n, value-lt table.modernSize n, refl)
+small-holds (Legacy big sources) n = (refl, refl, value-lt table.legacyOffset n, value-lt table.legacySize n, value-lt table.legacyInfo n)
+
+-- without a large header it fits a small record
+pub small-fits : (l : Layout) (s : List ℕ) (i : ℕ) → funcOf l s i .large ≡ false → SmallFits l (funcOf l s i)
+unfolding funcOf
+small-fits l s i t = rw (func-flag l s i ∙ t) (small-holds l (recordIn l s i))
+
+-- modern images have no info places
+pub modern-info : (s : List ℕ) (i : ℕ) → funcOf Modern s i .info ≡ 0
+unfolding funcOf header small
+modern-info s i = go (isLarge Modern (recordIn Modern s i))
+  where
+    go : (b : Bool) → pick b (header Modern (pointer Modern (recordIn Modern s i)) s) (small Modern (recordIn Modern s i)) .info ≡ 0
+    go true = refl
+    go false = refl
