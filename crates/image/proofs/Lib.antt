@@ -2,3 +2,4 @@ pub mod WriteLaws
 pub mod SlotLaws
 pub mod EditLaws
 pub mod BodyLaws
+pub mod TableLaws
