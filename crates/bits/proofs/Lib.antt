@@ -5,4 +5,5 @@ pub mod FieldLaws
 pub mod MaskLaws
 pub mod TestLaws
 pub mod Word32Laws
+pub mod SumLaws
 pub mod OutcomeLaws

@@ -3,3 +3,4 @@ pub mod SlotLaws
 pub mod EditLaws
 pub mod BodyLaws
 pub mod TableLaws
+pub mod ReadLaws

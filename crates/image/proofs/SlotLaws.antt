@@ -134,6 +134,16 @@ func-flag l s i = go l (isLarge l (recordIn l s i))
     go Modern false = refl
     go (Legacy big sources) false = refl
 
+-- with a large header its pointer is its record's
+header-pointer : (l : Layout) (p : ℕ) (s : List ℕ) → header l p s .ptr ≡ p
+unfolding header
+header-pointer Modern p s = refl
+header-pointer (Legacy big sources) p s = refl
+
+pub func-pointer : (l : Layout) (s : List ℕ) (i : ℕ) → isLarge l (recordIn l s i) ≡ true → funcOf l s i .ptr ≡ pointer l (recordIn l s i)
+unfolding funcOf
+func-pointer l s i t = rw t (header-pointer l (pointer l (recordIn l s i)) s)
+
 small-holds : (l : Layout) (n : ℕ) → SmallFits l (small l n)
 unfolding small
 small-holds Modern n = (refl, refl, value-lt table.modernOffset n, value-lt table.modernSize n, refl)
