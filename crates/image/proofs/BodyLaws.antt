@@ -7,8 +7,8 @@ use mathlib.Core.List.{List}
 use Prim.Native.Nat.{ℕ, _+_, _-_, _*_, _^_, _≤_, _<_}
 use native.Mathlib.Omega.{arith}
 use lib.ListN.{length, getD}
-use Rattle.bits.specs.Bytes.{bytesAt}
-use Rattle.bits.proofs.ByteLaws.{bytesAt-ext, bytesAt-is}
+use Rattle.bits.specs.Bytes.{bytesAt, numberAt}
+use Rattle.bits.proofs.ByteLaws.{bytesAt-ext, bytesAt-is, numberAt-ext}
 use Rattle.format.specs.declared.Layout.{Layout}
 use Rattle.format.specs.declared.Layout.the-variants.{Modern, Legacy}
 use Rattle.format.specs.Table as table
@@ -17,14 +17,15 @@ use Rattle.format.proofs.MoveLaws.{moved-low, Side, moved-side, moved-from, mov
 use Rattle.format.proofs.RecordLaws.{PointerFits}
 use Rattle.footer.specs.Footer.{footerLength}
 use Rattle.footer.specs.Finalize.{sizeLimit}
-use Rattle.image.specs.Sections.{functionsIn, recordAt, tailAt}
+use Rattle.image.specs.Sections.{functionsIn, recordAt, kindsAt, tailAt}
 use Rattle.image.specs.Functions.{Func, funcOf, bodyOf}
 use Rattle.image.specs.Admitted.{Disjoint, Admitted}
-use Rattle.image.specs.Edit.{splice, Write, edit, moveFunc}
+use Rattle.image.specs.Edit.{splice, Write, writeAll, edit, moveFunc}
 use Rattle.image.specs.Rebuild.{resized}
-use Rattle.image.proofs.WriteLaws.{Outside, splice-low, splice-new, splice-high, length-splice}
+use Rattle.image.proofs.WriteLaws.{Outside, writes-off, splice-low, splice-new, splice-high, length-splice}
 use Rattle.image.proofs.SlotLaws.{SmallFits, func-flag, small-fits, modern-info}
-use Rattle.image.proofs.EditLaws.{first-record, HeaderFits, Fits, Sound, length-edit, edit-frame, edit-func}
+use Rattle.image.proofs.EditLaws.{first-record, HeaderFits, Fits, Sound, length-edit, edit-frame, edit-kept, edit-front, edit-func}
+use Rattle.image.proofs.ReadLaws.{Agree, ordered}
 
 -- what is asked of an edit of an image: n bytes for those from a to b; no large header, body or info place reaches into these but for
 -- the body that they are; nothing of the tail comes to stand before the new tail
@@ -151,6 +152,28 @@ module _ (l : Layout) (s : List ℕ) (ad : Admitted l s) (whole : Bool) (floor a
 
   pub length-out : length out ≡ long
   length-out = length-edit l whole floor a b new fs ws s sound ∙ len
+
+  -- ---- what stays before the floor
+
+  -- header bytes that the writes do not touch
+  pub front-agree : (from to : ℕ) → to ≤ 128 → ((p : ℕ) → from ≤ p → p < to → Outside p ws) → Agree s out from to
+  front-agree from to h o p f k =
+      edit-front l whole floor a b new fs ws s sound p (omega (arith, first-record l))
+      ∙ writes-off ws (splice a b new s) p (o p f k)
+      ∙ splice-low a b new s fit p (omega (arith, first-record l, pt .records, pt .under))
+
+  -- all bytes between the records and the floor
+  pub floor-agree : Agree s out (kindsAt l s) floor
+  floor-agree p h k = edit-kept l whole floor a b new fs ws s sound fit p (omega (arith, ordered l s .records)) k
+
+  -- a number in the header is what the writes leave
+  pub front-number : (q n : ℕ) → q + n ≤ 128 → numberAt out q n ≡ numberAt (writeAll ws (splice a b new s)) q n
+  front-number q n h =
+      numberAt-ext out (writeAll ws (splice a b new s)) n q q
+      (λ j k. edit-front l whole floor a b new fs ws s sound (q + j) (omega (arith, first-record l)))
+
+  pub front-long : 128 ≤ length (splice a b new s)
+  front-long = rw len (omega (arith, first-record l, pt .records, pt .under))
 
   -- ---- they fit their records: what is not refused with 11 or 12
 

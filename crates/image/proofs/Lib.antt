@@ -1,6 +1,7 @@
 pub mod WriteLaws
+pub mod TableLaws
 pub mod SlotLaws
 pub mod EditLaws
-pub mod BodyLaws
-pub mod TableLaws
 pub mod ReadLaws
+pub mod BodyLaws
+pub mod RebuildLaws

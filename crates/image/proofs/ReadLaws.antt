@@ -36,6 +36,7 @@ module _ (s t : List ℕ) (from to : ℕ) (same : Agree s t from to) where
 
 pub record Ordered (l : Layout) (s : List ℕ) : Type 0 where
   pub header : 128 ≤ kindsAt l s
+  pub records : recordAt l (functionsIn s) ≡ kindsAt l s
   pub kinds : kindsAt l s + kindsIn s * 4 ≡ hashesAt l s
   pub hashes : hashesAt l s + identifiersIn s * 4 ≡ smallAt l s
   pub smalls : smallAt l s + stringsIn s * 4 ≡ overAt l s
@@ -45,7 +46,7 @@ pub record Ordered (l : Layout) (s : List ℕ) : Type 0 where
 pub ordered : (l : Layout) (s : List ℕ) → Ordered l s
 unfolding kindsAt hashesAt smallAt overAt storageAt tailAt
 ordered l s =
-    record { header = omega (arith, first-record l); kinds = refl; hashes = refl; smalls = refl; pairs = refl; storage = omega arith }
+    record { header = omega (arith, first-record l); records = refl; kinds = refl; hashes = refl; smalls = refl; pairs = refl; storage = omega arith }
 
 -- ---- counts, and the places of the sections up to the overflow table
 
