@@ -8,6 +8,7 @@ use native.Mathlib.Omega.{arith}
 use borrow.Author.Tests.{eqb-true, eqb-false}
 use lib.Dec.{eqb}
 use lib.ListN.{length, getD}
+use Rattle.bits.specs.Choice.{pick}
 use Rattle.bits.proofs.TestLaws.{which}
 use Rattle.bits.proofs.ListLaws.{AllBelow}
 use Rattle.bits.proofs.ByteLaws.{length-bytesOf}
@@ -15,21 +16,21 @@ use Rattle.format.specs.declared.Field.{Field}
 use Rattle.format.specs.declared.Layout.{Layout}
 use Rattle.format.specs.declared.Layout.the-variants.{Modern, Legacy}
 use Rattle.format.specs.Table as table
-use Rattle.format.specs.Record.{valueOf}
+use Rattle.format.specs.Record.{valueOf, putPointer}
 use Rattle.format.specs.Move.{moved}
 use Rattle.format.proofs.MoveLaws.{moved-high, Side}
-use Rattle.format.proofs.RecordLaws.{Apart, pointer-keeps}
+use Rattle.format.proofs.RecordLaws.{Apart, lowRow, highRow, pointer-keeps}
 use Rattle.footer.specs.Finalize.{sizeLimit}
 use Rattle.image.specs.Sections.{functionsIn, identifiersIn, stringsIn, debugIn, kindsAt, hashesAt, smallAt, tailAt}
 use Rattle.image.specs.Strings.{Str}
 use Rattle.image.specs.Kinds.{isIdentifier, rankOf, hashIn}
 use Rattle.image.specs.Functions.{Func, recordIn, funcOf, bodyOf}
 use Rattle.image.specs.Admitted.{Disjoint, Admitted}
-use Rattle.image.specs.Edit.{Write, word, pointed, moveFunc}
+use Rattle.image.specs.Edit.{Write, word, putSmall, pointed, moveFunc}
 use Rattle.image.specs.Rebuild.{layFrom, storeOf, overs, region, padded, rebuild}
 use Rattle.image.proofs.WriteLaws.{Outside}
 use Rattle.image.proofs.TableLaws.{Whole}
-use Rattle.image.proofs.SlotLaws.{SmallFits, func-flag, small-fits}
+use Rattle.image.proofs.SlotLaws.{SmallFits, small-fits}
 use Rattle.image.proofs.EditLaws.{first-record, record-back}
 use Rattle.image.proofs.ReadLaws.{Agree, ordered, identifier-same, rank-same, hash-same}
 use Rattle.image.proofs.BodyLaws.{Parted, sizeMost, sound, length-out, front-agree, floor-agree, func-out, tail-byte, body-kept}
@@ -154,6 +155,21 @@ module _ (l : Layout) (ts : List Str) (s : List ℕ) (ad : Admitted l s) where
   rebuilt-hash r h =
       hash-same l s (rebuild l ts s) counts-kept (λ p f k. rebuilt-middle p (omega (arith, ordered l s .kinds)) k) r h
 
+  -- ---- records
+
+  -- of a record with a large header only the pointer's two fields are rewritten
+  pub rebuilt-record : (j : ℕ) → j < functionsIn s → funcOf l s j .large ≡ true
+      → (g : Field) → Apart (lowRow l) g → Apart (highRow l) g → valueOf g (recordIn l (rebuild l ts s) j) ≡ valueOf g (recordIn l s j)
+  unfolding rebuild pointed
+  rebuilt-record j h t g x y =
+      let n = recordIn l s j in
+      let f = rebuiltFunc j in
+      ap (valueOf g)
+      (record-back l true (smallAt l s) (smallAt l s) (tailAt l s) (newRegion l ts s) rebuiltFunc rebuiltWords s
+      (sound l s ad true (smallAt l s) (smallAt l s) (tailAt l s) (newTail l ts s) (newRegion l ts s) rebuiltFunc rebuiltWords parted) (ad .bytes) j h
+      ∙ ap (λ (b : Bool). pick b (putPointer l (f .ptr) n) (putSmall l f n)) t)
+      ∙ pointer-keeps l g (f .ptr) n x y
+
   -- ---- functions, bodies and the tail
 
   module _ (ok : Rebuilds l ts s) where
@@ -184,3 +200,8 @@ module _ (l : Layout) (ts : List Str) (s : List ℕ) (ad : Admitted l s) where
     rebuilt-tail p h o =
         tail-byte l s ad true (smallAt l s) (smallAt l s) (tailAt l s) (newTail l ts s) (newRegion l ts s) rebuiltFunc rebuiltWords parted limit field
         p (omega (arith, parted .low)) (inr h) o
+
+-- a modern record with a large header keeps its bits 24 to 45: "bit 24 stays"
+pub bit24-kept : (ts : List Str) (s : List ℕ) → Admitted Modern s → (j : ℕ) → j < functionsIn s → funcOf Modern s j .large ≡ true
+    → valueOf (table.fixed 24 22) (recordIn Modern (rebuild Modern ts s) j) ≡ valueOf (table.fixed 24 22) (recordIn Modern s j)
+bit24-kept ts s ad j h t = rebuilt-record Modern ts s ad j h t (table.fixed 24 22) (omega arith) (omega arith)
