@@ -7,4 +7,5 @@ pub mod TestLaws
 pub mod DecideLaws
 pub mod JudgeLaws
 pub mod Word32Laws
+pub mod SumLaws
 pub mod OutcomeLaws

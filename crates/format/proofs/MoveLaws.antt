@@ -55,3 +55,10 @@ module _ (a b n : ℕ) where
           | inr t ↦ rw (r .1, t .1) (omega (arith, r .0, t .0, h (omega (arith, r .0, r .1, t .0, t .1))))
         ]
       ]
+
+  -- a place among them moves with them
+  pub moved-run : a ≤ b → (p w j : ℕ) → Side a b p w → j < w → Side a b (p + j) 1 × (moved b (a + n) (p + j) ≡ moved b (a + n) p + j)
+  moved-run o p w j (inl h) k =
+      (inl (omega (arith, h .1), omega (arith, h .1)), moved-low b (a + n) (p + j) (omega (arith, h .1)) ∙ rw (moved-low b (a + n) p (h .0)))
+  moved-run o p w j (inr h) k =
+      (inr (omega arith), moved-high b (a + n) (p + j) (omega arith) ∙ rw (moved-high b (a + n) p h) (omega arith))

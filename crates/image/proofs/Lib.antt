@@ -1,5 +1,12 @@
-pub mod CheckLaws
 pub mod AdmitLaws
+pub mod BodyLaws
+pub mod CheckLaws
+pub mod EditLaws
 pub mod FaultLaws
-pub mod PlaceLaws
 pub mod KindLaws
+pub mod PlaceLaws
+pub mod ReadLaws
+pub mod RebuildLaws
+pub mod SlotLaws
+pub mod TableLaws
+pub mod WriteLaws

@@ -1,0 +1,159 @@
+-- Lists of writes: what they leave, and what they put. Splices: where bytes go. Words one behind the other.
+use mathlib.Core.Path.{_≡_, refl, ap, sym, _∙_}
+use mathlib.Core.Logic.{_⊎_, inl, inr, _≢_}
+use mathlib.Core.List.{List, [], _∷_, _++_}
+use Prim.Native.Nat.{ℕ, zero, suc, _+_, _-_, _*_, _^_, _≤_, _<_}
+use native.Mathlib.Nat.{not-suc-le-zero, le-of-suc-le-suc, add-zero, zero-add}
+use native.Mathlib.Omega.{arith}
+use lib.ListN.{length, getD, take, drop, length-append, length-drop, List·getD-append}
+use lib.Seq.{sets, length-sets, getD-take, getD-drop, getD-append-add, length-take-le}
+use Rattle.bits.specs.Bytes.{bytesAt, wordAt, bytesOf, number}
+use Rattle.bits.proofs.TestLaws.{below}
+use Rattle.bits.proofs.ListLaws.{getD-past, AllBelow, below-append, below-take, below-drop, below-sets, below-nil, below-bytesOf}
+use Rattle.bits.proofs.ByteLaws.{bytesAt-ext, bytesAt-is, numberAt-ext, length-bytesOf, number-back}
+use Rattle.bits.proofs.WriteLaws.{sets-off, sets-byte}
+use Rattle.format.specs.Move.{moved}
+use Rattle.format.proofs.MoveLaws.{moved-high}
+use Rattle.image.specs.Edit.{splice, Write, writeAll, groups}
+use Rattle.image.specs.Rebuild.{wordsOf}
+
+-- ---- a list of writes
+
+-- a write does not touch place p; no write of a list does
+abbrev pub Off : ℕ → Write → Type 0
+Off p w = w .place ≤ p → w .place + length (w .bytes) ≤ p
+
+abbrev pub Outside : ℕ → List Write → Type 0
+Outside p [] = Unit {0}
+Outside p (w ∷ ws) = Off p w × Outside p ws
+
+pub length-writes : (ws : List Write) (s : List ℕ) → length (writeAll ws s) ≡ length s
+unfolding writeAll
+length-writes [] s = refl
+length-writes (w ∷ ws) s = length-writes ws (sets s (w .place) (w .bytes)) ∙ length-sets s (w .place) (w .bytes)
+
+pub writes-append : (xs ys : List Write) (s : List ℕ) → writeAll (xs ++ ys) s ≡ writeAll ys (writeAll xs s)
+unfolding writeAll
+writes-append [] ys s = refl
+writes-append (w ∷ xs) ys s = writes-append xs ys (sets s (w .place) (w .bytes))
+
+-- a byte that no write touches stays
+pub writes-off : (ws : List Write) (s : List ℕ) (p : ℕ) → Outside p ws → getD (writeAll ws s) p 0 ≡ getD s p 0
+unfolding writeAll
+writes-off [] s p o = refl
+writes-off (w ∷ ws) s p o = writes-off ws (sets s (w .place) (w .bytes)) p (o .1) ∙ sets-off (w .bytes) s (w .place) p (o .0)
+
+-- a byte after the writes hangs only on that byte before
+writes-byte : (ws : List Write) (s t : List ℕ) (p : ℕ) → length s ≡ length t → getD s p 0 ≡ getD t p 0 → getD (writeAll ws s) p 0 ≡ getD (writeAll ws t) p 0
+unfolding writeAll
+writes-byte [] s t p l e = e
+writes-byte (w ∷ ws) s t p l e =
+    writes-byte ws (sets s (w .place) (w .bytes)) (sets t (w .place) (w .bytes)) p (simp length-sets l) (sets-byte (w .bytes) s t (w .place) p l e)
+
+-- writes of bytes
+abbrev pub Bytes : List Write → Type 0
+Bytes [] = Unit {0}
+Bytes (w ∷ ws) = AllBelow 256 (w .bytes) × Bytes ws
+
+pub writes-below : (ws : List Write) (s : List ℕ) → Bytes ws → AllBelow 256 s → AllBelow 256 (writeAll ws s)
+unfolding writeAll
+writes-below [] s b h = h
+writes-below (w ∷ ws) s b h = writes-below ws (sets s (w .place) (w .bytes)) (b .1) (below-sets 256 (omega arith) (w .bytes) s (w .place) (b .0) h)
+
+-- ---- a group of writes for each number
+
+module _ (g : ℕ → List Write) (s : List ℕ) where
+  -- a byte that no group touches stays
+  pub groups-off : (p n : ℕ) → ((j : ℕ) → j < n → Outside p (g j)) → getD (writeAll (groups n g) s) p 0 ≡ getD s p 0
+  unfolding groups writeAll
+  groups-off p zero o = refl
+  groups-off p (suc n) o =
+      rw (writes-append (groups n g) (g n) s)
+      (writes-off (g n) (writeAll (groups n g) s) p (o n (omega arith)) ∙ groups-off p n (λ j h. o j (omega arith)))
+
+  -- a byte that only group i may touch is as after group i alone
+  pub groups-at : (p n i : ℕ) → i < n → ((j : ℕ) → j < n → j ≢ i → Outside p (g j)) → getD (writeAll (groups n g) s) p 0 ≡ getD (writeAll (g i) s) p 0
+  unfolding groups
+  groups-at p zero i h o = absurd (not-suc-le-zero h)
+  groups-at p (suc n) i h o =
+      rw (writes-append (groups n g) (g n) s)
+      (elim (below i n h) [
+        | inl e ↦ rw e (writes-byte (g n) (writeAll (groups n g) s) s p (length-writes (groups n g) s) (groups-off p n (λ j k. o j (omega arith) (λ q. omega arith))))
+        | inr l ↦ writes-off (g n) (writeAll (groups n g) s) p (o n (omega arith) (λ q. omega arith)) ∙ groups-at p n i l (λ j k. o j (omega arith))
+      ])
+
+  pub groups-below : (n : ℕ) → ((j : ℕ) → Bytes (g j)) → AllBelow 256 s → AllBelow 256 (writeAll (groups n g) s)
+  unfolding groups writeAll
+  groups-below zero b h = h
+  groups-below (suc n) b h = rw (writes-append (groups n g) (g n) s) (writes-below (g n) (writeAll (groups n g) s) (b n) (groups-below n b h))
+
+-- ---- splices
+
+module _ (a b : ℕ) (new s : List ℕ) (fits : a ≤ length s) where
+  pub splice-low : (p : ℕ) → p < a → getD (splice a b new s) p 0 ≡ getD s p 0
+  unfolding splice
+  splice-low p h = List·getD-append (take a s) (new ++ drop b s) 0 p (rw (length-take-le a s fits) h) ∙ getD-take a s p 0 h
+
+  pub splice-new : (j : ℕ) → j < length new → getD (splice a b new s) (a + j) 0 ≡ getD new j 0
+  unfolding splice
+  splice-new j h = getD-past (take a s) (new ++ drop b s) a j (length-take-le a s fits) ∙ List·getD-append new (drop b s) 0 j h
+
+  pub splice-high : (p : ℕ) → b ≤ p → getD (splice a b new s) (moved b (a + length new) p) 0 ≡ getD s p 0
+  unfolding splice
+  splice-high p h =
+      let e : p - b + (a + length new) ≡ a + (length new + (p - b)) = omega arith in
+      let f : b + (p - b) ≡ p = omega arith in
+      rw (moved-high b (a + length new) p h, e)
+      (getD-past (take a s) (new ++ drop b s) a (length new + (p - b)) (length-take-le a s fits)
+      ∙ getD-append-add new (drop b s) (p - b) 0 ∙ getD-drop b s (p - b) 0 ∙ rw f)
+
+  -- n bytes past the splice, before it, and in it
+  pub splice-after : (p n : ℕ) → b ≤ p → bytesAt (splice a b new s) (moved b (a + length new) p) n ≡ bytesAt s p n
+  splice-after p n h =
+      bytesAt-ext (splice a b new s) s n (moved b (a + length new) p) p
+      (λ j k.
+      ap (λ (q : ℕ). getD (splice a b new s) q 0)
+      (rw (moved-high b (a + length new) p h, moved-high b (a + length new) (p + j) (omega arith)) (omega arith))
+      ∙ splice-high (p + j) (omega arith))
+
+  pub splice-before : (p n : ℕ) → p + n ≤ a → bytesAt (splice a b new s) p n ≡ bytesAt s p n
+  splice-before p n h = bytesAt-ext (splice a b new s) s n p p (λ j k. splice-low (p + j) (omega arith))
+
+  pub splice-own : bytesAt (splice a b new s) a (length new) ≡ new
+  splice-own = bytesAt-is (splice a b new s) new a (length new) refl (λ j k. splice-new j k)
+
+  pub length-splice : b ≤ length s → length (splice a b new s) ≡ length s - b + (a + length new)
+  unfolding splice
+  length-splice h = simp (length-append, length-drop, length-take-le a s fits) (omega arith)
+
+pub splice-below : (a b : ℕ) (new s : List ℕ) → AllBelow 256 new → AllBelow 256 s → AllBelow 256 (splice a b new s)
+unfolding splice
+splice-below a b new s n h =
+    below-append 256 (omega arith) (take a s) (new ++ drop b s) (below-take 256 (omega arith) a s h)
+    (below-append 256 (omega arith) new (drop b s) n (below-drop 256 (omega arith) b s h))
+
+-- ---- words one behind the other
+
+pub length-words : (ws : List ℕ) → length (wordsOf ws) ≡ length ws * 4
+unfolding wordsOf
+length-words [] = refl
+length-words (w ∷ ws) = simp (length-append, length-bytesOf) (omega (arith, length-words ws))
+
+pub words-at : (ws : List ℕ) (j : ℕ) → j < length ws → ((k : ℕ) → k < length ws → getD ws k 0 < 2 ^ 32) → wordAt (wordsOf ws) (j * 4) ≡ getD ws j 0
+unfolding wordsOf
+words-at [] j h f = absurd (not-suc-le-zero h)
+words-at (w ∷ ws) zero h f =
+    ap number (bytesAt-is (bytesOf 4 w ++ wordsOf ws) (bytesOf 4 w) 0 4 (length-bytesOf 4 w)
+    (λ i k. rw zero-add (List·getD-append (bytesOf 4 w) (wordsOf ws) 0 i (rw length-bytesOf k))))
+    ∙ number-back 4 w (f 0 h)
+words-at (w ∷ ws) (suc j) h f =
+    numberAt-ext (bytesOf 4 w ++ wordsOf ws) (wordsOf ws) 4 (suc j * 4) (j * 4)
+    (λ i k.
+    let e : suc j * 4 + i ≡ 4 + (j * 4 + i) = omega arith in
+    rw e (getD-past (bytesOf 4 w) (wordsOf ws) 4 (j * 4 + i) (length-bytesOf 4 w)))
+    ∙ words-at ws j (le-of-suc-le-suc h) (λ k g. f (suc k) (omega arith))
+
+pub words-below : (ws : List ℕ) → AllBelow 256 (wordsOf ws)
+unfolding wordsOf
+words-below [] = below-nil 256 (omega arith)
+words-below (w ∷ ws) = below-append 256 (omega arith) (bytesOf 4 w) (wordsOf ws) (below-bytesOf 4 w) (words-below ws)
