@@ -5,3 +5,4 @@ pub mod MaskLaws
 pub mod TestLaws
 pub mod Word32Laws
 pub mod OutcomeLaws
+pub mod AsciiLaws

@@ -5,7 +5,7 @@ use Prim.Native.Nat.{ℕ, zero, suc, _+_, _-_, _≤_, _<_}
 use native.Mathlib.Nat.{add-zero, zero-add, add-suc, suc-add, not-suc-le-zero}
 use native.Mathlib.Omega.{arith}
 use borrow.Rule.Slice.PartMut.{putMid}
-use lib.ListN.{length, getD, set, take, drop, length-set, length-drop, take-append-drop, drop-of-length-le}
+use lib.ListN.{length, getD, set, take, drop, length-set, length-drop, take-append-drop, drop-of-length-le, replicate, length-replicate, getD-replicate}
 use native.Mathlib.Numerals.{add-one}
 use lib.Seq.{paste, paste-suc, take-all, sets, sets-eq, length-sets, set-append-left, length-take-le, getD-set-same, getD-set-other, set-getD}
 use Rattle.bits.specs.Bytes.{bytesAt, number, numberAt}
@@ -89,6 +89,11 @@ module _ (d s out : List ℕ) (at i : ℕ) (e : out ≡ paste d at s i) where
 
   pub copied-all : at + length s ≤ length d → i ≡ length s → out ≡ sets d at s
   copied-all h k = rw (sets-eq s d at h) (e ∙ rw (k, take-all (length s) s (omega arith)))
+
+-- zeros, byte by byte
+pub zeros-more : (d out : List ℕ) (at n i : ℕ) → out ≡ paste d at (replicate n 0) i → at + i < length d → i < n → set out (at + i) 0 ≡ paste d at (replicate n 0) (i + 1)
+zeros-more d out at n i e h k =
+    ap (set out (at + i)) (sym (getD-replicate n i 0 0 k)) ∙ copied-more d (replicate n 0) out at i e h (rw (length-replicate {A = ℕ} n 0) k)
 
 -- ---- a write that changes nothing, a write of everything
 
