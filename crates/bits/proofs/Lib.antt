@@ -3,6 +3,8 @@ pub mod WriteLaws
 pub mod FieldLaws
 pub mod MaskLaws
 pub mod TestLaws
+pub mod DecideLaws
+pub mod JudgeLaws
 pub mod Word32Laws
 pub mod OutcomeLaws
 pub mod AsciiLaws
