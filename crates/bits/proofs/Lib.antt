@@ -9,3 +9,4 @@ pub mod JudgeLaws
 pub mod Word32Laws
 pub mod SumLaws
 pub mod OutcomeLaws
+pub mod AsciiLaws

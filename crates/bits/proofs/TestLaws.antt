@@ -90,6 +90,15 @@ module _ (p : ℕ → Bool) where
       go true e = sym (all-at n i e h) ∙ f
       go false e = refl
 
+  -- a loop that goes up: at its start, and one more
+  pub all-none : allBelow 0 p ≡ true
+  unfolding allBelow
+  all-none = refl
+
+  pub all-next : (i : ℕ) → allBelow (i + 1) p ≡ both (p i) (allBelow i p)
+  unfolding allBelow
+  all-next i = rw add-one
+
   pub all-not : (n : ℕ) → allBelow n p ≡ false → (i : ℕ) × (i < n) × (p i ≡ false)
   unfolding allBelow
   all-not zero e = let z : _≡_ {A = ℕ} 0 1 = cc in absurd (omega arith)

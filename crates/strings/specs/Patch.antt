@@ -6,7 +6,7 @@ use lib.Dec.{leb, ltb, eqb}
 use lib.ListN.{length, getD}
 use lib.Seq.{sets}
 use Rattle.bits.specs.Choice.{pick, both, either, implies, allBelow, Check, judge}
-use Rattle.bits.specs.Bytes.{bytesOf}
+use Rattle.bits.specs.Bytes.{bytesOf, ascii}
 use Rattle.bits.specs.Outcome.{Outcome, refused, made}
 use Rattle.format.specs.declared.Layout.{Layout}
 use Rattle.format.specs.Table as table
@@ -21,15 +21,8 @@ use Rattle.image.specs.Kinds.{isIdentifier, rankOf}
 use Rattle.image.specs.Admission.{check, checks}
 use Rattle.image.specs.Rebuild.{region, padded, rebuild}
 use Rattle.image.specs.Fit.{fieldsFit}
-use Rattle.unicode.specs.Utf8.{isUtf8, utf16, unitBytes}
-
--- every byte is below 0x80
-unfoldable pub isAscii : List ℕ → Bool
-isAscii bs = allBelow (length bs) (λ j. ltb (getD bs j 0) 0x80)
-
--- a value as a string: "the value is narrow if ASCII, else UTF-16"
-unfoldable pub asString : List ℕ → Str
-asString value = pick (isAscii value) (record { wide = false; bytes = value }) (record { wide = true; bytes = unitBytes (utf16 value) })
+use Rattle.unicode.specs.Utf8.{isUtf8, utf16}
+use Rattle.string_region.specs.Strings.{asString, stringsWith}
 
 -- ---- in place: "entry narrow, value ASCII, byte lengths equal, and no other entry overlaps"
 
@@ -43,22 +36,11 @@ isAlone l s id = allBelow (stringsIn s) (λ j. implies (not (eqb j id)) (not (ov
 
 unfoldable pub fitsInPlace : Layout → List ℕ → ℕ → List ℕ → Bool
 fitsInPlace l s id value =
-    both (not (placeAt l s id .wide)) (both (isAscii value) (both (eqb (length value) (sizeOf (placeAt l s id))) (isAlone l s id)))
+    both (not (placeAt l s id .wide)) (both (ascii value) (both (eqb (length value) (sizeOf (placeAt l s id))) (isAlone l s id)))
 
 -- the value over the old bytes
 unfoldable pub inPlace : Layout → List ℕ → ℕ → List ℕ → List ℕ
 inPlace l s id value = sets s (storageAt l s + placeAt l s id .at) value
-
--- ---- otherwise rebuild, with the list of new strings
-
--- the values at 0 to n - 1
-unfoldable pub tabulate : {A : Type 0} → ℕ → (ℕ → A) → List A
-tabulate zero f = []
-tabulate (suc n) f = f 0 ∷ tabulate n (λ i. f (suc i))
-
--- the image's strings, with another one at id
-unfoldable pub stringsWith : Layout → List ℕ → ℕ → Str → List Str
-stringsWith l s id t = tabulate (stringsIn s) (λ i. pick (eqb i id) t (stringOf l s i))
 
 -- ---- the hash slot: "If the string is an identifier, its hash slot (its rank among identifiers) becomes the hash"
 
@@ -66,7 +48,7 @@ unfoldable pub rehashed : Layout → List ℕ → ℕ → List ℕ → List ℕ 
 rehashed l s id units out =
     pick (isIdentifier l s id) (sets out (hashesAt l s + rankOf l s id * table.hashEntry .width) (bytesOf (table.hashEntry .width) (hashOf units))) out
 
--- ---- the patched image; "Every accepted patch ends so": the file length and the footer
+-- ---- the patched image: in place, or rebuilt with the list of new strings; "Every accepted patch ends so": the file length and the footer
 
 unfoldable pub patched : Layout → List ℕ → ℕ → List ℕ → List ℕ
 patched l s id value =
