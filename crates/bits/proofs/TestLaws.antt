@@ -4,7 +4,6 @@ use mathlib.Core.Bool.{Bool, true, false}
 use mathlib.Core.Logic.{_⊎_, inl, inr}
 use Prim.Native.Nat.{ℕ, zero, suc, _+_, _-_, _*_, _≤_, _<_}
 use native.Mathlib.Nat.{not-suc-le-zero, add-zero, add-suc, add-assoc, zero-mul, suc-mul}
-use native.Mathlib.Numerals.{add-one}
 use native.Mathlib.Omega.{arith}
 use borrow.Author.Tests.{ltb-true, ltb-false}
 use lib.Dec.{ltb}
@@ -97,10 +96,6 @@ module _ (p : ℕ → Bool) where
       ]
 
 -- ---- a sum over all numbers below a bound
-
-pub sum-next : (f : ℕ → ℕ) (n : ℕ) → sumBelow (n + 1) f ≡ sumBelow n f + f n
-unfolding sumBelow
-sum-next f n = rw add-one
 
 pub sum-split : (f : ℕ → ℕ) (m n : ℕ) → sumBelow (m + n) f ≡ sumBelow m f + sumBelow n (λ j. f (m + j))
 unfolding sumBelow
