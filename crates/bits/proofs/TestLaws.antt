@@ -24,13 +24,15 @@ pub both-false : (a b : Bool) → both a b ≡ false → (a ≡ false) ⊎ (b �
 both-false true b h = inr h
 both-false false b h = inl refl
 
+pub either-not : (a b : Bool) → either a b ≡ false → (a ≡ false) × (b ≡ false)
+either-not true b h = let z : _≡_ {A = ℕ} 0 1 = cc in absurd (omega arith)
+either-not false b h = (refl, h)
+
 pub either-0 : (a b : Bool) → either a b ≡ false → a ≡ false
-either-0 true b h = h
-either-0 false b h = refl
+either-0 a b h = either-not a b h .0
 
 pub either-1 : (a b : Bool) → either a b ≡ false → b ≡ false
-either-1 true b h = let z : _≡_ {A = ℕ} 0 1 = cc in absurd (omega arith)
-either-1 false b h = h
+either-1 a b h = either-not a b h .1
 
 -- one of two tests that holds settles it, whichever it is
 pub either-or : (a b : Bool) → either a b ≡ true → (a ≡ true) ⊎ (b ≡ true)

@@ -7,3 +7,4 @@ pub mod Admitted
 pub mod Faults
 pub mod Edit
 pub mod Rebuild
+pub mod Fit
