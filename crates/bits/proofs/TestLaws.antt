@@ -4,7 +4,6 @@ use mathlib.Core.Bool.{Bool, true, false}
 use mathlib.Core.Logic.{_⊎_, inl, inr}
 use Prim.Native.Nat.{ℕ, zero, suc, _+_, _-_, _*_, _≤_, _<_}
 use native.Mathlib.Nat.{not-suc-le-zero, add-zero, add-suc, add-assoc, zero-mul, suc-mul}
-use native.Mathlib.Numerals.{add-one}
 use native.Mathlib.Omega.{arith}
 use borrow.Author.Tests.{ltb-true, ltb-false}
 use lib.Dec.{ltb}
@@ -25,13 +24,15 @@ pub both-false : (a b : Bool) → both a b ≡ false → (a ≡ false) ⊎ (b �
 both-false true b h = inr h
 both-false false b h = inl refl
 
+pub either-not : (a b : Bool) → either a b ≡ false → (a ≡ false) × (b ≡ false)
+either-not true b h = let z : _≡_ {A = ℕ} 0 1 = cc in absurd (omega arith)
+either-not false b h = (refl, h)
+
 pub either-0 : (a b : Bool) → either a b ≡ false → a ≡ false
-either-0 true b h = h
-either-0 false b h = refl
+either-0 a b h = either-not a b h .0
 
 pub either-1 : (a b : Bool) → either a b ≡ false → b ≡ false
-either-1 true b h = let z : _≡_ {A = ℕ} 0 1 = cc in absurd (omega arith)
-either-1 false b h = h
+either-1 a b h = either-not a b h .1
 
 pub either-not : (a b : Bool) → either a b ≡ false → (a ≡ false) × (b ≡ false)
 either-not a b h = (either-0 a b h, either-1 a b h)
@@ -109,10 +110,6 @@ module _ (p : ℕ → Bool) where
       ]
 
 -- ---- a sum over all numbers below a bound
-
-pub sum-next : (f : ℕ → ℕ) (n : ℕ) → sumBelow (n + 1) f ≡ sumBelow n f + f n
-unfolding sumBelow
-sum-next f n = rw add-one
 
 pub sum-split : (f : ℕ → ℕ) (m n : ℕ) → sumBelow (m + n) f ≡ sumBelow m f + sumBelow n (λ j. f (m + j))
 unfolding sumBelow

@@ -8,7 +8,7 @@ use native.Mathlib.Omega.{arith}
 use borrow.Author.Tests.{ltb-true, lt-ltb, eqb-false, ne-eqb, not-true}
 use lib.ListN.{length}
 use Rattle.bits.proofs.TestLaws.{below-or, either-true}
-use Rattle.bits.proofs.JudgeLaws.{rising, given, Shows, judge-most, judged-exactly, judged-none}
+use Rattle.bits.proofs.JudgeLaws.{rising, given, Shows, Shows.nothing, Shows._also_, judge-most, judged-exactly, judged-none}
 use Rattle.format.specs.declared.Layout.{Layout}
 use Rattle.format.specs.declared.Layout.the-variants.{Modern, Legacy}
 use Rattle.format.specs.Table as table
@@ -36,57 +36,26 @@ module _ (l : Layout) (s : List ℕ) where
   -- a check that is met is a fault of its number
   shows : Shows (Fault l s) (checks l s)
   unfolding checks
-  shows = (
-    λ t. short (rw (records-at l) at (ltb-true (length s) (table.recordRow l .at + footerLength) t)),
-    (
-      λ t. long (ltb-true 67108864 (length s) t),
-      (
-        λ t. magic (eqb-false _ _ (not-true _ t)),
-        (
-          λ t. sections (ltb-true (length s) (tailAt l s + footerLength) t),
-          (
-            λ t. kinds (eqb-false (covered (kindIn l s) (kindsIn s)) (stringsIn s) (not-true _ t)),
-            (
-              λ t. identifiers (eqb-false (identified (kindIn l s) (kindsIn s)) (identifiersIn s) (not-true _ t)),
-              (
-                λ t. overflows (overflows-counted l s .wrong (not-true _ t)),
-                (
-                  λ t. let (i, h, (f, w)) = overflows-numbered l s .wrong (not-true _ t) in misnumbered i h f w,
-                  (
-                    λ t. let (i, h, w) = strings-stored l s .wrong (not-true _ t) in leaves i h w,
-                    (
-                      λ t. let (i, h, (f, (j, k, w))) = strings-narrow l s .wrong (not-true _ t) in exceeds i j h f k w,
-                      (
-                        λ t. let (i, h, (f, w)) = headers-in l s .wrong (not-true _ t) in header i h f w,
-                        (
-                          λ t. let (i, h, w) = bodies-in l s .wrong (not-true _ t) in body i h w,
-                          (
-                            λ t. let (i, h, (f, w)) = infos-in l s .wrong (not-true _ t) in info i h f w,
-                            (
-                              λ t. let (f, w) = debug-in l s .wrong (not-true _ t) in debug f w,
-                              (
-                                λ t. let (i, h, (j, k, (d, (f, (g, (a, b)))))) = headers-apart l s .wrong (not-true _ t) in
-                                    headers i j h k d f g (share _ _ _ _ (some-words l) (some-words l) a b),
-                                (
-                                  λ t. let (i, h, (j, k, (z, (g, (a, b))))) = bodies-apart l s .wrong (not-true _ t) in
-                                      bodies j i k h g (share _ _ _ _ (some-words l) z a b),
-                                  tt,
-                                ),
-                              ),
-                            ),
-                          ),
-                        ),
-                      ),
-                    ),
-                  ),
-                ),
-              ),
-            ),
-          ),
-        ),
-      ),
-    ),
-  )
+  shows =
+      (λ t. short (rw (records-at l) at (ltb-true (length s) (table.recordRow l .at + footerLength) t)))
+      also (λ t. long (ltb-true 67108864 (length s) t))
+      also (λ t. magic (eqb-false _ _ (not-true _ t)))
+      also (λ t. sections (ltb-true (length s) (tailAt l s + footerLength) t))
+      also (λ t. kinds (eqb-false (covered (kindIn l s) (kindsIn s)) (stringsIn s) (not-true _ t)))
+      also (λ t. identifiers (eqb-false (identified (kindIn l s) (kindsIn s)) (identifiersIn s) (not-true _ t)))
+      also (λ t. overflows (overflows-counted l s .wrong (not-true _ t)))
+      also (λ t. let (i, h, (f, w)) = overflows-numbered l s .wrong (not-true _ t) in misnumbered i h f w)
+      also (λ t. let (i, h, w) = strings-stored l s .wrong (not-true _ t) in leaves i h w)
+      also (λ t. let (i, h, (f, (j, k, w))) = strings-narrow l s .wrong (not-true _ t) in exceeds i j h f k w)
+      also (λ t. let (i, h, (f, w)) = headers-in l s .wrong (not-true _ t) in header i h f w)
+      also (λ t. let (i, h, w) = bodies-in l s .wrong (not-true _ t) in body i h w)
+      also (λ t. let (i, h, (f, w)) = infos-in l s .wrong (not-true _ t) in info i h f w)
+      also (λ t. let (f, w) = debug-in l s .wrong (not-true _ t) in debug f w)
+      also (λ t.
+      let (i, h, (j, k, (d, (f, (g, (a, b)))))) = headers-apart l s .wrong (not-true _ t) in
+      headers i j h k d f g (share _ _ _ _ (some-words l) (some-words l) a b))
+      also (λ t. let (i, h, (j, k, (z, (g, (a, b))))) = bodies-apart l s .wrong (not-true _ t) in bodies j i k h g (share _ _ _ _ (some-words l) z a b))
+      also nothing
 
   -- and a fault's check is met
   gives : (n : ℕ) → Fault l s n → given n (checks l s) ≡ true

@@ -27,11 +27,11 @@ times-bit r false = mul-zero r
 module _ (w : ℕ → ℕ) where
   -- ---- run k covers the ids from the end of the runs before it on
 
-  covered-next : (k : ℕ) → covered w (suc k) ≡ covered w k + runOf (w k)
+  pub covered-next : (k : ℕ) → covered w (suc k) ≡ covered w k + runOf (w k)
   unfolding covered sumBelow
   covered-next k = refl
 
-  identified-next : (k : ℕ) → identified w (suc k) ≡ identified w k + identifierRun (w k)
+  pub identified-next : (k : ℕ) → identified w (suc k) ≡ identified w k + identifierRun (w k)
   unfolding identified sumBelow
   identified-next k = refl
 
@@ -100,8 +100,10 @@ module _ (w : ℕ → ℕ) where
       elim (which (ltb left (runOf (w k)))) [
         | inl t ↦
             let b : left < runOf (w k) = ltb-true left (runOf (w k)) t in
-            let f : flagOf w (k + suc n) (covered w k + left) ≡ isIdentifierRun (w k) = flag-in-run w (k + suc n) k (covered w k + left) (omega arith) (omega arith) (omega arith) in
-            let r : rankBy w (k + suc n) (covered w k + left) ≡ identified w k + pick (isIdentifierRun (w k)) left 0 = rank-in-run w (k + suc n) k left (omega arith) (omega arith) in
+            let f : flagOf w (k + suc n) (covered w k + left) ≡ isIdentifierRun (w k) =
+            flag-in-run w (k + suc n) k (covered w k + left) (omega arith) (omega arith) (omega arith) in
+            let r : rankBy w (k + suc n) (covered w k + left) ≡ identified w k + pick (isIdentifierRun (w k)) left 0 =
+            rank-in-run w (k + suc n) k left (omega arith) (omega arith) in
             rw t (λ i. record { flag = sym f i; rank = sym r i })
         | inr t ↦
             let b : runOf (w k) ≤ left = ltb-false left (runOf (w k)) t in
