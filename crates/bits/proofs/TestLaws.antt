@@ -6,7 +6,7 @@ use Prim.Native.Nat.{ℕ, _≤_, _<_}
 use native.Mathlib.Omega.{arith}
 use borrow.Author.Tests.{ltb-true, ltb-false}
 use lib.Dec.{ltb}
-use Rattle.bits.specs.Choice.{both}
+use Rattle.bits.specs.Choice.{both, either}
 
 pub both-0 : (a b : Bool) → both a b ≡ true → a ≡ true
 both-0 true b h = refl
@@ -15,6 +15,10 @@ both-0 false b h = h
 pub both-1 : (a b : Bool) → both a b ≡ true → b ≡ true
 both-1 true b h = h
 both-1 false b h = let z : _≡_ {A = ℕ} 0 1 = cc in absurd (omega arith)
+
+pub either-not : (a b : Bool) → either a b ≡ false → (a ≡ false) × (b ≡ false)
+either-not true b h = let z : _≡_ {A = ℕ} 0 1 = cc in absurd (omega arith)
+either-not false b h = (refl, h)
 
 -- a test decides
 pub which : (b : Bool) → (b ≡ true) ⊎ (b ≡ false)

@@ -6,3 +6,4 @@ pub mod Admission
 pub mod Admitted
 pub mod Edit
 pub mod Rebuild
+pub mod Fit
