@@ -8,6 +8,7 @@ use lib.ListN.{length, getD, take, drop}
 use lib.Pow.{high}
 use lib.Seq.{drop-cons}
 use Rattle.bits.specs.Bytes.{bytesAt, number, bytesOf, numberAt}
+use Rattle.bits.proofs.ListLaws.{AllBelow}
 
 pub length-bytesOf : (n x : ℕ) → length (bytesOf n x) ≡ n
 unfolding bytesOf
@@ -40,6 +41,10 @@ pub bytesAt-self : (xs : List ℕ) → bytesAt xs 0 (length xs) ≡ xs
 unfolding bytesAt
 bytesAt-self [] = refl
 bytesAt-self (x ∷ xs) = rw (bytesAt-cons x xs (length xs) 0, bytesAt-self xs)
+
+-- and as the same number
+pub numberAt-ext : (s t : List ℕ) (n p q : ℕ) → ((j : ℕ) → j < n → getD s (p + j) 0 ≡ getD t (q + j) 0) → numberAt s p n ≡ numberAt t q n
+numberAt-ext s t n p q h = ap number (bytesAt-ext s t n p q h)
 
 -- n bytes from a place on are a list, if byte by byte they are
 pub bytesAt-is : (s xs : List ℕ) (p n : ℕ) → length xs ≡ n → ((j : ℕ) → j < n → getD s (p + j) 0 ≡ getD xs j 0) → bytesAt s p n ≡ xs
@@ -94,6 +99,21 @@ pub number-back : (n x : ℕ) → x < 256 ^ n → number (bytesOf n x) ≡ x
 unfolding number bytesOf
 number-back zero x h = omega arith
 number-back (suc n) x h = rw (number-back n (x / 256) (omega arith)) (omega arith)
+
+-- n bytes hold a number below 256 ^ n
+number-lt : (bs : List ℕ) → AllBelow 256 bs → number bs < 256 ^ length bs
+unfolding number
+number-lt [] h = omega arith
+number-lt (b ∷ bs) h = rw pow-suc (omega (arith, h 0, number-lt bs (λ j. h (suc j))))
+
+bytesAt-below : (s : List ℕ) (n p : ℕ) → AllBelow 256 s → AllBelow 256 (bytesAt s p n)
+unfolding bytesAt
+bytesAt-below s zero p h j = omega arith
+bytesAt-below s (suc n) p h zero = h p
+bytesAt-below s (suc n) p h (suc j) = bytesAt-below s n (suc p) h j
+
+pub numberAt-lt : (s : List ℕ) (p n : ℕ) → AllBelow 256 s → numberAt s p n < 256 ^ n
+numberAt-lt s p n h = rw length-bytesAt at (number-lt (bytesAt s p n) (bytesAt-below s n p h))
 
 -- the sum that code forms of 4 bytes
 pub word-sum : (s : List ℕ) (at : ℕ)

@@ -1,7 +1,10 @@
+pub mod ListLaws
 pub mod ByteLaws
 pub mod WriteLaws
 pub mod FieldLaws
 pub mod MaskLaws
 pub mod TestLaws
+pub mod DecideLaws
+pub mod JudgeLaws
 pub mod Word32Laws
 pub mod OutcomeLaws

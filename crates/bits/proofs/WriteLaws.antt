@@ -1,15 +1,15 @@
 -- Writes to a list: one read back, one apart from what is read, one after the other, one within the other, one to a lent part.
 use mathlib.Core.Path.{_≡_, refl, ap, sym, _∙_}
 use mathlib.Core.List.{List, [], _∷_, _++_, append-assoc, append-nil}
-use Prim.Native.Nat.{ℕ, zero, suc, _+_, _-_, _≤_, _<_}
+use Prim.Native.Nat.{ℕ, zero, suc, _+_, _-_, _^_, _≤_, _<_}
 use native.Mathlib.Nat.{add-zero, zero-add, add-suc, suc-add, not-suc-le-zero}
 use native.Mathlib.Omega.{arith}
 use borrow.Rule.Slice.PartMut.{putMid}
 use lib.ListN.{length, getD, set, take, drop, length-set, length-drop, take-append-drop, drop-of-length-le}
 use native.Mathlib.Numerals.{add-one}
 use lib.Seq.{paste, paste-suc, take-all, sets, sets-eq, length-sets, set-append-left, length-take-le, getD-set-same, getD-set-other, set-getD}
-use Rattle.bits.specs.Bytes.{bytesAt, number, numberAt}
-use Rattle.bits.proofs.ByteLaws.{bytesAt-ext, bytesAt-is}
+use Rattle.bits.specs.Bytes.{bytesAt, number, numberAt, bytesOf}
+use Rattle.bits.proofs.ByteLaws.{bytesAt-ext, bytesAt-is, length-bytesOf, number-back}
 
 -- the code's places i + 1, i + 2, i + 3 as `sets` goes through them
 pub next1 : (i : ℕ) → i + 1 ≡ suc i
@@ -45,6 +45,16 @@ bytesAt-off vs s at p n o = bytesAt-ext (sets s at vs) s n p p (λ j h. sets-off
 -- the bytes that were written are read back
 pub bytesAt-back : (vs s : List ℕ) (at : ℕ) → at + length vs ≤ length s → bytesAt (sets s at vs) at (length vs) ≡ vs
 bytesAt-back vs s at h = bytesAt-is (sets s at vs) vs at (length vs) refl (λ j k. sets-in vs s at j h k)
+
+-- a number of n bytes that was written is read back
+pub numberAt-back : (s : List ℕ) (at n x : ℕ) → at + n ≤ length s → x < 256 ^ n → numberAt (sets s at (bytesOf n x)) at n ≡ x
+numberAt-back s at n x h k =
+    let l : length (bytesOf n x) ≡ n = length-bytesOf n x in
+    ap number (bytesAt-is (sets s at (bytesOf n x)) (bytesOf n x) at n l (λ j g. sets-in (bytesOf n x) s at j (omega arith) (omega arith))) ∙ number-back n x k
+
+-- a number of m bytes apart from the n bytes that are written is as it was
+pub numberAt-off : (s : List ℕ) (at n x p m : ℕ) → (at < p + m → at + n ≤ p) → numberAt (sets s at (bytesOf n x)) p m ≡ numberAt s p m
+numberAt-off s at n x p m o = ap number (bytesAt-off (bytesOf n x) s at p m (λ h. omega (arith, o h, length-bytesOf n x)))
 
 -- ---- two writes
 

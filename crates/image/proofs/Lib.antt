@@ -1,0 +1,3 @@
+pub mod CheckLaws
+pub mod AdmitLaws
+pub mod FaultLaws
