@@ -14,7 +14,7 @@ use Rattle.footer.specs.Footer.{footerLength}
 use Rattle.footer.specs.Finalize.{sizeLimit}
 use Rattle.image.specs.Sections.{functionsIn, kindsIn, identifiersIn, stringsIn, overflowsIn, storageIn, recordAt, kindsAt, hashesAt, smallAt, overAt, storageAt, up4, tailAt}
 use Rattle.sections.specs.declared.Places.{Places}
-use Rattle.sections.specs.Places.{placesOf, Fits}
+use Rattle.sections.specs.Places.{placesOf, Fits, Placed}
 
 -- ---- the code's sums
 
@@ -113,8 +113,8 @@ of-places l s h =
       most = h .most;
     }
 
-pub sectioned : (p : Places) (s : List ℕ) → p ≡ placesOf (p .layout) s → Fits (p .layout) s → Sectioned p s
-sectioned p s e h = subst⁻¹ (λ (q : Places). Sectioned q s) e (of-places (p .layout) s h)
+pub sectioned : (p : Places) (s : List ℕ) → Placed p s → Sectioned p s
+sectioned p s h = subst⁻¹ (λ (q : Places). Sectioned q s) (h .is) (of-places (p .layout) s (h .fits))
 
 -- each record lies in the image
 before-kinds : (l : Layout) (s : List ℕ) (i : ℕ) → i < functionsIn s → recordAt l i + table.recordRow l .width ≤ kindsAt l s

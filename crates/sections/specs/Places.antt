@@ -1,4 +1,5 @@
 -- The record of places. 01, Forms to change: "`BytecodeFile` becomes a record of places, derived anew per call".
+use mathlib.Core.Path.{_≡_}
 use mathlib.Core.List.{List}
 use Prim.Native.Nat.{ℕ, _+_, _-_, _≤_}
 use lib.ListN.{length}
@@ -32,3 +33,8 @@ placesOf l s =
 pub record Fits (l : Layout) (s : List ℕ) : Type 0 where
   pub most : length s ≤ sizeLimit
   pub room : tailAt l s + footerLength ≤ length s
+
+-- a record of places is an image's, and its sections lie in it
+pub record Placed (p : Places) (s : List ℕ) : Type 0 where
+  pub is : p ≡ placesOf (p .layout) s
+  pub fits : Fits (p .layout) s
