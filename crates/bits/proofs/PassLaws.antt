@@ -2,24 +2,19 @@
 use mathlib.Core.Path.{_≡_, refl, sym, _∙_}
 use mathlib.Core.Bool.{Bool, true, false, not}
 use Prim.Native.Nat.{ℕ, zero, suc, _+_, _<_}
-use native.Mathlib.Numerals.{add-one}
 use native.Mathlib.Omega.{arith}
 use borrow.Author.Tests.{not-true, not-false}
 use Rattle.bits.specs.Choice.{both, allBelow}
-use Rattle.bits.proofs.TestLaws.{all-fails}
+use Rattle.bits.proofs.TestLaws.{all-fails, all-next}
 
 module _ (p : ℕ → Bool) where
-  pub all-next : (i : ℕ) → allBelow (i + 1) p ≡ both (p i) (allBelow i p)
-  unfolding allBelow
-  all-next i = rw add-one
-
   pub pass-none : allBelow 0 p ≡ true
   unfolding allBelow
   pass-none = refl
 
   -- after `if !test(i) { return false; }`
   pub pass-next : (i : ℕ) (r : Bool) → r ≡ p i → not r ≡ false → allBelow i p ≡ true → allBelow (i + 1) p ≡ true
-  pass-next i r e h a = rw (all-next i, ← e, not-false r h, a)
+  pass-next i r e h a = rw (all-next p i, ← e, not-false r h, a)
 
   -- in that branch
   pub pass-stop : (n i : ℕ) (r : Bool) → i < n → r ≡ p i → not r ≡ true → false ≡ allBelow n p

@@ -4,6 +4,7 @@ use mathlib.Core.Bool.{Bool, true, false}
 use mathlib.Core.Logic.{_⊎_, inl, inr}
 use Prim.Native.Nat.{ℕ, zero, suc, _+_, _-_, _*_, _≤_, _<_}
 use native.Mathlib.Nat.{not-suc-le-zero, add-zero, add-suc, add-assoc, zero-mul, suc-mul}
+use native.Mathlib.Numerals.{add-one}
 use native.Mathlib.Omega.{arith}
 use borrow.Author.Tests.{ltb-true, ltb-false}
 use lib.Dec.{ltb}
@@ -33,9 +34,6 @@ either-0 a b h = either-not a b h .0
 
 pub either-1 : (a b : Bool) → either a b ≡ false → b ≡ false
 either-1 a b h = either-not a b h .1
-
-pub either-not : (a b : Bool) → either a b ≡ false → (a ≡ false) × (b ≡ false)
-either-not a b h = (either-0 a b h, either-1 a b h)
 
 -- one of two tests that holds settles it, whichever it is
 pub either-or : (a b : Bool) → either a b ≡ true → (a ≡ true) ⊎ (b ≡ true)
@@ -110,6 +108,10 @@ module _ (p : ℕ → Bool) where
       ]
 
 -- ---- a sum over all numbers below a bound
+
+pub sum-next : (f : ℕ → ℕ) (n : ℕ) → sumBelow (n + 1) f ≡ sumBelow n f + f n
+unfolding sumBelow
+sum-next f n = rw add-one
 
 pub sum-split : (f : ℕ → ℕ) (m n : ℕ) → sumBelow (m + n) f ≡ sumBelow m f + sumBelow n (λ j. f (m + j))
 unfolding sumBelow
