@@ -5,14 +5,14 @@ use Prim.Native.Nat.{ℕ, _+_}
 use lib.Dec.{leb, ltb, eqb}
 use lib.ListN.{length}
 use lib.Seq.{sets}
-use Rattle.bits.specs.Choice.{pick, both, either, implies, allBelow, judge}
+use Rattle.bits.specs.Choice.{pick, both, either, implies, allBelow, check, judge}
 use Rattle.bits.specs.Outcome.{Outcome, refused, made}
 use Rattle.format.specs.declared.Layout.{Layout}
 use Rattle.format.specs.Move.{moved}
 use Rattle.footer.specs.Finalize.{sizeLimit, lengthed, sealed}
 use Rattle.image.specs.Sections.{functionsIn, debugIn}
 use Rattle.image.specs.Functions.{Func, funcOf}
-use Rattle.image.specs.Admission.{check, checks}
+use Rattle.image.specs.Admission.{checks}
 use Rattle.image.specs.Rebuild.{resize}
 use Rattle.image.specs.Fit.{beyond, sizeRow, fieldsFit}
 

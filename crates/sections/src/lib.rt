@@ -4,10 +4,10 @@ use format::Layout;
 ghost use mathlib.Core.Path.{_≡_};
 ghost use Prim.Native.Nat.{_+_, _*_, _≤_, _<_};
 ghost use lib.ListN.{length};
-ghost use Rattle.bits.specs.Bytes.{wordAt};
+ghost use Rattle.bits.specs.Bytes.{wordAt, up4};
 ghost use Rattle.format.specs.Table.{rowOf, rowCount};
 ghost use Rattle.footer.specs.Footer.{footerLength};
-ghost use Rattle.image.specs.Sections.{recordAt, up4};
+ghost use Rattle.image.specs.Sections.{recordAt};
 ghost use Rattle.sections.specs.Places.{placesOf};
 
 // The counts of the header, and the start of each section. The records start where the table says.

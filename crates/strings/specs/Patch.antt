@@ -5,7 +5,7 @@ use Prim.Native.Nat.{ℕ, zero, suc, _+_, _*_}
 use lib.Dec.{leb, ltb, eqb}
 use lib.ListN.{length, getD}
 use lib.Seq.{sets}
-use Rattle.bits.specs.Choice.{pick, both, either, implies, allBelow, Check, judge}
+use Rattle.bits.specs.Choice.{pick, both, either, implies, allBelow, Check, check, judge}
 use Rattle.bits.specs.Bytes.{bytesOf, ascii}
 use Rattle.bits.specs.Outcome.{Outcome, refused, made}
 use Rattle.format.specs.declared.Layout.{Layout}
@@ -18,7 +18,7 @@ use Rattle.footer.specs.Finalize.{sizeLimit, lengthed, sealed}
 use Rattle.image.specs.Sections.{stringsIn, hashesAt, smallAt, storageAt, tailAt}
 use Rattle.image.specs.Strings.{Str, sizeOf, placeAt, stringOf, unitsOf}
 use Rattle.image.specs.Kinds.{isIdentifier, rankOf}
-use Rattle.image.specs.Admission.{check, checks}
+use Rattle.image.specs.Admission.{checks}
 use Rattle.image.specs.Rebuild.{region, padded, rebuild}
 use Rattle.image.specs.Fit.{fieldsFit}
 use Rattle.unicode.specs.Utf8.{isUtf8, utf16}
