@@ -13,8 +13,8 @@ use lib.ListN.{length, getD}
 use borrow.Author.Tests.{leb-true, leb-false, le-leb, lt-leb, ltb-true, lt-ltb, le-ltb, eqb-true, not-true, not-false}
 use Rattle.bits.specs.Choice.{pick, both, implies, allBelow}
 use Rattle.bits.specs.Bytes.{wordAt}
-use Rattle.bits.proofs.TestLaws.{which, below, both-0, imp-use, all-fails}
-use Rattle.bits.proofs.PassLaws.{all-next, all-both, all-same, pass-next, pass-stop}
+use Rattle.bits.proofs.TestLaws.{which, below, both-0, imp-use, all-fails, all-next}
+use Rattle.bits.proofs.PassLaws.{all-both, all-same, pass-next, pass-stop}
 use Rattle.format.specs.declared.Layout.{Layout}
 use Rattle.format.specs.Table.{entryOffset, entryLength, ifSet}
 use Rattle.format.specs.Record.{valueOf}
