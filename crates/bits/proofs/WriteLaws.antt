@@ -52,6 +52,10 @@ pub sets-append : (a b l : List ℕ) (i : ℕ) → sets l i (a ++ b) ≡ sets (s
 sets-append [] b l i = rw add-zero
 sets-append (x ∷ a) b l i = rw (add-suc, ← suc-add) (sets-append a b (set l i x) (suc i))
 
+-- what is written behind a write is written with it
+pub sets-then : (l m n a b : List ℕ) (i at : ℕ) → m ≡ sets l i a → at ≡ i + length a → n ≡ sets m at b → n ≡ sets l i (a ++ b)
+sets-then l m n a b i at p e q = q ∙ rw (p, e) (sym (sets-append a b l i))
+
 set-append-right : (p q : List ℕ) (j x : ℕ) → set (p ++ q) (length p + j) x ≡ p ++ set q j x
 set-append-right [] q j x = rw zero-add
 set-append-right (y ∷ p) q j x = rw suc-add (ap (λ (l : List ℕ). y ∷ l) (set-append-right p q j x))
