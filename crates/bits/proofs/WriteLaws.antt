@@ -1,15 +1,15 @@
 -- Writes to a list: one read back, one apart from what is read, one after the other, one within the other, one to a lent part.
 use mathlib.Core.Path.{_≡_, refl, ap, sym, _∙_}
 use mathlib.Core.List.{List, [], _∷_, _++_, append-assoc, append-nil}
-use Prim.Native.Nat.{ℕ, zero, suc, _+_, _-_, _≤_, _<_}
+use Prim.Native.Nat.{ℕ, zero, suc, _+_, _-_, _*_, _≤_, _<_}
 use native.Mathlib.Nat.{add-zero, zero-add, add-suc, suc-add, not-suc-le-zero}
 use native.Mathlib.Omega.{arith}
 use borrow.Rule.Slice.PartMut.{putMid}
 use lib.ListN.{length, getD, set, take, drop, length-set, length-drop, take-append-drop, drop-of-length-le, replicate, length-replicate, getD-replicate}
 use native.Mathlib.Numerals.{add-one}
 use lib.Seq.{paste, paste-suc, take-all, sets, sets-eq, length-sets, set-append-left, length-take-le, getD-set-same, getD-set-other, set-getD}
-use Rattle.bits.specs.Bytes.{bytesAt, number, numberAt}
-use Rattle.bits.proofs.ByteLaws.{bytesAt-ext, bytesAt-is}
+use Rattle.bits.specs.Bytes.{bytesAt, number, numberAt, bytesOf, wordsOf}
+use Rattle.bits.proofs.ByteLaws.{bytesAt-ext, bytesAt-is, length-words, words-next}
 
 -- the code's places i + 1, i + 2, i + 3 as `sets` goes through them
 pub next1 : (i : ℕ) → i + 1 ≡ suc i
@@ -93,6 +93,14 @@ module _ (d s out : List ℕ) (at i : ℕ) (e : out ≡ paste d at s i) where
 
   pub copied-all : at + length s ≤ length d → i ≡ length s → out ≡ sets d at s
   copied-all h k = rw (sets-eq s d at h) (e ∙ rw (k, take-all (length s) s (omega arith)))
+
+-- words, one by one
+pub words-more : (ws d out out′ : List ℕ) (at i : ℕ) → out ≡ sets d at (wordsOf (take i ws)) → i < length ws → out′ ≡ sets out (at + i * 4) (bytesOf 4 (getD ws i 0))
+    → out′ ≡ sets d at (wordsOf (take (i + 1) ws))
+words-more ws d out out′ at i e h q =
+    rw (words-next ws i h)
+    (sets-then d out out′ (wordsOf (take i ws)) (bytesOf 4 (getD ws i 0)) at (at + i * 4) e
+    (omega (arith, length-words (take i ws), length-take-le i ws (omega arith))) q)
 
 -- zeros, byte by byte
 pub zeros-more : (d out : List ℕ) (at n i : ℕ) → out ≡ paste d at (replicate n 0) i → at + i < length d → i < n → set out (at + i) 0 ≡ paste d at (replicate n 0) (i + 1)

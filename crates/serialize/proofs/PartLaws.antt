@@ -1,20 +1,20 @@
 -- The parts of the image: their lengths, and each written at its place.
 use mathlib.Core.Path.{_≡_, refl, ap, sym, _∙_}
 use mathlib.Core.Bool.{false}
-use mathlib.Core.List.{List, [], _++_, append-nil}
+use mathlib.Core.List.{List, [], _∷_, _++_, append-nil}
 use Prim.Native.Nat.{ℕ, zero, suc, _+_, _-_, _*_, _/_, _≤_, _<_}
 use native.Mathlib.Nat.{add-zero}
 use native.Mathlib.Numerals.{add-one}
 use native.Mathlib.Omega.{arith}
 use borrow.Rule.Slice.PartMut.{putMid}
 use lib.ListN.{length, take, drop, replicate, length-append, length-replicate, length-drop, drop-of-length-le}
-use lib.Seq.{sets, length-sets}
+use lib.Seq.{sets}
 use Rattle.bits.specs.Bytes.{bytesOf, up4, zerosTo4}
 use Rattle.bits.specs.Fields.{withField}
 use Rattle.bits.specs.Outcome.{Answers, made}
 use Rattle.bits.specs.declared.Answer.{Answer}
-use Rattle.bits.proofs.ByteLaws.{length-bytesOf}
-use Rattle.bits.proofs.WriteLaws.{sets-then, sets-within, part-sets}
+use Rattle.bits.proofs.ByteLaws.{length-bytesOf, length-words}
+use Rattle.bits.proofs.WriteLaws.{sets-then, part-sets}
 use Rattle.format.specs.Entry.{entry}
 use Rattle.header_write.specs.declared.Wrote.{Wrote}
 use Rattle.header_write.specs.Slots.{Writes}
@@ -24,7 +24,7 @@ use Rattle.header_write.proofs.SlotLaws.{front}
 use Rattle.footer.specs.Footer.{footerLength}
 use Rattle.footer.specs.Finalize.{sizeLimit, lengthed, sealed, finalizeOf}
 use Rattle.footer.proofs.FinalizeLaws.{finalize-within, length-finalized, finalized-over}
-use Rattle.serialize.specs.Parts.{startOf, storageAt, bodyAt, largeAt, lengthOf, headerOf, recordOf, smallTable, sections, largeConstants, largeHeader, tailOf, laid, minimal}
+use Rattle.serialize.specs.Parts.{startOf, storageAt, bodyAt, largeAt, lengthOf, headerOf, recordOf, smallTable, sections, largeHeader, tailOf, laid, minimal}
 
 -- ---- lengths
 
@@ -44,7 +44,7 @@ length-smallTable ends (suc n) =
 
 length-largeHeader : (begin size : ℕ) → length (largeHeader begin size) ≡ 40
 unfolding largeHeader
-length-largeHeader begin size = simp length-sets
+length-largeHeader begin size = length-words (begin ∷ 1 ∷ 0 ∷ size ∷ 0 ∷ 0 ∷ 1 ∷ 1 ∷ 0 ∷ 2 ∷ [])
 
 length-sections : (v : ℕ) (storage ends : List ℕ) (p : ℕ) → length (sections v storage ends p) ≡ bodyAt (length ends) (length storage)
 unfolding sections
@@ -118,19 +118,6 @@ module _ (v : ℕ) (storage ends : List ℕ) (p : ℕ) (o o1 o2 o3 o4 o5 o6 : Li
       sets-then o o5 o6 (d ++ storage) _ 0 _ f5 (omega (arith, length-append d storage)) e6
 
 module _ (o o1 o2 o3 : List ℕ) where
-  -- the constants, then the two words within them
-  pub large-laid : (at begin size : ℕ) → at + 40 ≤ length o → o1 ≡ sets o at largeConstants → o2 ≡ sets o1 (at + 0) (bytesOf 4 begin) → o3 ≡ sets o2 (at + 12) (bytesOf 4 size)
-      → o3 ≡ sets o at (largeHeader begin size)
-  unfolding largeHeader
-  large-laid at begin size h e1 e2 e3 =
-      let b = bytesOf 4 begin in
-      let s = bytesOf 4 size in
-      let k = length-bytesOf 4 begin in
-      let l = length-bytesOf 4 size in
-      let m = length-sets largeConstants 0 b in
-      let f2 : o2 ≡ sets o at (sets largeConstants 0 b) = e2 ∙ rw e1 (sets-within o largeConstants b at 0 h (omega arith)) in
-      e3 ∙ rw f2 (sets-within o (sets largeConstants 0 b) s at 12 (omega arith) (omega arith))
-
   pub tail-laid : (begin : ℕ) (body : List ℕ) → o1 ≡ sets o begin body → o2 ≡ sets o1 (begin + length body) (zerosTo4 (begin + length body))
       → o3 ≡ sets o2 (largeAt begin (length body)) (largeHeader begin (length body)) → o3 ≡ sets o begin (tailOf begin body)
   unfolding tailOf

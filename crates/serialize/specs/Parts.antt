@@ -3,8 +3,7 @@ use mathlib.Core.Bool.{false}
 use mathlib.Core.List.{List, [], _∷_, _++_}
 use Prim.Native.Nat.{ℕ, zero, suc, _+_, _-_, _*_}
 use lib.ListN.{length, getD, take, replicate}
-use lib.Seq.{sets}
-use Rattle.bits.specs.Bytes.{bytesOf, up4, zerosTo4}
+use Rattle.bits.specs.Bytes.{bytesOf, wordsOf, up4, zerosTo4}
 use Rattle.format.specs.declared.Layout.the-variants.{Modern}
 use Rattle.format.specs.Table as table
 use Rattle.format.specs.Record.{withValue, putPointer}
@@ -74,31 +73,25 @@ sections version storage ends p =
 
 -- ---- the tail
 
--- serialize.rs, `large`: the large header with 0 for the body's offset and size
-abbrev pub largeConstants : List ℕ
-largeConstants =
-    -- body offset, then one parameter, `this`
-    0 ∷ 0 ∷ 0 ∷ 0 ∷ 1 ∷ 0 ∷ 0 ∷ 0
-    -- loop depth, body size
-    ∷ 0 ∷ 0 ∷ 0 ∷ 0 ∷ 0 ∷ 0 ∷ 0 ∷ 0
-    -- name, number registers
-    ∷ 0 ∷ 0 ∷ 0 ∷ 0 ∷ 0 ∷ 0 ∷ 0 ∷ 0
-    -- one other register, a frame of one
-    ∷ 1 ∷ 0 ∷ 0 ∷ 0 ∷ 1 ∷ 0 ∷ 0 ∷ 0
-    -- four caches, the flags (2: may be called with and without `new`), zeros to a multiple of 4
-    ∷ 0 ∷ 0 ∷ 0 ∷ 0 ∷ 2 ∷ 0 ∷ 0 ∷ 0
-    ∷ []
-
--- the length of the whole
-abbrev pub lengthOf : ℕ → ℕ → ℕ → ℕ
-lengthOf n storage size = largeAt (bodyAt n storage) size + length largeConstants + footerLength
-
--- the large header of a body
+-- the large header of a body: serialize.rs, `large`, four bytes of caches, the flags byte, zeros to a multiple of 4
 unfoldable pub largeHeader : ℕ → ℕ → List ℕ
 largeHeader begin size =
-    sets (sets largeConstants (table.largeOffset .at) (bytesOf (table.largeOffset .width) begin))
-    (table.modernLargeSize .at)
-    (bytesOf (table.modernLargeSize .width) size)
+    wordsOf
+    -- body offset; one parameter, `this`; loop depth; body size
+    (begin ∷ 1 ∷ 0 ∷ size
+    -- name; number registers; one other register; a frame of one
+    ∷ 0 ∷ 0 ∷ 1 ∷ 1
+    -- caches; flags: may be called with and without `new`
+    ∷ 0 ∷ 2
+    ∷ [])
+
+-- its length
+abbrev pub largeLength : ℕ
+largeLength = 40
+
+-- the length of the whole image
+abbrev pub lengthOf : ℕ → ℕ → ℕ → ℕ
+lengthOf n storage size = largeAt (bodyAt n storage) size + largeLength + footerLength
 
 -- body, zeros, large header, from the place where the body begins
 unfoldable pub tailOf : ℕ → List ℕ → List ℕ

@@ -16,7 +16,7 @@ ghost use Rattle.bits.specs.Words.{whole};
 ghost use Rattle.bits.specs.Outcome.{Answers, answered, made, roomed};
 ghost use Rattle.format.specs.Entry.{entry};
 ghost use Rattle.footer.specs.Finalize.{sizeLimit};
-ghost use Rattle.serialize.specs.Parts.{startOf, kindsAt, smallAt, storageAt, bodyAt, largeAt, lengthOf, headerOf, recordOf, smallTable, sections, largeHeader, tailOf, minimal};
+ghost use Rattle.serialize.specs.Parts.{startOf, kindsAt, smallAt, storageAt, bodyAt, largeAt, lengthOf, headerOf, recordOf, smallTable, sections, largeLength, largeHeader, tailOf, minimal};
 ghost use Rattle.serialize.specs.Builder.{endsAscend, allSmall, lengthAnswer, built};
 
 // The first version with modern headers.
@@ -29,50 +29,6 @@ const FAR: usize = 0x800000;
 
 // The length of a large header.
 const LARGE_LEN: usize = 40;
-
-// The large header of a function, with 0 for the offset and the size of its body.
-const LARGE_HEADER: [u8; LARGE_LEN] = [
-    0,
-    0,
-    0,
-    0,
-    1,
-    0,
-    0,
-    0, // body offset; one parameter, `this`
-    0,
-    0,
-    0,
-    0,
-    0,
-    0,
-    0,
-    0, // loop depth; body size
-    0,
-    0,
-    0,
-    0,
-    0,
-    0,
-    0,
-    0, // name; number registers
-    1,
-    0,
-    0,
-    0,
-    1,
-    0,
-    0,
-    0, // one other register; a frame of one
-    0,
-    0,
-    0,
-    0,
-    2,
-    0,
-    0,
-    0, // four caches; flags: may be called with and without `new`; zeros
-];
 
 // ---- Places.
 
@@ -284,23 +240,20 @@ fn put_sections(image: &mut [u8], version: u32, storage: &[u8], ends: &[u32], la
     bits::put_zeros(image, end, up4(end) - end);
 }
 
-// The large header of a body.
-fn put_large_header(image: &mut [u8], at: usize, begin: usize, size: usize)
-    requires { ⌜ at + 40 ≤ length (now image) ⌝ }
+// The large header of a body. Behind its 8 words there are four bytes of caches, and the flags: 2, a
+// function that may be called with and without `new`.
+fn put_large_header(image: &mut [u8], at: usize, begin: u32, size: u32)
+    requires { ⌜ at + largeLength ≤ length (now image) ⌝ }
     ensures { λ _. ⌜ now (image .exit) ≡ sets (now (image .entry)) at (largeHeader begin size) ⌝ }
 {
-    bits::put_bytes(image, at, &LARGE_HEADER);
-    bits::put_word(image, at + format::at(format::LARGE_OFFSET), begin as u64);
-    bits::put_word(
-        image,
-        at + format::at(format::MODERN_LARGE_SIZE),
-        size as u64,
-    );
+    // Parameters, loop depth; name, number registers, other registers, frame size.
+    let words = [begin, 1, 0, size, 0, 0, 1, 1, 0, 2];
+    bits::put_words(image, at, &words);
 }
 
 // The body, from `begin` on, and its large header.
 fn put_tail(image: &mut [u8], begin: usize, body: &[u8])
-    requires { ⌜ largeAt begin (length (now body)) + 40 ≤ length (now image) ⌝ }
+    requires { ⌜ largeAt begin (length (now body)) + largeLength ≤ length (now image) ⌝ }
     requires { ⌜ length (now image) ≤ sizeLimit ⌝ }
     ensures { λ _. ⌜ now (image .exit) ≡ sets (now (image .entry)) begin (tailOf begin (now (body .entry))) ⌝ }
 {
@@ -308,7 +261,7 @@ fn put_tail(image: &mut [u8], begin: usize, body: &[u8])
     let end = begin + body.len();
     let at = up4(end);
     bits::put_zeros(image, end, at - end);
-    put_large_header(image, at, begin, body.len());
+    put_large_header(image, at, begin as u32, body.len() as u32);
 }
 
 // The whole image, in a buffer of its length.
