@@ -1,13 +1,14 @@
 -- Bytes and numbers, over the number of bytes.
 use mathlib.Core.Path.{_≡_, refl, ap, sym, _∙_}
-use mathlib.Core.List.{List, [], _∷_, _++_}
+use mathlib.Core.List.{List, [], _∷_, _++_, append-assoc, append-nil}
 use Prim.Native.Nat.{ℕ, zero, suc, _+_, _-_, _*_, _/_, _%_, _^_, _≤_, _<_}
 use native.Mathlib.Nat.{add-zero, zero-add, add-suc, suc-add, add-assoc, add-mul, mul-assoc, zero-mul, mul-one, pow-suc, div-div-eq-div-mul, mul-comm, add-comm, mul-add-mod-self-right, mul-add-div-right}
+use native.Mathlib.Numerals.{add-one}
 use native.Mathlib.Omega.{arith}
-use lib.ListN.{length, getD, take, drop}
+use lib.ListN.{length, getD, take, drop, length-append}
 use lib.Pow.{high}
-use lib.Seq.{drop-cons}
-use Rattle.bits.specs.Bytes.{bytesAt, number, bytesOf, numberAt}
+use lib.Seq.{drop-cons, take-suc}
+use Rattle.bits.specs.Bytes.{bytesAt, number, bytesOf, numberAt, wordsOf}
 use Rattle.bits.proofs.ListLaws.{AllBelow}
 
 pub length-bytesOf : (n x : ℕ) → length (bytesOf n x) ≡ n
@@ -124,3 +125,20 @@ word-sum s at =
     let b : at + 2 ≡ suc (suc at) = omega arith in
     let c : at + 3 ≡ suc (suc (suc at)) = omega arith in
     rw (a, b, c) (omega arith)
+
+-- ---- words, one behind the other
+
+pub length-words : (ws : List ℕ) → length (wordsOf ws) ≡ length ws * 4
+unfolding wordsOf
+length-words [] = refl
+length-words (w ∷ ws) = length-append (bytesOf 4 w) (wordsOf ws) ∙ rw (length-bytesOf 4 w, length-words ws) (omega arith)
+
+words-append : (a b : List ℕ) → wordsOf (a ++ b) ≡ wordsOf a ++ wordsOf b
+unfolding wordsOf
+words-append [] b = refl
+words-append (w ∷ a) b = rw (words-append a b, append-assoc)
+
+-- one word more
+pub words-next : (ws : List ℕ) (i : ℕ) → i < length ws → wordsOf (take (i + 1) ws) ≡ wordsOf (take i ws) ++ bytesOf 4 (getD ws i 0)
+unfolding wordsOf
+words-next ws i h = rw (add-one, take-suc ws i 0 h, words-append (take i ws), append-nil)
