@@ -6,8 +6,11 @@ use mathlib.Core.Logic.{_⊎_, inl, inr, _≢_}
 use mathlib.Core.List.{List}
 use Prim.Native.Nat.{ℕ, _+_, _-_, _*_, _^_, _≤_, _<_}
 use native.Mathlib.Omega.{arith}
+use borrow.Author.Tests.{eqb-true, eqb-false}
+use lib.Dec.{eqb}
 use lib.ListN.{length, getD}
 use Rattle.bits.specs.Bytes.{bytesAt, numberAt}
+use Rattle.bits.proofs.TestLaws.{which}
 use Rattle.bits.proofs.ByteLaws.{bytesAt-ext, bytesAt-is, numberAt-ext}
 use Rattle.format.specs.declared.Layout.{Layout}
 use Rattle.format.specs.declared.Layout.the-variants.{Modern, Legacy}
@@ -93,6 +96,17 @@ module _ (l : Layout) (s : List ℕ) (ad : Admitted l s) (whole : Bool) (floor a
     omega (arith, moved-within a b (length new) p w (length s - footerLength) d (omega (arith, h .1)) (omega (arith, pt .room)), pt .room),
   )
 
+  -- a place that is 0 or in the tail
+  pub place-in : (p : ℕ) → Side a b p 0 → (p ≢ 0 → (tailAt l s ≤ p) × (p + 0 + footerLength ≤ length s)) → mv p ≢ 0 → (tail ≤ mv p) × (mv p + 0 + footerLength ≤ long)
+  place-in p d h z = inside p 0 d (h (λ e. z (ap mv e ∙ still)))
+
+  pub place-most : (p : ℕ) → Side a b p 0 → (p ≢ 0 → (tailAt l s ≤ p) × (p + 0 + footerLength ≤ length s)) → mv p ≤ long
+  place-most p d h =
+      elim (which (eqb p 0)) [
+        | inl t ↦ omega (arith, ap mv (eqb-true p 0 t), still)
+        | inr f ↦ omega (arith, inside p 0 d (h (eqb-false p 0 f)) .1)
+      ]
+
   pub header-in : (j : ℕ) → j < functionsIn s → fs j .large ≡ true → (tail ≤ fs j .ptr) × (fs j .ptr + table.largeRow l .width + footerLength ≤ long)
   header-in j h t =
       rw (like j h .1) (inside (funcOf l s j .ptr) (table.largeRow l .width) (pt .header j h (was j h t)) (ad .header j h (was j h t)))
@@ -107,8 +121,7 @@ module _ (l : Layout) (s : List ℕ) (ad : Admitted l s) (whole : Bool) (floor a
       ]
 
   pub info-in : (j : ℕ) → j < functionsIn s → fs j .info ≢ 0 → (tail ≤ fs j .info) × (fs j .info + 0 + footerLength ≤ long)
-  info-in j h z =
-      rw (like j h .2) (inside (funcOf l s j .info) 0 (pt .info j h) (ad .info j h (λ e. z (like j h .2 ∙ ap mv e ∙ still))))
+  info-in j h = subst (λ (p : ℕ). p ≢ 0 → (tail ≤ p) × (p + 0 + footerLength ≤ long)) (sym (like j h .2)) (place-in (funcOf l s j .info) (pt .info j h) (ad .info j h))
 
   pub headers-apart : (i j : ℕ) → i < functionsIn s → j < functionsIn s → i ≢ j → fs i .large ≡ true → fs j .large ≡ true
       → Disjoint (fs i .ptr) (table.largeRow l .width) (fs j .ptr) (table.largeRow l .width)
@@ -175,6 +188,18 @@ module _ (l : Layout) (s : List ℕ) (ad : Admitted l s) (whole : Bool) (floor a
   pub front-long : 128 ≤ length (splice a b new s)
   front-long = rw len (omega (arith, first-record l, pt .records, pt .under))
 
+  -- the new bytes
+  pub new-byte : (k : ℕ) → k < length new → getD out (a + k) 0 ≡ getD new k 0
+  new-byte k h =
+      edit-frame l whole floor a b new fs ws s sound (a + k) (omega (arith, pt .records, pt .under))
+      (λ j g t q.
+      let e = like j g .1 in
+      elim (moved-side a b (length new) (funcOf l s j .ptr) (table.largeRow l .width) (pt .header j g (was j g t))) [
+        | inl r ↦ omega (arith, e, r .0, r .1)
+        | inr r ↦ absurd (omega (arith, e, r .0, r .1))
+      ])
+      ∙ splice-new a b new s fit k h
+
   -- ---- they fit their records: what is not refused with 11 or 12
 
   pointer-fits : (l : Layout) (p : ℕ) → p < 2 ^ 32 → PointerFits l p
@@ -197,20 +222,13 @@ module _ (l : Layout) (s : List ℕ) (ad : Admitted l s) (whole : Bool) (floor a
   no-info : (j : ℕ) → j < functionsIn s → l ≡ Modern → fs j .info ≡ 0
   no-info j h e = like j h .2 ∙ ap mv (subst (λ (k : Layout). funcOf k s j .info ≡ 0) (sym e) (modern-info s j)) ∙ still
 
-  info-most : (j : ℕ) → j < functionsIn s → fs j .info ≤ long
-  info-most j h =
-      elim (moved-side a b (length new) (funcOf l s j .info) 0 (pt .info j h)) [
-        | inl r ↦ rw (like j h .2) (omega (arith, r .0, r .1, pt .order, pt .room))
-        | inr r ↦ rw (like j h .2) (omega (arith, inside (funcOf l s j .info) 0 (pt .info j h) (ad .info j h (λ z. omega (arith, z, r .0, some))) .1))
-      ]
-
   module _ (limit : long ≤ sizeLimit)
       (field : (j : ℕ) → j < functionsIn s → fs j .large ≡ false → (fs j .begin ≤ 33554431) × (fs j .size ≤ sizeMost l) × (fs j .info ≤ 33554431)) where
     pub fits : (j : ℕ) → j < functionsIn s → Fits l (fs j)
     fits j h = record {
       asLarge = λ t. (
         pointer-fits l (fs j .ptr) (omega (arith, header-in j h t .1)),
-        header-fits l (fs j) (omega (arith, body-in j h .1)) (omega (arith, body-in j h .1)) (omega (arith, info-most j h)) (no-info j h),
+        header-fits l (fs j) (omega (arith, body-in j h .1)) (omega (arith, body-in j h .1)) (omega (arith, like j h .2, place-most (funcOf l s j .info) (pt .info j h) (ad .info j h))) (no-info j h),
       );
       asSmall = λ t.
           let u : funcOf l s j .large ≡ false = sym (like j h .0) ∙ t in
@@ -258,15 +276,4 @@ module _ (l : Layout) (s : List ℕ) (ad : Admitted l s) (whole : Bool) (floor a
     pub body-new : (j : ℕ) → j < functionsIn s → fs j ≡ resized mv (length new) (funcOf l s j) → funcOf l s j .begin ≡ a → bodyOf l out j ≡ new
     unfolding bodyOf
     body-new j h e g =
-        ap (λ (f : Func). bytesAt out (f .begin) (f .size)) (func-out j h ∙ e)
-        ∙ rw g
-        (bytesAt-is out new a (length new) refl
-        (λ k q.
-        edit-frame l whole floor a b new fs ws s sound (a + k) (omega (arith, pt .records, pt .under))
-        (λ i h′ t u.
-        omega (
-          arith,
-          subst (λ (f : Func). Disjoint (fs i .ptr) (table.largeRow l .width) (f .begin) (f .size)) e
-              (body-apart j i h h′ (subst (λ (f : Func). 0 < f .size) (sym e) (omega arith)) t) (omega (arith, g)),
-        ))
-        ∙ splice-new a b new s fit k q))
+        ap (λ (f : Func). bytesAt out (f .begin) (f .size)) (func-out j h ∙ e) ∙ rw g (bytesAt-is out new a (length new) refl new-byte)
