@@ -5,3 +5,4 @@ pub mod EditLaws
 pub mod ReadLaws
 pub mod BodyLaws
 pub mod RebuildLaws
+pub mod StringLaws

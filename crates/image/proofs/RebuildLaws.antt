@@ -173,8 +173,8 @@ module _ (l : Layout) (ts : List Str) (s : List ℕ) (ad : Admitted l s) where
   -- ---- functions, bodies and the tail
 
   module _ (ok : Rebuilds l ts s) where
-    abbrev limit : length s - tailAt l s + newTail l ts s ≤ sizeLimit
-    limit = rw length-rebuilt at (ok .limit)
+    pub rebuilt-limit : length s - tailAt l s + newTail l ts s ≤ sizeLimit
+    rebuilt-limit = rw length-rebuilt at (ok .limit)
 
     field : (j : ℕ) → j < functionsIn s → rebuiltFunc j .large ≡ false
         → (rebuiltFunc j .begin ≤ 33554431) × (rebuiltFunc j .size ≤ sizeMost l) × (rebuiltFunc j .info ≤ 33554431)
@@ -183,13 +183,13 @@ module _ (l : Layout) (ts : List Str) (s : List ℕ) (ad : Admitted l s) where
     -- each function is the old one at its moved places
     pub rebuilt-func : (j : ℕ) → j < functionsIn s → funcOf l (rebuild l ts s) j ≡ rebuiltFunc j
     unfolding rebuild
-    rebuilt-func = func-out l s ad true (smallAt l s) (smallAt l s) (tailAt l s) (newTail l ts s) (newRegion l ts s) rebuiltFunc rebuiltWords parted limit field
+    rebuilt-func = func-out l s ad true (smallAt l s) (smallAt l s) (tailAt l s) (newTail l ts s) (newRegion l ts s) rebuiltFunc rebuiltWords parted rebuilt-limit field
 
     -- each body has the same bytes
     pub rebuilt-body : (j : ℕ) → j < functionsIn s → bodyOf l (rebuild l ts s) j ≡ bodyOf l s j
     unfolding rebuild
     rebuilt-body j h =
-        body-kept l s ad true (smallAt l s) (smallAt l s) (tailAt l s) (newTail l ts s) (newRegion l ts s) rebuiltFunc rebuiltWords parted limit field
+        body-kept l s ad true (smallAt l s) (smallAt l s) (tailAt l s) (newTail l ts s) (newRegion l ts s) rebuiltFunc rebuiltWords parted rebuilt-limit field
         j h refl (inr (ad .body j h .0))
 
     -- each byte of the tail that is no word of a large header keeps its value at its moved place
@@ -198,7 +198,7 @@ module _ (l : Layout) (ts : List Str) (s : List ℕ) (ad : Admitted l s) where
         → getD (rebuild l ts s) (rebuiltPlace l ts s p) 0 ≡ getD s p 0
     unfolding rebuild
     rebuilt-tail p h o =
-        tail-byte l s ad true (smallAt l s) (smallAt l s) (tailAt l s) (newTail l ts s) (newRegion l ts s) rebuiltFunc rebuiltWords parted limit field
+        tail-byte l s ad true (smallAt l s) (smallAt l s) (tailAt l s) (newTail l ts s) (newRegion l ts s) rebuiltFunc rebuiltWords parted rebuilt-limit field
         p (omega (arith, parted .low)) (inr h) o
 
 -- a modern record with a large header keeps its bits 24 to 45: "bit 24 stays"
