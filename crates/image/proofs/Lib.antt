@@ -6,3 +6,4 @@ pub mod ReadLaws
 pub mod BodyLaws
 pub mod RebuildLaws
 pub mod StringLaws
+pub mod KeepLaws

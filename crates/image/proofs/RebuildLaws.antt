@@ -176,20 +176,20 @@ module _ (l : Layout) (ts : List Str) (s : List ℕ) (ad : Admitted l s) where
     pub rebuilt-limit : length s - tailAt l s + newTail l ts s ≤ sizeLimit
     rebuilt-limit = rw length-rebuilt at (ok .limit)
 
-    field : (j : ℕ) → j < functionsIn s → rebuiltFunc j .large ≡ false
+    pub rebuilt-field : (j : ℕ) → j < functionsIn s → rebuiltFunc j .large ≡ false
         → (rebuiltFunc j .begin ≤ 33554431) × (rebuiltFunc j .size ≤ sizeMost l) × (rebuiltFunc j .info ≤ 33554431)
-    field j h t = (ok .field j h t .0, size-most l (funcOf l s j) (small-fits l s j t), ok .field j h t .1)
+    rebuilt-field j h t = (ok .field j h t .0, size-most l (funcOf l s j) (small-fits l s j t), ok .field j h t .1)
 
     -- each function is the old one at its moved places
     pub rebuilt-func : (j : ℕ) → j < functionsIn s → funcOf l (rebuild l ts s) j ≡ rebuiltFunc j
     unfolding rebuild
-    rebuilt-func = func-out l s ad true (smallAt l s) (smallAt l s) (tailAt l s) (newTail l ts s) (newRegion l ts s) rebuiltFunc rebuiltWords parted rebuilt-limit field
+    rebuilt-func = func-out l s ad true (smallAt l s) (smallAt l s) (tailAt l s) (newTail l ts s) (newRegion l ts s) rebuiltFunc rebuiltWords parted rebuilt-limit rebuilt-field
 
     -- each body has the same bytes
     pub rebuilt-body : (j : ℕ) → j < functionsIn s → bodyOf l (rebuild l ts s) j ≡ bodyOf l s j
     unfolding rebuild
     rebuilt-body j h =
-        body-kept l s ad true (smallAt l s) (smallAt l s) (tailAt l s) (newTail l ts s) (newRegion l ts s) rebuiltFunc rebuiltWords parted rebuilt-limit field
+        body-kept l s ad true (smallAt l s) (smallAt l s) (tailAt l s) (newTail l ts s) (newRegion l ts s) rebuiltFunc rebuiltWords parted rebuilt-limit rebuilt-field
         j h refl (inr (ad .body j h .0))
 
     -- each byte of the tail that is no word of a large header keeps its value at its moved place
@@ -198,7 +198,7 @@ module _ (l : Layout) (ts : List Str) (s : List ℕ) (ad : Admitted l s) where
         → getD (rebuild l ts s) (rebuiltPlace l ts s p) 0 ≡ getD s p 0
     unfolding rebuild
     rebuilt-tail p h o =
-        tail-byte l s ad true (smallAt l s) (smallAt l s) (tailAt l s) (newTail l ts s) (newRegion l ts s) rebuiltFunc rebuiltWords parted rebuilt-limit field
+        tail-byte l s ad true (smallAt l s) (smallAt l s) (tailAt l s) (newTail l ts s) (newRegion l ts s) rebuiltFunc rebuiltWords parted rebuilt-limit rebuilt-field
         p (omega (arith, parted .low)) (inr h) o
 
 -- a modern record with a large header keeps its bits 24 to 45: "bit 24 stays"

@@ -2,18 +2,21 @@
 -- the padding is zeros.
 use mathlib.Core.Path.{_≡_, refl, ap, sym, _∙_, subst}
 use mathlib.Core.Bool.{Bool, true, false}
+use mathlib.Core.Logic.{inl, inr}
 use mathlib.Core.List.{List, [], _∷_, _++_}
 use Prim.Native.Nat.{ℕ, zero, suc, _+_, _-_, _*_, _/_, _^_, _≤_, _<_}
 use native.Mathlib.Nat.{add-assoc, zero-add}
 use native.Mathlib.Omega.{arith}
-use lib.ListN.{length, getD, take, drop, replicate, length-append, length-replicate, getD-replicate, List·getD-append}
+use lib.ListN.{length, getD, take, drop, replicate, length-append, length-replicate, getD-replicate, List·getD-append, List·getD-eq-default}
 use lib.Seq.{sets, length-sets, take-length}
-use Rattle.bits.specs.Bytes.{wordAt, bytesOf}
+use Rattle.bits.specs.Bytes.{bytesAt, wordAt, bytesOf}
+use Rattle.bits.proofs.TestLaws.{below-or}
 use Rattle.bits.proofs.ListLaws.{getD-past}
-use Rattle.bits.proofs.ByteLaws.{bytesAt-is, numberAt-ext}
+use Rattle.bits.proofs.ByteLaws.{length-bytesAt, getD-bytesAt, bytesAt-is, bytesAt-below, numberAt-ext}
 use Rattle.bits.proofs.WriteLaws.{numberAt-back, numberAt-off}
 use Rattle.format.specs.declared.Layout.{Layout}
 use Rattle.format.specs.Table as table
+use Rattle.format.specs.Record.{valueOf}
 use Rattle.format.specs.Entry.{Place, isOver}
 use Rattle.footer.specs.Finalize.{sizeLimit}
 use Rattle.image.specs.Sections.{stringsIn, overflowsIn, storageIn, debugIn, smallAt, overAt, storageAt, tailAt, up4}
@@ -27,9 +30,33 @@ use Rattle.image.proofs.ReadLaws.{ordered, stringCount-same, smallAt-sa
 use Rattle.image.proofs.BodyLaws.{front-number, front-long, new-byte, place-most}
 use Rattle.image.proofs.RebuildLaws.{debug-place, none-or, Valid, newRegion, newTail, rebuiltPlace, Rebuilds, rebuiltFunc, rebuiltWords, parted, length-rebuilt, counts-kept, rebuilt-limit}
 
+-- ---- the strings of an admitted image
+
+module _ (l : Layout) (s : List ℕ) (ad : Admitted l s) (i : ℕ) (known : i < stringsIn s) where
+  -- they may stand in a rebuilt one
+  pub old-valid : Valid (stringOf l s i)
+  unfolding stringOf
+  old-valid =
+      let p : Place = placeAt l s i in
+      let at : ℕ = storageAt l s + p .at in
+      let n : length (bytesAt s at (sizeOf p)) ≡ sizeOf p = length-bytesAt s at (sizeOf p) in
+      record {
+        whole = rw n (whole-of (p .wide) (p .count));
+        bytes = bytesAt-below s (sizeOf p) at (ad .bytes);
+        narrow = λ t j.
+            elim (below-or j (sizeOf p)) [
+              | inl h ↦ let g : j < p .count * 1 = rw t at h in rw (getD-bytesAt s (sizeOf p) at j h) (ad .narrow i known t j (omega arith))
+              | inr h ↦ rw (List·getD-eq-default (bytesAt s at (sizeOf p)) 0 {n = j} (omega arith)) (omega arith)
+            ];
+      }
+    where
+      whole-of : (b : Bool) (c : ℕ) → c * unitSize b / unitSize b * unitSize b ≡ c * unitSize b
+      whole-of true c = omega arith
+      whole-of false c = omega arith
+
 -- ---- sizes
 
-count-le : (t : Str) → countOf t ≤ length (t .bytes)
+pub count-le : (t : Str) → countOf t ≤ length (t .bytes)
 count-le t = go (t .wide)
   where
     go : (b : Bool) → length (t .bytes) / unitSize b ≤ length (t .bytes)
@@ -209,20 +236,24 @@ module _ (l : Layout) (ts : List Str) (s : List ℕ) (ad : Admitted l s) (ok : R
   rebuilt-place d i h =
       located nowhere ps (smallIn l out) (overIn l out) small-word pair-word i (rw (length-lay ts 0) h) ∙ lay-at d nowhere ts 0 i h ∙ rw zero-add
 
-  rebuilt-size : (d : Str) (i : ℕ) → i < length ts → sizeOf (placeAt l out i) ≡ length (getD ts i d .bytes)
+  pub rebuilt-size : (d : Str) (i : ℕ) → i < length ts → sizeOf (placeAt l out i) ≡ length (getD ts i d .bytes)
   rebuilt-size d i h = ap sizeOf (rebuilt-place d i h) ∙ ok .strings d i h .whole
+
+  -- byte j of string i
+  pub rebuilt-byte : (d : Str) (i j : ℕ) → i < length ts → j < length (getD ts i d .bytes)
+      → getD out (storageAt l out + placeAt l out i .at + j) 0 ≡ getD (getD ts i d .bytes) j 0
+  rebuilt-byte d i j h k =
+      rw (ap (λ (p : Place). p .at) (rebuilt-place d i h), add-assoc)
+      (stored-byte (length (storeOf (take i ts)) + j) (omega (arith, store-within d ts i h)) ∙ store-byte d ts i j h k)
 
   -- string i is the one given
   pub rebuilt-string : (d : Str) (i : ℕ) → i < length ts → stringOf l out i ≡ getD ts i d
   unfolding stringOf
   rebuilt-string d i h =
-      let t : Str = getD ts i d in
-      rw (rebuilt-place d i h)
-      (ap (λ (b : List ℕ). record { wide = t .wide; bytes = b })
-      (bytesAt-is out (t .bytes) (storageAt l out + length (storeOf (take i ts))) (countOf t * unitSize (t .wide)) (sym (ok .strings d i h .whole))
-      (λ j k.
-      let g : j < length (t .bytes) = rw (ok .strings d i h .whole) at k in
-      rw add-assoc (stored-byte (length (storeOf (take i ts)) + j) (omega (arith, store-within d ts i h)) ∙ store-byte d ts i j h g))))
+      let p : Place = placeAt l out i in
+      let b : bytesAt out (storageAt l out + p .at) (sizeOf p) ≡ getD ts i d .bytes =
+      bytesAt-is out (getD ts i d .bytes) (storageAt l out + p .at) (sizeOf p) (sym (rebuilt-size d i h)) (λ j k. rebuilt-byte d i j h (rw (rebuilt-size d i h) at k)) in
+      λ x. record { wide = rebuilt-place d i h x .wide; bytes = b x }
 
   -- ---- the packing
 
@@ -245,6 +276,14 @@ module _ (l : Layout) (ts : List Str) (s : List ℕ) (ad : Admitted l s) (ok : R
       let d : Str = record { wide = false; bytes = [] } in
       rw (ap (λ (p : Place). p .at) (rebuilt-place d i (omega arith)), rebuilt-size d i (omega arith))
       (sym (store-next d ts i (omega arith)) ∙ rw (e, take-length ts) (sym storage-size))
+
+  -- as many entries overflow as the header says, and the k-th has index k
+  pub rebuilt-overflows : overBefore (smallIn l out) (stringsIn out) ≡ overflowsIn out
+  rebuilt-overflows =
+      rw (stringCount-same l s out (counts-kept l ts s ad), ← ok .count, ← length-lay ts 0) (before-all nowhere ps (smallIn l out) (overIn l out) small-word pair-word ∙ sym overflows-is)
+
+  pub rebuilt-index : (i : ℕ) → i < length ts → isFull (smallIn l out i) ≡ true → valueOf table.entryOffset (smallIn l out i) ≡ overBefore (smallIn l out) i
+  rebuilt-index i h = index-is nowhere ps (smallIn l out) (overIn l out) small-word pair-word few i (rw (length-lay ts 0) h)
 
   -- an entry is full exactly where its place's offset is 0x800000 or more or its length 255 or more
   pub rebuilt-full : (i : ℕ) → i < length ts → isFull (smallIn l out i) ≡ isOver (placeAt l out i)
