@@ -6,89 +6,171 @@ use mathlib.Core.List.{List, [], _∷_, _++_}
 use Prim.Native.Nat.{ℕ, zero, suc, _+_, _-_, _≤_, _<_}
 use native.Mathlib.Omega.{arith}
 use lib.ListN.{length, getD, replicate}
+use Rattle.bits.specs.Bytes.{numberAt}
 use Rattle.bits.proofs.ListLaws.{AllBelow, below-nil, below-append, below-zeros, below-bytesOf}
 use Rattle.format.specs.declared.Layout.{Layout}
 use Rattle.format.specs.Table as table
+use Rattle.format.specs.Record.{valueOf}
 use Rattle.format.specs.Entry.{Place}
 use Rattle.format.specs.Move.{moved}
 use Rattle.format.proofs.MoveLaws.{Side}
 use Rattle.footer.specs.Footer.{footerLength}
 use Rattle.footer.specs.Finalize.{sizeLimit}
-use Rattle.image.specs.Sections.{functionsIn, kindsIn, stringsIn, overflowsIn, storageIn, debugIn, smallAt, storageAt, tailAt, up4}
-use Rattle.image.specs.Strings.{placeAt, sizeOf, Str}
+use Rattle.image.specs.Sections.{functionsIn, kindsIn, identifiersIn, stringsIn, overflowsIn, storageIn, debugIn, kindsAt, hashesAt, smallAt, storageAt, tailAt, up4}
+use Rattle.image.specs.Strings.{isFull, overBefore, smallIn, placeAt, sizeOf, Str}
+use Rattle.image.specs.Kinds.{kindIn, covered, identified}
 use Rattle.image.specs.Functions.{Func, funcOf}
-use Rattle.image.specs.Admitted.{Disjoint, InTail, Admitted}
+use Rattle.image.specs.Admitted.{Disjoint, Admitted}
 use Rattle.image.specs.Edit.{Write, edit}
 use Rattle.image.specs.Rebuild.{layFrom, storeOf, smallsFrom, pairsFor, overs, wordsOf, region, padded, rebuild}
 use Rattle.image.proofs.WriteLaws.{words-below}
 use Rattle.image.proofs.TableLaws.{store-within}
 use Rattle.image.proofs.EditLaws.{first-record, edit-below}
-use Rattle.image.proofs.ReadLaws.{ordered, number-agree, functions-same, kindCount-same, identifierCount-same, stringCount-same, covered-same, identified-same}
+use Rattle.image.proofs.ReadLaws.{Agree, ordered, number-agree, functions-same, identifierCount-same, stringCount-same, covered-all, identified-all, func-same, counts-of, overflowCount-same, storageSize-same, storageAt-same, tailAt-same, small-same, before-same, place-same}
 use Rattle.image.proofs.BodyLaws.{Parted, sizeMost, place-in, header-in, body-in, info-in, headers-apart, body-apart, length-out, func-out}
 use Rattle.image.proofs.RebuildLaws.{none-or, Valid, newRegion, newTail, Rebuilds, rebuiltFunc, rebuiltWords, parted, length-rebuilt, rebuilt-front, counts-kept, kinds-kept, rebuilt-limit, rebuilt-field}
 use Rattle.image.proofs.StringLaws.{count-le, tail-is, storage-size, rebuilt-debug, rebuilt-place, rebuilt-size, rebuilt-byte, rebuilt-overflows, rebuilt-index}
 
 -- ---- functions
 
--- what admission says of functions
-pub record Placed (l : Layout) (s : List ℕ) : Type 0 where
-  pub header : (i : ℕ) → i < functionsIn s → funcOf l s i .large ≡ true → InTail l s (funcOf l s i .ptr) (table.largeRow l .width)
-  pub body : (i : ℕ) → i < functionsIn s → InTail l s (funcOf l s i .begin) (funcOf l s i .size)
-  pub info : (i : ℕ) → i < functionsIn s → funcOf l s i .info ≢ 0 → InTail l s (funcOf l s i .info) 0
-  pub debug : debugIn l s ≢ 0 → InTail l s (debugIn l s) 0
-  pub apart : (i j : ℕ) → i < functionsIn s → j < functionsIn s → i ≢ j → funcOf l s i .large ≡ true → funcOf l s j .large ≡ true
-      → Disjoint (funcOf l s i .ptr) (table.largeRow l .width) (funcOf l s j .ptr) (table.largeRow l .width)
-  pub clear : (i j : ℕ) → i < functionsIn s → j < functionsIn s → 0 < funcOf l s i .size → funcOf l s j .large ≡ true
-      → Disjoint (funcOf l s j .ptr) (table.largeRow l .width) (funcOf l s i .begin) (funcOf l s i .size)
+-- what admission says of n functions and the debug place, in an image of `long` bytes
+pub record Placed (l : Layout) (n tail long debugPlace : ℕ) (fs : ℕ → Func) : Type 0 where
+  pub header : (i : ℕ) → i < n → fs i .large ≡ true → (tail ≤ fs i .ptr) × (fs i .ptr + table.largeRow l .width + footerLength ≤ long)
+  pub body : (i : ℕ) → i < n → (tail ≤ fs i .begin) × (fs i .begin + fs i .size + footerLength ≤ long)
+  pub info : (i : ℕ) → i < n → fs i .info ≢ 0 → (tail ≤ fs i .info) × (fs i .info + 0 + footerLength ≤ long)
+  pub debug : debugPlace ≢ 0 → (tail ≤ debugPlace) × (debugPlace + 0 + footerLength ≤ long)
+  pub apart : (i j : ℕ) → i < n → j < n → i ≢ j → fs i .large ≡ true → fs j .large ≡ true
+      → Disjoint (fs i .ptr) (table.largeRow l .width) (fs j .ptr) (table.largeRow l .width)
+  pub clear : (i j : ℕ) → i < n → j < n → 0 < fs i .size → fs j .large ≡ true → Disjoint (fs j .ptr) (table.largeRow l .width) (fs i .begin) (fs i .size)
 
+abbrev pub PlacedIn : Layout → List ℕ → Type 0
+PlacedIn l s = Placed l (functionsIn s) (tailAt l s) (length s) (debugIn l s) (funcOf l s)
+
+-- it holds of the same functions
+placed-as : (l : Layout) (n tail long d : ℕ) (fs gs : ℕ → Func) → ((j : ℕ) → j < n → fs j ≡ gs j) → Placed l n tail long d fs → Placed l n tail long d gs
+placed-as l n tail long d fs gs e pl = record {
+  header = λ i h. subst (λ (f : Func). f .large ≡ true → (tail ≤ f .ptr) × (f .ptr + table.largeRow l .width + footerLength ≤ long)) (e i h) (pl .header i h);
+  body = λ i h. subst (λ (f : Func). (tail ≤ f .begin) × (f .begin + f .size + footerLength ≤ long)) (e i h) (pl .body i h);
+  info = λ i h. subst (λ (f : Func). f .info ≢ 0 → (tail ≤ f .info) × (f .info + 0 + footerLength ≤ long)) (e i h) (pl .info i h);
+  debug = pl .debug;
+  apart = λ i j h k d.
+      subst (λ (f : Func). f .large ≡ true → gs j .large ≡ true → Disjoint (f .ptr) (table.largeRow l .width) (gs j .ptr) (table.largeRow l .width)) (e i h)
+      (λ t. subst (λ (f : Func). f .large ≡ true → Disjoint (fs i .ptr) (table.largeRow l .width) (f .ptr) (table.largeRow l .width)) (e j k) (pl .apart i j h k d t));
+  clear = λ i j h k.
+      subst (λ (f : Func). 0 < f .size → gs j .large ≡ true → Disjoint (gs j .ptr) (table.largeRow l .width) (f .begin) (f .size)) (e i h)
+      (λ z. subst (λ (f : Func). f .large ≡ true → Disjoint (f .ptr) (table.largeRow l .width) (fs i .begin) (fs i .size)) (e j k) (pl .clear i j h k z));
+}
+
+-- after an edit that moves what lies behind it
 module _ (l : Layout) (s : List ℕ) (ad : Admitted l s) (whole : Bool) (floor a b tail : ℕ) (new : List ℕ) (fs : ℕ → Func) (ws : List Write)
     (pt : Parted l s floor a b tail (length new) fs ws) (limit : length s - b + (a + length new) ≤ sizeLimit)
     (field : (j : ℕ) → j < functionsIn s → fs j .large ≡ false → (fs j .begin ≤ 33554431) × (fs j .size ≤ sizeMost l) × (fs j .info ≤ 33554431)) where
   abbrev out : List ℕ
   out = edit l whole a b new fs ws s
 
-  module _ (count : functionsIn out ≡ functionsIn s) (tailed : tailAt l out ≡ tail) (debugged : debugIn l out ≡ moved b (a + length new) (debugIn l s))
-      (beside : Side a b (debugIn l s) 0) where
-    func : (j : ℕ) → j < functionsIn s → funcOf l out j ≡ fs j
-    func = func-out l s ad whole floor a b tail new fs ws pt limit field
+  pub edit-placed : functionsIn out ≡ functionsIn s → tailAt l out ≡ tail → debugIn l out ≡ moved b (a + length new) (debugIn l s) → Side a b (debugIn l s) 0 → PlacedIn l out
+  edit-placed count tailed debugged beside =
+      rw (count, tailed, debugged, length-out l s ad whole floor a b tail new fs ws pt)
+      (placed-as l (functionsIn s) tail (length s - b + (a + length new)) (moved b (a + length new) (debugIn l s)) fs (funcOf l out)
+      (λ j h. sym (func-out l s ad whole floor a b tail new fs ws pt limit field j h))
+      (record {
+        header = header-in l s ad whole floor a b tail new fs ws pt;
+        body = body-in l s ad whole floor a b tail new fs ws pt;
+        info = info-in l s ad whole floor a b tail new fs ws pt;
+        debug = place-in l s ad whole floor a b tail new fs ws pt (debugIn l s) beside (ad .debug);
+        apart = headers-apart l s ad whole floor a b tail new fs ws pt;
+        clear = body-apart l s ad whole floor a b tail new fs ws pt;
+      }))
 
-    in-tail : (p n : ℕ) → (tail ≤ p) × (p + n + footerLength ≤ length s - b + (a + length new)) → InTail l out p n
-    in-tail p n h = (rw tailed (h .0), rw (length-out l s ad whole floor a b tail new fs ws pt) (h .1))
+-- ---- kinds and strings
 
-    pub placed : Placed l out
-    placed = record {
-      header = λ i h t.
-          let k : i < functionsIn s = rw count at h in
-          subst (λ (f : Func). f .large ≡ true → InTail l out (f .ptr) (table.largeRow l .width)) (sym (func i k))
-          (λ u. in-tail (fs i .ptr) (table.largeRow l .width) (header-in l s ad whole floor a b tail new fs ws pt i k u)) t;
-      body = λ i h.
-          let k : i < functionsIn s = rw count at h in
-          subst (λ (f : Func). InTail l out (f .begin) (f .size)) (sym (func i k))
-          (in-tail (fs i .begin) (fs i .size) (body-in l s ad whole floor a b tail new fs ws pt i k));
-      info = λ i h z.
-          let k : i < functionsIn s = rw count at h in
-          subst (λ (f : Func). f .info ≢ 0 → InTail l out (f .info) 0) (sym (func i k))
-          (λ u. in-tail (fs i .info) 0 (info-in l s ad whole floor a b tail new fs ws pt i k u)) z;
-      debug = λ z.
-          subst (λ (p : ℕ). p ≢ 0 → InTail l out p 0) (sym debugged)
-          (λ u. in-tail (moved b (a + length new) (debugIn l s)) 0 (place-in l s ad whole floor a b tail new fs ws pt (debugIn l s) beside (ad .debug) u)) z;
-      apart = λ i j h k d t u.
-          let h′ : i < functionsIn s = rw count at h in
-          let k′ : j < functionsIn s = rw count at k in
-          subst (λ (f : Func). f .large ≡ true → Disjoint (f .ptr) (table.largeRow l .width) (funcOf l out j .ptr) (table.largeRow l .width)) (sym (func i h′))
-          (λ t′.
-          subst (λ (f : Func). f .large ≡ true → Disjoint (fs i .ptr) (table.largeRow l .width) (f .ptr) (table.largeRow l .width)) (sym (func j k′))
-          (λ u′. headers-apart l s ad whole floor a b tail new fs ws pt i j h′ k′ d t′ u′) u)
-          t;
-      clear = λ i j h k z t.
-          let h′ : i < functionsIn s = rw count at h in
-          let k′ : j < functionsIn s = rw count at k in
-          subst (λ (f : Func). 0 < f .size → Disjoint (funcOf l out j .ptr) (table.largeRow l .width) (f .begin) (f .size)) (sym (func i h′))
-          (λ z′.
-          subst (λ (f : Func). f .large ≡ true → Disjoint (f .ptr) (table.largeRow l .width) (fs i .begin) (fs i .size)) (sym (func j k′))
-          (λ t′. body-apart l s ad whole floor a b tail new fs ws pt i j h′ k′ z′ t′) t)
-          z;
-    }
+-- what admission says of kinds and strings
+pub record Tabled (l : Layout) (s : List ℕ) : Type 0 where
+  pub covers : covered (kindIn l s) (kindsIn s) ≡ stringsIn s
+  pub identifiers : identified (kindIn l s) (kindsIn s) ≡ identifiersIn s
+  pub overflows : overBefore (smallIn l s) (stringsIn s) ≡ overflowsIn s
+  pub numbered : (i : ℕ) → i < stringsIn s → isFull (smallIn l s i) ≡ true → valueOf table.entryOffset (smallIn l s i) ≡ overBefore (smallIn l s) i
+  pub stored : (i : ℕ) → i < stringsIn s → placeAt l s i .at + sizeOf (placeAt l s i) ≤ storageIn s
+  pub narrow : (i : ℕ) → i < stringsIn s → placeAt l s i .wide ≡ false → (j : ℕ) → j < placeAt l s i .count
+      → getD s (storageAt l s + placeAt l s i .at + j) 0 < 0x80
+
+-- it hangs only on the header's words, the kinds and the tables, and on the bytes of narrow strings
+module _ (l : Layout) (s t : List ℕ) (ad : Admitted l s) (words : Agree s t (table.functionCount .at) (table.storageSize .at + table.storageSize .width))
+    (kinds : Agree s t (kindsAt l s) (hashesAt l s)) (tables : Agree s t (smallAt l s) (storageAt l s))
+    (ascii : (i : ℕ) → i < stringsIn s → placeAt l s i .wide ≡ false → (j : ℕ) → j < placeAt l s i .count → getD t (storageAt l s + placeAt l s i .at + j) 0 < 0x80) where
+  pub tabled-same : Tabled l t
+  tabled-same =
+      let counts = counts-of l s t words in
+      let sc = stringCount-same l s t counts in
+      let known : (i : ℕ) → i < stringsIn t → i < stringsIn s = λ i h. rw sc at h in
+      let place = place-same l s t words tables (ad .overflows) in
+      record {
+        covers = covered-all l s t counts kinds ∙ ad .covers ∙ sym sc;
+        identifiers = identified-all l s t counts kinds ∙ ad .identifiers ∙ sym (identifierCount-same l s t counts);
+        overflows = rw (sc, overflowCount-same l s t words) (before-same l s t words tables (stringsIn s) (omega arith) ∙ ad .overflows);
+        numbered = λ i h f.
+            let e = small-same l s t words tables i (known i h) in
+            ap (valueOf table.entryOffset) e ∙ ad .numbered i (known i h) (ap isFull (sym e) ∙ f) ∙ sym (before-same l s t words tables i (omega (arith, known i h)));
+        stored = λ i h. rw (place i (known i h), storageSize-same l s t words) (ad .stored i (known i h));
+        narrow = λ i h.
+            subst (λ (p : Place). p .wide ≡ false → (j : ℕ) → j < p .count → getD t (storageAt l t + p .at + j) 0 < 0x80) (sym (place i (known i h)))
+            (rw (storageAt-same l s t words) (ascii i (known i h)));
+      }
+
+-- ---- both, with sizes and magic number, are all of admission
+
+pub admitted-of : (l : Layout) (s : List ℕ) → AllBelow 256 s → table.recordRow l .at + footerLength ≤ length s → length s ≤ sizeLimit
+    → numberAt s (table.magic .at) (table.magic .width) ≡ table.magicNumber → tailAt l s + footerLength ≤ length s → Tabled l s → PlacedIn l s → Admitted l s
+admitted-of l s b x y m r tb pl = record {
+  bytes = b;
+  least = x;
+  most = y;
+  magic = m;
+  room = r;
+  covers = tb .covers;
+  identifiers = tb .identifiers;
+  overflows = tb .overflows;
+  numbered = tb .numbered;
+  stored = tb .stored;
+  narrow = tb .narrow;
+  header = pl .header;
+  body = pl .body;
+  info = pl .info;
+  debug = pl .debug;
+  apart = pl .apart;
+  clear = pl .clear;
+}
+
+-- ---- an image that differs only in what admission does not read
+
+-- of the same length, with the same magic number, counts, debug offset, records, kinds, tables and large headers, and ASCII in narrow strings
+pub record Same (l : Layout) (s t : List ℕ) : Type 0 where
+  pub long : length t ≡ length s
+  pub bytes : AllBelow 256 t
+  pub magic : Agree s t (table.magic .at) (table.magic .width)
+  pub words : Agree s t (table.functionCount .at) (table.storageSize .at + table.storageSize .width)
+  pub debug : debugIn l t ≡ debugIn l s
+  pub records : Agree s t (table.recordRow l .at) (kindsAt l s)
+  pub kinds : Agree s t (kindsAt l s) (hashesAt l s)
+  pub tables : Agree s t (smallAt l s) (storageAt l s)
+  pub ascii : (i : ℕ) → i < stringsIn s → placeAt l s i .wide ≡ false → (j : ℕ) → j < placeAt l s i .count → getD t (storageAt l s + placeAt l s i .at + j) 0 < 0x80
+  pub headers : (i : ℕ) → i < functionsIn s → funcOf l s i .large ≡ true → Agree s t (funcOf l s i .ptr) (funcOf l s i .ptr + table.largeRow l .width)
+
+module _ (l : Layout) (s t : List ℕ) (ad : Admitted l s) (sm : Same l s t) where
+  -- its functions are the same
+  pub funcs-same : (i : ℕ) → i < functionsIn s → funcOf l t i ≡ funcOf l s i
+  funcs-same i h = func-same l s t (counts-of l s t (sm .words)) (sm .records) i h (sm .headers i h)
+
+  -- it is admitted
+  pub same-admitted : Admitted l t
+  same-admitted =
+      let n = sm .long in
+      let tl = tailAt-same l s t (sm .words) in
+      admitted-of l t (sm .bytes) (rw n (ad .least)) (rw n (ad .most)) (number-agree s t 0 8 (sm .magic) 0 8 (omega arith) (omega arith) ∙ ad .magic) (rw (n, tl) (ad .room))
+      (tabled-same l s t ad (sm .words) (sm .kinds) (sm .tables) (sm .ascii))
+      (rw (functions-same l s t (counts-of l s t (sm .words)), tl, n, sm .debug)
+      (placed-as l (functionsIn s) (tailAt l s) (length s) (debugIn l s) (funcOf l s) (funcOf l t) (λ j h. sym (funcs-same j h))
+      (record { header = ad .header; body = ad .body; info = ad .info; debug = ad .debug; apart = ad .apart; clear = ad .clear })))
 
 -- ---- the bytes of a rebuilt image are bytes
 
@@ -115,13 +197,35 @@ module _ (l : Layout) (ts : List Str) (s : List ℕ) (ad : Admitted l s) (ok : R
       edit-below l true (smallAt l s) (tailAt l s) (newRegion l ts s) (rebuiltFunc l ts s ad) (rebuiltWords l ts s ad) s
       (region-below l ts s (λ d i h. ok .strings d i h .bytes)) (below-bytesOf 4 _, (below-bytesOf 4 _, (below-bytesOf 4 _, tt))) (ad .bytes)
 
-  rebuilt-placed : Placed l (rebuild l ts s)
+  rebuilt-placed : PlacedIn l (rebuild l ts s)
   unfolding rebuild
   rebuilt-placed =
       let o = ordered l s in
-      placed l s ad true (smallAt l s) (smallAt l s) (tailAt l s) (newTail l ts s) (newRegion l ts s) (rebuiltFunc l ts s ad) (rebuiltWords l ts s ad) (parted l ts s ad)
+      edit-placed l s ad true (smallAt l s) (smallAt l s) (tailAt l s) (newTail l ts s) (newRegion l ts s) (rebuiltFunc l ts s ad) (rebuiltWords l ts s ad) (parted l ts s ad)
       (rebuilt-limit l ts s ad ok) (rebuilt-field l ts s ad ok) (functions-same l s (rebuild l ts s) (counts-kept l ts s ad)) (tail-is l ts s ad ok) (rebuilt-debug l ts s ad ok)
       (none-or (smallAt l s) (tailAt l s) (debugIn l s) (omega (arith, o .header, o .kinds, o .hashes, o .smalls, o .pairs, o .storage)) (λ z. ad .debug z .0))
+
+  rebuilt-tabled : Tabled l (rebuild l ts s)
+  rebuilt-tabled =
+      let t : List ℕ = rebuild l ts s in
+      let counts = counts-kept l ts s ad in
+      let kinds = kinds-kept l ts s ad in
+      let sc = stringCount-same l s t counts in
+      let d : Str = record { wide = false; bytes = [] } in
+      let known : (i : ℕ) → i < stringsIn t → i < length ts = λ i h. omega (arith, sc, ok .count) in
+      record {
+        covers = covered-all l s t counts kinds ∙ ad .covers ∙ sym sc;
+        identifiers = identified-all l s t counts kinds ∙ ad .identifiers ∙ sym (identifierCount-same l s t counts);
+        overflows = rebuilt-overflows l ts s ad ok;
+        numbered = λ i h. rebuilt-index l ts s ad ok i (known i h);
+        stored = λ i h.
+            rw (ap (λ (p : Place). p .at) (rebuilt-place l ts s ad ok d i (known i h)), rebuilt-size l ts s ad ok d i (known i h), storage-size l ts s ad ok)
+            (store-within d ts i (known i h));
+        narrow = λ i h w j k.
+            let e = rebuilt-place l ts s ad ok d i (known i h) in
+            rw (rebuilt-byte l ts s ad ok d i j (known i h) (omega (arith, ap (λ (p : Place). p .count) e, count-le (getD ts i d))))
+            (ok .strings d i (known i h) .narrow (ap (λ (p : Place). p .wide) (sym e) ∙ w) j);
+      }
 
   -- a rebuilt image is admitted
   pub rebuilt-admitted : Admitted l (rebuild l ts s)
@@ -129,32 +233,6 @@ module _ (l : Layout) (ts : List Str) (s : List ℕ) (ad : Admitted l s) (ok : R
       let t : List ℕ = rebuild l ts s in
       let o = ordered l s in
       let n = length-rebuilt l ts s ad in
-      let pl = rebuilt-placed in
-      let counts = counts-kept l ts s ad in
-      let within : (i : ℕ) → i < stringsIn t → i < length ts = λ i h. omega (arith, stringCount-same l s t counts, ok .count) in
-      record {
-        bytes = rebuilt-below;
-        least = omega (arith, n, ad .room, first-record l, o .header, o .kinds, o .hashes);
-        most = ok .limit;
-        magic = number-agree s t 0 8 (rebuilt-front l ts s ad 0 8 (omega arith)) 0 8 (omega arith) (omega arith) ∙ ad .magic;
-        room = omega (arith, n, tail-is l ts s ad ok, ad .room);
-        covers = rw (kindCount-same l s t counts, covered-same l s t counts (kinds-kept l ts s ad) (kindsIn s) (omega arith), stringCount-same l s t counts) (ad .covers);
-        identifiers = rw (kindCount-same l s t counts, identified-same l s t counts (kinds-kept l ts s ad) (kindsIn s) (omega arith), identifierCount-same l s t counts) (ad .identifiers);
-        overflows = rebuilt-overflows l ts s ad ok;
-        numbered = λ i h. rebuilt-index l ts s ad ok i (within i h);
-        stored = λ i h.
-            let d : Str = record { wide = false; bytes = [] } in
-            rw (ap (λ (p : Place). p .at) (rebuilt-place l ts s ad ok d i (within i h)), rebuilt-size l ts s ad ok d i (within i h), storage-size l ts s ad ok)
-            (store-within d ts i (within i h));
-        narrow = λ i h w j k.
-            let d : Str = record { wide = false; bytes = [] } in
-            let e = rebuilt-place l ts s ad ok d i (within i h) in
-            rw (rebuilt-byte l ts s ad ok d i j (within i h) (omega (arith, ap (λ (p : Place). p .count) e, count-le (getD ts i d))))
-            (ok .strings d i (within i h) .narrow (ap (λ (p : Place). p .wide) (sym e) ∙ w) j);
-        header = pl .header;
-        body = pl .body;
-        info = pl .info;
-        debug = pl .debug;
-        apart = pl .apart;
-        clear = pl .clear;
-      }
+      admitted-of l t rebuilt-below (omega (arith, n, ad .room, first-record l, o .header, o .kinds, o .hashes)) (ok .limit)
+      (number-agree s t 0 8 (rebuilt-front l ts s ad 0 8 (omega arith)) 0 8 (omega arith) (omega arith) ∙ ad .magic)
+      (omega (arith, n, tail-is l ts s ad ok, ad .room)) rebuilt-tabled rebuilt-placed

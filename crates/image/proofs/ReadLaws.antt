@@ -96,14 +96,18 @@ module _ (l : Layout) (s t : List ℕ) (counts : Agree s t (table.functionCount 
         let o = ordered l s in
         rw kindsAt-same (number-agree s t (kindsAt l s) (hashesAt l s) kinds (kindsAt l s + k * 4) 4 (omega arith) (omega (arith, o .kinds)))
 
-    pub covered-same : (n : ℕ) → n ≤ kindsIn s → covered (kindIn l t) n ≡ covered (kindIn l s) n
+    covered-same : (n : ℕ) → n ≤ kindsIn s → covered (kindIn l t) n ≡ covered (kindIn l s) n
     unfolding covered
     covered-same n h = sum-ext n (λ k. runOf (kindIn l t k)) (λ k. runOf (kindIn l s k)) (λ k g. ap runOf (kind-same k (omega arith)))
 
-    pub identified-same : (n : ℕ) → n ≤ kindsIn s → identified (kindIn l t) n ≡ identified (kindIn l s) n
+    pub covered-all : covered (kindIn l t) (kindsIn t) ≡ covered (kindIn l s) (kindsIn s)
+    covered-all = rw kindCount-same (covered-same (kindsIn s) (omega arith))
+
+    pub identified-all : identified (kindIn l t) (kindsIn t) ≡ identified (kindIn l s) (kindsIn s)
     unfolding identified
-    identified-same n h =
-        sum-ext n (λ k. identifierRun (kindIn l t k)) (λ k. identifierRun (kindIn l s k)) (λ k g. ap identifierRun (kind-same k (omega arith)))
+    identified-all =
+        rw kindCount-same
+        (sum-ext (kindsIn s) (λ k. identifierRun (kindIn l t k)) (λ k. identifierRun (kindIn l s k)) (λ k g. ap identifierRun (kind-same k g)))
 
     flag-same : (n i : ℕ) → n ≤ kindsIn s → flagOf (kindIn l t) n i ≡ flagOf (kindIn l s) n i
     unfolding flagOf
@@ -143,8 +147,8 @@ module _ (l : Layout) (s t : List ℕ) (counts : Agree s t (table.functionCount 
 -- ---- strings
 
 module _ (l : Layout) (s t : List ℕ) (words : Agree s t (table.functionCount .at) (table.storageSize .at + table.storageSize .width)) where
-  counts : Agree s t (table.functionCount .at) (table.overflowCount .at)
-  counts p h k = words p h (omega arith)
+  pub counts-of : Agree s t (table.functionCount .at) (table.overflowCount .at)
+  counts-of p h k = words p h (omega arith)
 
   pub overflowCount-same : overflowsIn t ≡ overflowsIn s
   overflowCount-same = number-agree s t 40 64 words 56 4 (omega arith) (omega arith)
@@ -154,7 +158,7 @@ module _ (l : Layout) (s t : List ℕ) (words : Agree s t (table.functionCount .
 
   pub storageAt-same : storageAt l t ≡ storageAt l s
   unfolding storageAt
-  storageAt-same = rw (overAt-same l s t counts, overflowCount-same)
+  storageAt-same = rw (overAt-same l s t counts-of, overflowCount-same)
 
   pub tailAt-same : tailAt l t ≡ tailAt l s
   unfolding tailAt
@@ -165,14 +169,14 @@ module _ (l : Layout) (s t : List ℕ) (words : Agree s t (table.functionCount .
     unfolding smallIn
     small-same i h =
         let o = ordered l s in
-        rw (smallAt-same l s t counts)
+        rw (smallAt-same l s t counts-of)
         (number-agree s t (smallAt l s) (storageAt l s) tables (smallAt l s + i * 4) 4 (omega arith) (omega (arith, o .smalls, o .pairs)))
 
     pair-same : (j : ℕ) → j < overflowsIn s * 2 → overIn l t j ≡ overIn l s j
     unfolding overIn
     pair-same j h =
         let o = ordered l s in
-        rw (overAt-same l s t counts)
+        rw (overAt-same l s t counts-of)
         (number-agree s t (smallAt l s) (storageAt l s) tables (overAt l s + j * 4) 4 (omega (arith, o .smalls)) (omega (arith, o .pairs)))
 
     pub before-same : (i : ℕ) → i ≤ stringsIn s → overBefore (smallIn l t) i ≡ overBefore (smallIn l s) i
