@@ -7,3 +7,4 @@ pub mod BodyLaws
 pub mod RebuildLaws
 pub mod StringLaws
 pub mod KeepLaws
+pub mod ResizeLaws
