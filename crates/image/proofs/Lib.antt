@@ -8,3 +8,4 @@ pub mod RebuildLaws
 pub mod StringLaws
 pub mod KeepLaws
 pub mod ResizeLaws
+pub mod InPlaceLaws
