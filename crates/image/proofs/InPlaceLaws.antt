@@ -1,27 +1,25 @@
 -- One write that leaves an image's header, records, kinds, tables and large headers alone: a string in storage, a hash slot, a body of equal
 -- length. What was written is read back, every other string, hash slot and body stays, and the result is admitted again.
-use mathlib.Core.Path.{_≡_, refl, ap, sym, _∙_, subst}
-use mathlib.Core.Bool.{Bool, true, false}
-use mathlib.Core.Logic.{inl, inr, _≢_}
+use mathlib.Core.Path.{_≡_, ap, _∙_, subst}
+use mathlib.Core.Bool.{true}
+use mathlib.Core.Logic.{inl, inr}
 use mathlib.Core.List.{List}
 use Prim.Native.Nat.{ℕ, _+_, _-_, _*_, _^_, _≤_, _<_}
 use native.Mathlib.Omega.{arith}
 use lib.ListN.{length, getD}
 use lib.Seq.{sets, length-sets}
-use Rattle.bits.specs.Bytes.{bytesAt, bytesOf, wordAt}
+use Rattle.bits.specs.Bytes.{bytesAt, bytesOf}
 use Rattle.bits.proofs.TestLaws.{below-or}
 use Rattle.bits.proofs.ListLaws.{AllBelow, below-sets, below-bytesOf}
 use Rattle.bits.proofs.ByteLaws.{length-bytesOf}
 use Rattle.bits.proofs.WriteLaws.{sets-off, sets-in, bytesAt-back, numberAt-back}
 use Rattle.format.specs.declared.Layout.{Layout}
 use Rattle.format.specs.Table as table
-use Rattle.format.specs.Entry.{Place}
-use Rattle.image.specs.Sections.{functionsIn, identifiersIn, stringsIn, storageIn, hashesAt, smallAt, storageAt, tailAt}
-use Rattle.image.specs.Strings.{placeAt, sizeOf, Str, stringOf}
+use Rattle.image.specs.Sections.{functionsIn, identifiersIn, stringsIn, storageIn, hashesAt, smallAt, storageAt}
+use Rattle.image.specs.Strings.{placeAt, sizeOf, stringOf}
 use Rattle.image.specs.Kinds.{isIdentifier, rankOf, hashIn}
 use Rattle.image.specs.Functions.{Func, funcOf, bodyOf}
 use Rattle.image.specs.Admitted.{Disjoint, Admitted}
-use Rattle.image.proofs.EditLaws.{first-record}
 use Rattle.image.proofs.ReadLaws.{Agree, bytes-agree, number-agree, ordered, hashesAt-same, identifier-same, rank-same, counts-of, storageAt-same, place-same, string-same}
 use Rattle.image.proofs.RebuildLaws.{debug-place}
 use Rattle.image.proofs.KeepLaws.{Same, funcs-same, same-admitted}

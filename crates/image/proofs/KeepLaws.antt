@@ -1,9 +1,9 @@
 -- The result of an edit that moves what lies behind it, and so of a rebuild, is admitted again.
-use mathlib.Core.Path.{_≡_, refl, ap, sym, _∙_, subst}
+use mathlib.Core.Path.{_≡_, ap, sym, _∙_, subst}
 use mathlib.Core.Bool.{Bool, true, false}
 use mathlib.Core.Logic.{_≢_}
 use mathlib.Core.List.{List, [], _∷_, _++_}
-use Prim.Native.Nat.{ℕ, zero, suc, _+_, _-_, _≤_, _<_}
+use Prim.Native.Nat.{ℕ, suc, _+_, _-_, _≤_, _<_}
 use native.Mathlib.Omega.{arith}
 use lib.ListN.{length, getD, replicate}
 use Rattle.bits.specs.Bytes.{numberAt}
@@ -22,13 +22,13 @@ use Rattle.image.specs.Kinds.{kindIn, covered, identified}
 use Rattle.image.specs.Functions.{Func, funcOf}
 use Rattle.image.specs.Admitted.{Disjoint, Admitted}
 use Rattle.image.specs.Edit.{Write, edit}
-use Rattle.image.specs.Rebuild.{layFrom, storeOf, smallsFrom, pairsFor, overs, wordsOf, region, padded, rebuild}
+use Rattle.image.specs.Rebuild.{layFrom, storeOf, smallsFrom, pairsFor, wordsOf, region, padded, rebuild}
 use Rattle.image.proofs.WriteLaws.{words-below}
 use Rattle.image.proofs.TableLaws.{store-within}
 use Rattle.image.proofs.EditLaws.{first-record, edit-below}
 use Rattle.image.proofs.ReadLaws.{Agree, ordered, number-agree, functions-same, identifierCount-same, stringCount-same, covered-all, identified-all, func-same, counts-of, overflowCount-same, storageSize-same, storageAt-same, tailAt-same, small-same, before-same, place-same}
 use Rattle.image.proofs.BodyLaws.{Parted, sizeMost, place-in, header-in, body-in, info-in, headers-apart, body-apart, length-out, func-out}
-use Rattle.image.proofs.RebuildLaws.{none-or, Valid, newRegion, newTail, Rebuilds, rebuiltFunc, rebuiltWords, parted, length-rebuilt, rebuilt-front, counts-kept, kinds-kept, rebuilt-limit, rebuilt-field}
+use Rattle.image.proofs.RebuildLaws.{none-or, newRegion, newTail, Rebuilds, rebuiltFunc, rebuiltWords, parted, length-rebuilt, rebuilt-front, counts-kept, kinds-kept, rebuilt-limit, rebuilt-field}
 use Rattle.image.proofs.StringLaws.{count-le, tail-is, storage-size, rebuilt-debug, rebuilt-place, rebuilt-size, rebuilt-byte, rebuilt-overflows, rebuilt-index}
 
 -- ---- functions

@@ -1,10 +1,10 @@
 -- What is read of an image hangs only on the bytes that hold it.
-use mathlib.Core.Path.{_≡_, refl, ap, sym, _∙_, subst}
+use mathlib.Core.Path.{_≡_, refl, ap, sym, _∙_}
 use mathlib.Core.Bool.{Bool, true, false}
 use mathlib.Core.List.{List}
 use Prim.Native.Nat.{ℕ, zero, suc, _+_, _*_, _≤_, _<_}
 use native.Mathlib.Omega.{arith}
-use lib.ListN.{length, getD}
+use lib.ListN.{getD}
 use Rattle.bits.specs.Choice.{pick}
 use Rattle.bits.specs.Bytes.{bytesAt, number, numberAt}
 use Rattle.bits.proofs.SumLaws.{sum-ext}
@@ -12,11 +12,11 @@ use Rattle.bits.proofs.ByteLaws.{bytesAt-ext}
 use Rattle.format.specs.declared.Layout.{Layout}
 use Rattle.format.specs.Table as table
 use Rattle.format.specs.Record.{isLarge, pointer}
-use Rattle.format.specs.Entry.{Place, bit}
+use Rattle.format.specs.Entry.{bit}
 use Rattle.image.specs.Sections.{functionsIn, kindsIn, identifiersIn, stringsIn, overflowsIn, storageIn, recordAt, kindsAt, hashesAt, smallAt, overAt, storageAt, tailAt}
-use Rattle.image.specs.Strings.{overBefore, smallIn, overIn, placeAt, sizeOf, Str, stringOf}
-use Rattle.image.specs.Kinds.{kindIn, runOf, isIdentifierRun, identifierRun, covered, identified, flagOf, isIdentifier, rankOf, hashIn}
-use Rattle.image.specs.Functions.{Func, small, header, recordIn, funcOf}
+use Rattle.image.specs.Strings.{overBefore, smallIn, overIn, placeAt, sizeOf, stringOf}
+use Rattle.image.specs.Kinds.{kindIn, runOf, identifierRun, covered, identified, flagOf, isIdentifier, rankOf, hashIn}
+use Rattle.image.specs.Functions.{small, header, recordIn, funcOf}
 use Rattle.image.proofs.SlotLaws.{func-flag, func-pointer}
 use Rattle.image.proofs.EditLaws.{first-record, record-fits, header-ext}
 use Rattle.image.proofs.TableLaws.{over-ext, locate-ext}

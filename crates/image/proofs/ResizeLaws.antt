@@ -1,8 +1,8 @@
 -- A body replaced by one of another length: it is the new bytes, every other body, every string, kind and hash slot and every other byte
 -- of the tail but for large headers stays, and the result is admitted again.
-use mathlib.Core.Path.{_≡_, refl, ap, sym, _∙_}
+use mathlib.Core.Path.{_≡_, refl, _∙_}
 use mathlib.Core.Bool.{Bool, true, false}
-use mathlib.Core.Logic.{_⊎_, inl, inr, _≢_}
+use mathlib.Core.Logic.{inl, inr, _≢_}
 use mathlib.Core.List.{List, [], _∷_}
 use Prim.Native.Nat.{ℕ, _+_, _-_, _≤_, _<_}
 use native.Mathlib.Omega.{arith}
@@ -19,12 +19,12 @@ use Rattle.format.specs.Table as table
 use Rattle.format.specs.Move.{moved}
 use Rattle.format.proofs.MoveLaws.{moved-low, moved-from, Side, side}
 use Rattle.footer.specs.Finalize.{sizeLimit}
-use Rattle.image.specs.Sections.{functionsIn, identifiersIn, stringsIn, storageIn, debugIn, kindsAt, hashesAt, smallAt, storageAt, tailAt}
+use Rattle.image.specs.Sections.{functionsIn, identifiersIn, stringsIn, debugIn, kindsAt, hashesAt, smallAt, storageAt, tailAt}
 use Rattle.image.specs.Strings.{placeAt, sizeOf, stringOf}
 use Rattle.image.specs.Kinds.{isIdentifier, rankOf, hashIn}
 use Rattle.image.specs.Functions.{Func, funcOf, bodyOf}
 use Rattle.image.specs.Admitted.{Disjoint, Admitted}
-use Rattle.image.specs.Edit.{splice, Write, word, writeAll, edit, moveFunc}
+use Rattle.image.specs.Edit.{splice, Write, word, writeAll, moveFunc}
 use Rattle.image.specs.Rebuild.{resized, resize}
 use Rattle.image.proofs.WriteLaws.{Outside}
 use Rattle.image.proofs.SlotLaws.{small-fits}

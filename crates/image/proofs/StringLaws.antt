@@ -1,13 +1,13 @@
 -- The strings of a rebuild are the strings given, packed: string i + 1 starts where string i ends, an entry overflows exactly by 01's tests,
 -- the padding is zeros.
-use mathlib.Core.Path.{_≡_, refl, ap, sym, _∙_, subst}
+use mathlib.Core.Path.{_≡_, refl, ap, sym, _∙_}
 use mathlib.Core.Bool.{Bool, true, false}
 use mathlib.Core.Logic.{inl, inr}
-use mathlib.Core.List.{List, [], _∷_, _++_}
-use Prim.Native.Nat.{ℕ, zero, suc, _+_, _-_, _*_, _/_, _^_, _≤_, _<_}
+use mathlib.Core.List.{List, []}
+use Prim.Native.Nat.{ℕ, suc, _+_, _-_, _*_, _/_, _^_, _≤_, _<_}
 use native.Mathlib.Nat.{add-assoc, zero-add}
 use native.Mathlib.Omega.{arith}
-use lib.ListN.{length, getD, take, drop, replicate, length-append, length-replicate, getD-replicate, List·getD-append, List·getD-eq-default}
+use lib.ListN.{length, getD, take, replicate, length-append, length-replicate, getD-replicate, List·getD-append, List·getD-eq-default}
 use lib.Seq.{sets, length-sets, take-length}
 use Rattle.bits.specs.Bytes.{bytesAt, wordAt, bytesOf}
 use Rattle.bits.proofs.TestLaws.{below-or}
@@ -25,10 +25,10 @@ use Rattle.image.specs.Admitted.{Admitted}
 use Rattle.image.specs.Edit.{splice, writeAll}
 use Rattle.image.specs.Rebuild.{countOf, layFrom, storeOf, smallsFrom, pairsFor, overs, wordsOf, region, padded, rebuild}
 use Rattle.image.proofs.WriteLaws.{length-words, words-at}
-use Rattle.image.proofs.TableLaws.{Whole, length-smalls, length-pairs, smalls-fit, pairs-fit, located, before-all, full-is, index-is, length-lay, lay-at, store-next, store-within, store-byte}
+use Rattle.image.proofs.TableLaws.{length-smalls, length-pairs, smalls-fit, pairs-fit, located, before-all, full-is, index-is, length-lay, lay-at, store-next, store-within, store-byte}
 use Rattle.image.proofs.ReadLaws.{ordered, stringCount-same, smallAt-same}
 use Rattle.image.proofs.BodyLaws.{front-number, front-long, new-byte, place-most}
-use Rattle.image.proofs.RebuildLaws.{debug-place, none-or, Valid, newRegion, newTail, rebuiltPlace, Rebuilds, rebuiltFunc, rebuiltWords, parted, length-rebuilt, counts-kept, rebuilt-limit}
+use Rattle.image.proofs.RebuildLaws.{debug-place, none-or, Valid, newRegion, newTail, rebuiltPlace, Rebuilds, rebuiltFunc, rebuiltWords, parted, counts-kept, rebuilt-limit}
 
 -- ---- the strings of an admitted image
 

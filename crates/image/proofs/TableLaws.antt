@@ -1,12 +1,12 @@
 -- The string tables of a list of places are read back as those places; strings are packed one behind the other.
 use mathlib.Core.Path.{_≡_, refl, ap, sym, _∙_}
 use mathlib.Core.Bool.{Bool, true, false}
-use mathlib.Core.Logic.{_⊎_, inl, inr}
+use mathlib.Core.Logic.{inl, inr}
 use mathlib.Core.List.{List, [], _∷_, _++_, append-assoc}
 use Prim.Native.Nat.{ℕ, zero, suc, _+_, _*_, _^_, _≤_, _<_}
 use native.Mathlib.Nat.{not-suc-le-zero, le-of-suc-le-suc, add-zero, zero-add, add-assoc}
 use native.Mathlib.Omega.{arith}
-use borrow.Author.Tests.{ne-eqb, eqb-true}
+use borrow.Author.Tests.{ne-eqb}
 use lib.Dec.{eqb}
 use lib.ListN.{length, getD, take, drop, length-append, List·getD-append}
 use lib.Seq.{take-length}
@@ -17,8 +17,8 @@ use Rattle.format.specs.Table.{entryOffset, entryLength}
 use Rattle.format.specs.Record.{valueOf}
 use Rattle.format.specs.Entry.{Place, bit, entry, isOver, smallWord}
 use Rattle.format.proofs.EntryLaws.{entry-length, entry-offset, entry-wide, small-lt, not-over}
-use Rattle.image.specs.Strings.{isFull, isWide, overBefore, placeOf, locate, unitSize, sizeOf, Str}
-use Rattle.image.specs.Rebuild.{countOf, layFrom, storeOf, smallsFrom, pairOf, pairsFor, overs}
+use Rattle.image.specs.Strings.{isFull, isWide, overBefore, placeOf, locate, unitSize, Str}
+use Rattle.image.specs.Rebuild.{countOf, layFrom, storeOf, smallsFrom, pairsFor, overs}
 
 -- ---- one entry back to its place
 
