@@ -1,7 +1,7 @@
 -- An edit that moves what lies past the bytes that it replaces: each function is the old one at its moved places, each byte of the tail
 -- and each body stays, the new bytes are the body of the function that is to have them.
 use mathlib.Core.Path.{_≡_, refl, ap, sym, _∙_, subst}
-use mathlib.Core.Bool.{Bool, true, false}
+use mathlib.Core.Bool.{true, false}
 use mathlib.Core.Logic.{_⊎_, inl, inr, _≢_}
 use mathlib.Core.List.{List}
 use Prim.Native.Nat.{ℕ, _+_, _-_, _^_, _≤_, _<_}
@@ -23,42 +23,63 @@ use Rattle.footer.specs.Finalize.{sizeLimit}
 use Rattle.image.specs.Sections.{functionsIn, recordAt, kindsAt, tailAt}
 use Rattle.image.specs.Functions.{Func, funcOf, bodyOf}
 use Rattle.image.specs.Admitted.{Disjoint, Admitted}
-use Rattle.image.specs.Edit.{splice, Write, writeAll, edit, moveFunc}
+use Rattle.image.specs.Edit.{writeAll, moveFunc}
 use Rattle.image.specs.Rebuild.{resized}
 use Rattle.image.proofs.WriteLaws.{Outside, writes-off, splice-low, splice-new, splice-high, length-splice}
 use Rattle.image.proofs.SlotLaws.{SmallFits, func-flag, small-fits, modern-info}
-use Rattle.image.proofs.EditLaws.{first-record, HeaderFits, Fits, Sound, length-edit, edit-frame, edit-kept, edit-front, edit-func}
+use Rattle.image.proofs.EditLaws.{first-record, HeaderFits, Fits, Change, spliced, edited, Sound, length-edit, edit-frame, edit-kept, edit-front, edit-func}
 use Rattle.image.proofs.ReadLaws.{Agree, ordered}
 
--- what is asked of an edit of an image: n bytes for those from a to b; no large header, body or info place reaches into these but for
--- the body that they are; nothing of the tail comes to stand before the new tail
-pub record Parted (l : Layout) (s : List ℕ) (floor a b tail n : ℕ) (fs : ℕ → Func) (ws : List Write) : Type 0 where
-  pub records : recordAt l (functionsIn s) ≤ floor
-  pub under : floor ≤ a
-  pub low : floor ≤ tailAt l s
-  pub order : a ≤ b
-  pub room : b + footerLength ≤ length s
-  pub front : (p : ℕ) → table.recordRow l .at ≤ p → Outside p ws
-  pub past : (p w : ℕ) → Side a b p w → tailAt l s ≤ p → tail ≤ moved b (a + n) p
-  pub header : (j : ℕ) → j < functionsIn s → funcOf l s j .large ≡ true → Side a b (funcOf l s j .ptr) (table.largeRow l .width)
-  pub info : (j : ℕ) → j < functionsIn s → Side a b (funcOf l s j .info) 0
+-- where what lies past the bytes that are replaced goes
+abbrev pub movedBy : Change → ℕ → ℕ
+movedBy c = moved (c .b) (c .a + length (c .new))
+
+-- what is asked of an edit of an image: no large header, body or info place reaches into the bytes that are replaced, but for the body that
+-- they are; nothing of the tail comes to stand before the new tail
+pub record Parted (l : Layout) (s : List ℕ) (c : Change) : Type 0 where
+  pub records : recordAt l (functionsIn s) ≤ c .floor
+  pub under : c .floor ≤ c .a
+  pub low : c .floor ≤ tailAt l s
+  pub order : c .a ≤ c .b
+  pub room : c .b + footerLength ≤ length s
+  pub front : (p : ℕ) → table.recordRow l .at ≤ p → Outside p (c .words)
+  pub past : (p w : ℕ) → Side (c .a) (c .b) p w → tailAt l s ≤ p → c .tail ≤ movedBy c p
+  pub header : (j : ℕ) → j < functionsIn s → funcOf l s j .large ≡ true → Side (c .a) (c .b) (funcOf l s j .ptr) (table.largeRow l .width)
+  pub info : (j : ℕ) → j < functionsIn s → Side (c .a) (c .b) (funcOf l s j .info) 0
   -- a function keeps its body, or has the new one
   pub body : (j : ℕ) → j < functionsIn s
-      → ((fs j ≡ moveFunc (moved b (a + n)) (funcOf l s j)) × Side a b (funcOf l s j .begin) (funcOf l s j .size))
-      ⊎ ((fs j ≡ resized (moved b (a + n)) n (funcOf l s j)) × (funcOf l s j .begin ≡ a) × (tail ≤ a))
+      → ((c .func j ≡ moveFunc (movedBy c) (funcOf l s j)) × Side (c .a) (c .b) (funcOf l s j .begin) (funcOf l s j .size))
+      ⊎ ((c .func j ≡ resized (movedBy c) (length (c .new)) (funcOf l s j)) × (funcOf l s j .begin ≡ c .a) × (c .tail ≤ c .a))
 
 -- the largest size that a record without a large header holds
 abbrev pub sizeMost : Layout → ℕ
 sizeMost Modern = 16383
 sizeMost (Legacy big sources) = 32767
 
-module _ (l : Layout) (s : List ℕ) (ad : Admitted l s) (whole : Bool) (floor a b tail : ℕ) (new : List ℕ) (fs : ℕ → Func) (ws : List Write)
-    (pt : Parted l s floor a b tail (length new) fs ws) where
+-- an edit that is not refused with 11 or 12: the result is not over the limit, and small records hold what they are to hold
+pub record Holds (l : Layout) (s : List ℕ) (c : Change) : Type 0 where
+  pub limit : length s - c .b + (c .a + length (c .new)) ≤ sizeLimit
+  pub field : (j : ℕ) → j < functionsIn s → c .func j .large ≡ false
+      → (c .func j .begin ≤ 33554431) × (c .func j .size ≤ sizeMost l) × (c .func j .info ≤ 33554431)
+
+module _ (l : Layout) (s : List ℕ) (ad : Admitted l s) (c : Change) (pt : Parted l s c) where
+  abbrev a : ℕ
+  a = c .a
+
+  abbrev b : ℕ
+  b = c .b
+
+  abbrev new : List ℕ
+  new = c .new
+
+  abbrev fs : ℕ → Func
+  fs = c .func
+
   abbrev mv : ℕ → ℕ
-  mv = moved b (a + length new)
+  mv = movedBy c
 
   abbrev out : List ℕ
-  out = edit l whole a b new fs ws s
+  out = edited l c s
 
   -- the length of the result
   abbrev long : ℕ
@@ -67,7 +88,7 @@ module _ (l : Layout) (s : List ℕ) (ad : Admitted l s) (whole : Bool) (floor a
   fit : a ≤ length s
   fit = omega (arith, pt .order, pt .room)
 
-  len : length (splice a b new s) ≡ long
+  len : length (spliced c s) ≡ long
   len = length-splice a b new s fit (omega (arith, pt .room))
 
   -- 0 stays
@@ -90,14 +111,14 @@ module _ (l : Layout) (s : List ℕ) (ad : Admitted l s) (whole : Bool) (floor a
   was j h t = sym (like j h .0) ∙ t
 
   -- what lay in the tail before the footer lies there again
-  pub inside : (p w : ℕ) → Side a b p w → (tailAt l s ≤ p) × (p + w + footerLength ≤ length s) → (tail ≤ mv p) × (mv p + w + footerLength ≤ long)
+  pub inside : (p w : ℕ) → Side a b p w → (tailAt l s ≤ p) × (p + w + footerLength ≤ length s) → (c .tail ≤ mv p) × (mv p + w + footerLength ≤ long)
   inside p w d h = (
     pt .past p w d (h .0),
     omega (arith, moved-within a b (length new) p w (length s - footerLength) d (omega (arith, h .1)) (omega (arith, pt .room)), pt .room),
   )
 
   -- a place that is 0 or in the tail
-  pub place-in : (p : ℕ) → Side a b p 0 → (p ≢ 0 → (tailAt l s ≤ p) × (p + 0 + footerLength ≤ length s)) → mv p ≢ 0 → (tail ≤ mv p) × (mv p + 0 + footerLength ≤ long)
+  pub place-in : (p : ℕ) → Side a b p 0 → (p ≢ 0 → (tailAt l s ≤ p) × (p + 0 + footerLength ≤ length s)) → mv p ≢ 0 → (c .tail ≤ mv p) × (mv p + 0 + footerLength ≤ long)
   place-in p d h z = inside p 0 d (h (λ e. z (ap mv e ∙ still)))
 
   pub place-most : (p : ℕ) → Side a b p 0 → (p ≢ 0 → (tailAt l s ≤ p) × (p + 0 + footerLength ≤ length s)) → mv p ≤ long
@@ -107,21 +128,21 @@ module _ (l : Layout) (s : List ℕ) (ad : Admitted l s) (whole : Bool) (floor a
         | inr f ↦ omega (arith, inside p 0 d (h (eqb-false p 0 f)) .1)
       ]
 
-  pub header-in : (j : ℕ) → j < functionsIn s → fs j .large ≡ true → (tail ≤ fs j .ptr) × (fs j .ptr + table.largeRow l .width + footerLength ≤ long)
+  pub header-in : (j : ℕ) → j < functionsIn s → fs j .large ≡ true → (c .tail ≤ fs j .ptr) × (fs j .ptr + table.largeRow l .width + footerLength ≤ long)
   header-in j h t =
       rw (like j h .1) (inside (funcOf l s j .ptr) (table.largeRow l .width) (pt .header j h (was j h t)) (ad .header j h (was j h t)))
 
-  pub body-in : (j : ℕ) → j < functionsIn s → (tail ≤ fs j .begin) × (fs j .begin + fs j .size + footerLength ≤ long)
+  pub body-in : (j : ℕ) → j < functionsIn s → (c .tail ≤ fs j .begin) × (fs j .begin + fs j .size + footerLength ≤ long)
   body-in j h =
       elim (pt .body j h) [
-        | inl r ↦ subst (λ (f : Func). (tail ≤ f .begin) × (f .begin + f .size + footerLength ≤ long)) (sym (r .0))
+        | inl r ↦ subst (λ (f : Func). (c .tail ≤ f .begin) × (f .begin + f .size + footerLength ≤ long)) (sym (r .0))
             (inside (funcOf l s j .begin) (funcOf l s j .size) (r .1) (ad .body j h))
-        | inr r ↦ subst (λ (f : Func). (tail ≤ f .begin) × (f .begin + f .size + footerLength ≤ long)) (sym (r .0))
+        | inr r ↦ subst (λ (f : Func). (c .tail ≤ f .begin) × (f .begin + f .size + footerLength ≤ long)) (sym (r .0))
             (omega (arith, r .1, r .2), omega (arith, r .1, pt .room))
       ]
 
-  pub info-in : (j : ℕ) → j < functionsIn s → fs j .info ≢ 0 → (tail ≤ fs j .info) × (fs j .info + 0 + footerLength ≤ long)
-  info-in j h = subst (λ (p : ℕ). p ≢ 0 → (tail ≤ p) × (p + 0 + footerLength ≤ long)) (sym (like j h .2)) (place-in (funcOf l s j .info) (pt .info j h) (ad .info j h))
+  pub info-in : (j : ℕ) → j < functionsIn s → fs j .info ≢ 0 → (c .tail ≤ fs j .info) × (fs j .info + 0 + footerLength ≤ long)
+  info-in j h = subst (λ (p : ℕ). p ≢ 0 → (c .tail ≤ p) × (p + 0 + footerLength ≤ long)) (sym (like j h .2)) (place-in (funcOf l s j .info) (pt .info j h) (ad .info j h))
 
   pub headers-apart : (i j : ℕ) → i < functionsIn s → j < functionsIn s → i ≢ j → fs i .large ≡ true → fs j .large ≡ true
       → Disjoint (fs i .ptr) (table.largeRow l .width) (fs j .ptr) (table.largeRow l .width)
@@ -149,7 +170,7 @@ module _ (l : Layout) (s : List ℕ) (ad : Admitted l s) (whole : Bool) (floor a
             ])
       ]
 
-  pub sound : Sound l (functionsIn s) floor a (length (splice a b new s)) fs ws
+  pub sound : Sound l c s
   sound = record {
     records = pt .records;
     under = pt .under;
@@ -157,41 +178,41 @@ module _ (l : Layout) (s : List ℕ) (ad : Admitted l s) (whole : Bool) (floor a
     front = pt .front;
     past = λ j h t.
         rw (like j h .1)
-        (moved-from a b (length new) (funcOf l s j .ptr) (table.largeRow l .width) floor (pt .header j h (was j h t)) (pt .under)
+        (moved-from a b (length new) (funcOf l s j .ptr) (table.largeRow l .width) (c .floor) (pt .header j h (was j h t)) (pt .under)
         (omega (arith, pt .low, ad .header j h (was j h t) .0)));
     within = λ j h t. rw len (omega (arith, header-in j h t .1));
     apart = headers-apart;
   }
 
   pub length-out : length out ≡ long
-  length-out = length-edit l whole floor a b new fs ws s sound ∙ len
+  length-out = length-edit l c s sound ∙ len
 
   -- ---- what stays before the floor
 
   -- header bytes that the writes do not touch
-  pub front-agree : (from to : ℕ) → to ≤ 128 → ((p : ℕ) → from ≤ p → p < to → Outside p ws) → Agree s out from to
+  pub front-agree : (from to : ℕ) → to ≤ 128 → ((p : ℕ) → from ≤ p → p < to → Outside p (c .words)) → Agree s out from to
   front-agree from to h o p f k =
-      edit-front l whole floor a b new fs ws s sound p (omega (arith, first-record l))
-      ∙ writes-off ws (splice a b new s) p (o p f k)
+      edit-front l c s sound p (omega (arith, first-record l))
+      ∙ writes-off (c .words) (spliced c s) p (o p f k)
       ∙ splice-low a b new s fit p (omega (arith, first-record l, pt .records, pt .under))
 
   -- all bytes between the records and the floor
-  pub floor-agree : Agree s out (kindsAt l s) floor
-  floor-agree p h k = edit-kept l whole floor a b new fs ws s sound fit p (omega (arith, ordered l s .records)) k
+  pub floor-agree : Agree s out (kindsAt l s) (c .floor)
+  floor-agree p h k = edit-kept l c s sound fit p (omega (arith, ordered l s .records)) k
 
   -- a number in the header is what the writes leave
-  pub front-number : (q n : ℕ) → q + n ≤ 128 → numberAt out q n ≡ numberAt (writeAll ws (splice a b new s)) q n
+  pub front-number : (q n : ℕ) → q + n ≤ 128 → numberAt out q n ≡ numberAt (writeAll (c .words) (spliced c s)) q n
   front-number q n h =
-      numberAt-ext out (writeAll ws (splice a b new s)) n q q
-      (λ j k. edit-front l whole floor a b new fs ws s sound (q + j) (omega (arith, first-record l)))
+      numberAt-ext out (writeAll (c .words) (spliced c s)) n q q
+      (λ j k. edit-front l c s sound (q + j) (omega (arith, first-record l)))
 
-  pub front-long : 128 ≤ length (splice a b new s)
+  pub front-long : 128 ≤ length (spliced c s)
   front-long = rw len (omega (arith, first-record l, pt .records, pt .under))
 
   -- the new bytes
   pub new-byte : (k : ℕ) → k < length new → getD out (a + k) 0 ≡ getD new k 0
   new-byte k h =
-      edit-frame l whole floor a b new fs ws s sound (a + k) (omega (arith, pt .records, pt .under))
+      edit-frame l c s sound (a + k) (omega (arith, pt .records, pt .under))
       (λ j g t q.
       let e = like j g .1 in
       elim (moved-side a b (length new) (funcOf l s j .ptr) (table.largeRow l .width) (pt .header j g (was j g t))) [
@@ -222,31 +243,30 @@ module _ (l : Layout) (s : List ℕ) (ad : Admitted l s) (whole : Bool) (floor a
   no-info : (j : ℕ) → j < functionsIn s → l ≡ Modern → fs j .info ≡ 0
   no-info j h e = like j h .2 ∙ ap mv (subst (λ (k : Layout). funcOf k s j .info ≡ 0) (sym e) (modern-info s j)) ∙ still
 
-  module _ (limit : long ≤ sizeLimit)
-      (field : (j : ℕ) → j < functionsIn s → fs j .large ≡ false → (fs j .begin ≤ 33554431) × (fs j .size ≤ sizeMost l) × (fs j .info ≤ 33554431)) where
+  module _ (hd : Holds l s c) where
     pub fits : (j : ℕ) → j < functionsIn s → Fits l (fs j)
     fits j h = record {
       asLarge = λ t. (
-        pointer-fits l (fs j .ptr) (omega (arith, header-in j h t .1)),
-        header-fits l (fs j) (omega (arith, body-in j h .1)) (omega (arith, body-in j h .1)) (omega (arith, like j h .2, place-most (funcOf l s j .info) (pt .info j h) (ad .info j h))) (no-info j h),
+        pointer-fits l (fs j .ptr) (omega (arith, header-in j h t .1, hd .limit)),
+        header-fits l (fs j) (omega (arith, body-in j h .1, hd .limit)) (omega (arith, body-in j h .1, hd .limit)) (omega (arith, like j h .2, place-most (funcOf l s j .info) (pt .info j h) (ad .info j h))) (no-info j h),
       );
       asSmall = λ t.
           let u : funcOf l s j .large ≡ false = sym (like j h .0) ∙ t in
           let e : fs j .ptr ≡ 0 = like j h .1 ∙ ap mv (small-ptr l (funcOf l s j) (small-fits l s j u)) ∙ still in
-          small-holds l (fs j) t e (field j h t .0) (field j h t .1) (field j h t .2) (no-info j h);
+          small-holds l (fs j) t e (hd .field j h t .0) (hd .field j h t .1) (hd .field j h t .2) (no-info j h);
     }
 
     -- function j of the result
     pub func-out : (j : ℕ) → j < functionsIn s → funcOf l out j ≡ fs j
-    func-out j h = edit-func l whole floor a b new fs ws s sound (ad .bytes) j h (fits j h) (func-flag l s j ∙ sym (like j h .0))
+    func-out j h = edit-func l c s sound (ad .bytes) j h (fits j h) (func-flag l s j ∙ sym (like j h .0))
 
     -- ---- bytes
 
     -- a byte that no header word takes keeps its value at its moved place
-    pub tail-byte : (p : ℕ) → floor ≤ p → Side a b p 1 → ((j : ℕ) → j < functionsIn s → funcOf l s j .large ≡ true → Disjoint (funcOf l s j .ptr) (table.largeRow l .width) p 1)
+    pub tail-byte : (p : ℕ) → c .floor ≤ p → Side a b p 1 → ((j : ℕ) → j < functionsIn s → funcOf l s j .large ≡ true → Disjoint (funcOf l s j .ptr) (table.largeRow l .width) p 1)
         → getD out (mv p) 0 ≡ getD s p 0
     tail-byte p f d o =
-        edit-frame l whole floor a b new fs ws s sound (mv p) (omega (arith, pt .records, moved-from a b (length new) p 1 floor d (pt .under) f))
+        edit-frame l c s sound (mv p) (omega (arith, pt .records, moved-from a b (length new) p 1 (c .floor) d (pt .under) f))
         (λ j h t q.
         let e = like j h .1 in
         rw e (moved-apart a b (length new) (funcOf l s j .ptr) (table.largeRow l .width) p 1 (pt .header j h (was j h t)) d (o j h (was j h t)) (omega (arith, e))))
@@ -255,7 +275,7 @@ module _ (l : Layout) (s : List ℕ) (ad : Admitted l s) (whole : Bool) (floor a
           | inr r ↦ splice-high a b new s fit p r
         ]
 
-    bytes-out : (p w : ℕ) → floor ≤ p → Side a b p w
+    bytes-out : (p w : ℕ) → c .floor ≤ p → Side a b p w
         → (0 < w → (j : ℕ) → j < functionsIn s → funcOf l s j .large ≡ true → Disjoint (funcOf l s j .ptr) (table.largeRow l .width) p w)
         → bytesAt out (mv p) w ≡ bytesAt s p w
     bytes-out p w f d o =

@@ -1,6 +1,6 @@
 -- The result of an edit that moves what lies behind it, and so of a rebuild, is admitted again.
 use mathlib.Core.Path.{_≡_, ap, sym, _∙_, subst}
-use mathlib.Core.Bool.{Bool, true, false}
+use mathlib.Core.Bool.{true, false}
 use mathlib.Core.Logic.{_≢_}
 use mathlib.Core.List.{List, [], _∷_, _++_}
 use Prim.Native.Nat.{ℕ, suc, _+_, _-_, _≤_, _<_}
@@ -12,7 +12,6 @@ use Rattle.format.specs.declared.Layout.{Layout}
 use Rattle.format.specs.Table as table
 use Rattle.format.specs.Record.{valueOf}
 use Rattle.format.specs.Entry.{Place}
-use Rattle.format.specs.Move.{moved}
 use Rattle.format.proofs.MoveLaws.{Side}
 use Rattle.footer.specs.Footer.{footerLength}
 use Rattle.footer.specs.Finalize.{sizeLimit}
@@ -21,14 +20,13 @@ use Rattle.image.specs.Strings.{isFull, overBefore, smallIn, placeAt, si
 use Rattle.image.specs.Kinds.{kindIn, covered, identified}
 use Rattle.image.specs.Functions.{Func, funcOf}
 use Rattle.image.specs.Admitted.{Disjoint, Admitted}
-use Rattle.image.specs.Edit.{Write, edit}
 use Rattle.image.specs.Rebuild.{layFrom, storeOf, smallsFrom, pairsFor, wordsOf, region, padded, rebuild}
 use Rattle.image.proofs.WriteLaws.{words-below}
 use Rattle.image.proofs.TableLaws.{store-within}
-use Rattle.image.proofs.EditLaws.{first-record, edit-below}
+use Rattle.image.proofs.EditLaws.{first-record, edit-below, Change, edited}
 use Rattle.image.proofs.ReadLaws.{Agree, ordered, number-agree, functions-same, identifierCount-same, stringCount-same, covered-all, identified-all, func-same, counts-of, overflowCount-same, storageSize-same, storageAt-same, tailAt-same, small-same, before-same, place-same}
-use Rattle.image.proofs.BodyLaws.{Parted, sizeMost, place-in, header-in, body-in, info-in, headers-apart, body-apart, length-out, func-out}
-use Rattle.image.proofs.RebuildLaws.{none-or, newRegion, newTail, Rebuilds, rebuiltFunc, rebuiltWords, parted, length-rebuilt, rebuilt-front, counts-kept, kinds-kept, rebuilt-limit, rebuilt-field}
+use Rattle.image.proofs.BodyLaws.{movedBy, Parted, Holds, place-in, header-in, body-in, info-in, headers-apart, body-apart, length-out, func-out}
+use Rattle.image.proofs.RebuildLaws.{none-or, newRegion, Rebuilds, rebuilding, parted, holds, length-rebuilt, rebuilt-front, counts-kept, kinds-kept}
 use Rattle.image.proofs.StringLaws.{count-le, tail-is, storage-size, rebuilt-debug, rebuilt-place, rebuilt-size, rebuilt-byte, rebuilt-overflows, rebuilt-index}
 
 -- ---- functions
@@ -62,25 +60,21 @@ placed-as l n tail long d fs gs e pl = record {
 }
 
 -- after an edit that moves what lies behind it
-module _ (l : Layout) (s : List ℕ) (ad : Admitted l s) (whole : Bool) (floor a b tail : ℕ) (new : List ℕ) (fs : ℕ → Func) (ws : List Write)
-    (pt : Parted l s floor a b tail (length new) fs ws) (limit : length s - b + (a + length new) ≤ sizeLimit)
-    (field : (j : ℕ) → j < functionsIn s → fs j .large ≡ false → (fs j .begin ≤ 33554431) × (fs j .size ≤ sizeMost l) × (fs j .info ≤ 33554431)) where
-  abbrev out : List ℕ
-  out = edit l whole a b new fs ws s
-
-  pub edit-placed : functionsIn out ≡ functionsIn s → tailAt l out ≡ tail → debugIn l out ≡ moved b (a + length new) (debugIn l s) → Side a b (debugIn l s) 0 → PlacedIn l out
-  edit-placed count tailed debugged beside =
-      rw (count, tailed, debugged, length-out l s ad whole floor a b tail new fs ws pt)
-      (placed-as l (functionsIn s) tail (length s - b + (a + length new)) (moved b (a + length new) (debugIn l s)) fs (funcOf l out)
-      (λ j h. sym (func-out l s ad whole floor a b tail new fs ws pt limit field j h))
-      (record {
-        header = header-in l s ad whole floor a b tail new fs ws pt;
-        body = body-in l s ad whole floor a b tail new fs ws pt;
-        info = info-in l s ad whole floor a b tail new fs ws pt;
-        debug = place-in l s ad whole floor a b tail new fs ws pt (debugIn l s) beside (ad .debug);
-        apart = headers-apart l s ad whole floor a b tail new fs ws pt;
-        clear = body-apart l s ad whole floor a b tail new fs ws pt;
-      }))
+pub edit-placed : (l : Layout) (s : List ℕ) (ad : Admitted l s) (c : Change) (pt : Parted l s c) (hd : Holds l s c)
+    → functionsIn (edited l c s) ≡ functionsIn s → tailAt l (edited l c s) ≡ c .tail → debugIn l (edited l c s) ≡ movedBy c (debugIn l s)
+    → Side (c .a) (c .b) (debugIn l s) 0 → PlacedIn l (edited l c s)
+edit-placed l s ad c pt hd count tailed debugged beside =
+    rw (count, tailed, debugged, length-out l s ad c pt)
+    (placed-as l (functionsIn s) (c .tail) (length s - c .b + (c .a + length (c .new))) (movedBy c (debugIn l s)) (c .func) (funcOf l (edited l c s))
+    (λ j h. sym (func-out l s ad c pt hd j h))
+    (record {
+      header = header-in l s ad c pt;
+      body = body-in l s ad c pt;
+      info = info-in l s ad c pt;
+      debug = place-in l s ad c pt (debugIn l s) beside (ad .debug);
+      apart = headers-apart l s ad c pt;
+      clear = body-apart l s ad c pt;
+    }))
 
 -- ---- kinds and strings
 
@@ -194,15 +188,14 @@ module _ (l : Layout) (ts : List Str) (s : List ℕ) (ad : Admitted l s) (ok : R
   rebuilt-below : AllBelow 256 (rebuild l ts s)
   unfolding rebuild
   rebuilt-below =
-      edit-below l true (smallAt l s) (tailAt l s) (newRegion l ts s) (rebuiltFunc l ts s ad) (rebuiltWords l ts s ad) s
+      edit-below l (rebuilding l ts s) s
       (region-below l ts s (λ d i h. ok .strings d i h .bytes)) (below-bytesOf 4 _, (below-bytesOf 4 _, (below-bytesOf 4 _, tt))) (ad .bytes)
 
   rebuilt-placed : PlacedIn l (rebuild l ts s)
   unfolding rebuild
   rebuilt-placed =
       let o = ordered l s in
-      edit-placed l s ad true (smallAt l s) (smallAt l s) (tailAt l s) (newTail l ts s) (newRegion l ts s) (rebuiltFunc l ts s ad) (rebuiltWords l ts s ad) (parted l ts s ad)
-      (rebuilt-limit l ts s ad ok) (rebuilt-field l ts s ad ok) (functions-same l s (rebuild l ts s) (counts-kept l ts s ad)) (tail-is l ts s ad ok) (rebuilt-debug l ts s ad ok)
+      edit-placed l s ad (rebuilding l ts s) (parted l ts s ad) (holds l ts s ad ok) (functions-same l s (rebuild l ts s) (counts-kept l ts s ad)) (tail-is l ts s ad ok) (rebuilt-debug l ts s ad ok)
       (none-or (smallAt l s) (tailAt l s) (debugIn l s) (omega (arith, o .header, o .kinds, o .hashes, o .smalls, o .pairs, o .storage)) (λ z. ad .debug z .0))
 
   rebuilt-tabled : Tabled l (rebuild l ts s)

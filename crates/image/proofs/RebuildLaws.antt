@@ -26,14 +26,14 @@ use Rattle.image.specs.Strings.{Str}
 use Rattle.image.specs.Kinds.{isIdentifier, rankOf, hashIn}
 use Rattle.image.specs.Functions.{Func, recordIn, funcOf, bodyOf}
 use Rattle.image.specs.Admitted.{Disjoint, Admitted}
-use Rattle.image.specs.Edit.{Write, word, putSmall, pointed, moveFunc}
+use Rattle.image.specs.Edit.{word, putSmall, pointed, moveFunc}
 use Rattle.image.specs.Rebuild.{layFrom, storeOf, overs, region, padded, rebuild}
 use Rattle.image.proofs.WriteLaws.{Outside}
 use Rattle.image.proofs.TableLaws.{Whole}
 use Rattle.image.proofs.SlotLaws.{SmallFits, small-fits}
-use Rattle.image.proofs.EditLaws.{first-record, record-back}
+use Rattle.image.proofs.EditLaws.{first-record, Change, record-back}
 use Rattle.image.proofs.ReadLaws.{Agree, ordered, identifier-same, rank-same, hash-same}
-use Rattle.image.proofs.BodyLaws.{Parted, sizeMost, sound, length-out, front-agree, floor-agree, func-out, tail-byte, body-kept}
+use Rattle.image.proofs.BodyLaws.{Parted, sizeMost, Holds, sound, length-out, front-agree, floor-agree, func-out, tail-byte, body-kept}
 
 -- ---- the debug offset stands in the header, behind the words of the strings
 
@@ -83,19 +83,25 @@ pub record Rebuilds (l : Layout) (ts : List Str) (s : List ℕ) : Type 0 where
   pub field : (j : ℕ) → j < functionsIn s → funcOf l s j .large ≡ false
       → (rebuiltPlace l ts s (funcOf l s j .begin) ≤ 33554431) × (rebuiltPlace l ts s (funcOf l s j .info) ≤ 33554431)
 
-module _ (l : Layout) (ts : List Str) (s : List ℕ) (ad : Admitted l s) where
-  abbrev pub rebuiltFunc : ℕ → Func
-  rebuiltFunc j = moveFunc (rebuiltPlace l ts s) (funcOf l s j)
-
-  -- the words of the header that are written
-  abbrev pub rebuiltWords : List Write
-  rebuiltWords =
+-- the rebuild as an edit
+abbrev pub rebuilding : Layout → List Str → List ℕ → Change
+rebuilding l ts s = record {
+  whole = true;
+  a = smallAt l s;
+  b = tailAt l s;
+  new = newRegion l ts s;
+  func = λ j. moveFunc (rebuiltPlace l ts s) (funcOf l s j);
+  words =
       word (table.overflowCount .at) (overs (layFrom 0 ts))
       ∷ word (table.storageSize .at) (length (storeOf ts))
       ∷ word (table.placeIn l (table.debugRow l)) (rebuiltPlace l ts s (debugIn l s))
-      ∷ []
+      ∷ [];
+  floor = smallAt l s;
+  tail = newTail l ts s;
+}
 
-  pub words-off : (p : ℕ) → (56 ≤ p → 64 ≤ p) → (table.placeIn l (table.debugRow l) ≤ p → table.placeIn l (table.debugRow l) + 4 ≤ p) → Outside p rebuiltWords
+module _ (l : Layout) (ts : List Str) (s : List ℕ) (ad : Admitted l s) where
+  words-off : (p : ℕ) → (56 ≤ p → 64 ≤ p) → (table.placeIn l (table.debugRow l) ≤ p → table.placeIn l (table.debugRow l) + 4 ≤ p) → Outside p (rebuilding l ts s .words)
   words-off p h k = (
     (λ q. omega (arith, h (omega arith), length-bytesOf 4 (overs (layFrom 0 ts)))),
     (
@@ -104,7 +110,7 @@ module _ (l : Layout) (ts : List Str) (s : List ℕ) (ad : Admitted l s) where
     ),
   )
 
-  pub parted : Parted l s (smallAt l s) (smallAt l s) (tailAt l s) (newTail l ts s) (length (newRegion l ts s)) rebuiltFunc rebuiltWords
+  pub parted : Parted l s (rebuilding l ts s)
   parted =
       let o = ordered l s in
       record {
@@ -124,19 +130,19 @@ module _ (l : Layout) (ts : List Str) (s : List ℕ) (ad : Admitted l s) where
 
   pub length-rebuilt : length (rebuild l ts s) ≡ length s - tailAt l s + newTail l ts s
   unfolding rebuild
-  length-rebuilt = length-out l s ad true (smallAt l s) (smallAt l s) (tailAt l s) (newTail l ts s) (newRegion l ts s) rebuiltFunc rebuiltWords parted
+  length-rebuilt = length-out l s ad (rebuilding l ts s) parted
 
   -- ---- header words before 56, kinds and hash slots stay
 
   pub rebuilt-front : (from to : ℕ) → to ≤ table.overflowCount .at → Agree s (rebuild l ts s) from to
   unfolding rebuild
   rebuilt-front from to h =
-      front-agree l s ad true (smallAt l s) (smallAt l s) (tailAt l s) (newTail l ts s) (newRegion l ts s) rebuiltFunc rebuiltWords parted from to (omega arith)
+      front-agree l s ad (rebuilding l ts s) parted from to (omega arith)
       (λ p f k. words-off p (λ q. omega arith) (λ q. omega (arith, debug-place l .0)))
 
   pub rebuilt-middle : Agree s (rebuild l ts s) (kindsAt l s) (smallAt l s)
   unfolding rebuild
-  rebuilt-middle = floor-agree l s ad true (smallAt l s) (smallAt l s) (tailAt l s) (newTail l ts s) (newRegion l ts s) rebuiltFunc rebuiltWords parted
+  rebuilt-middle = floor-agree l s ad (rebuilding l ts s) parted
 
   pub counts-kept : Agree s (rebuild l ts s) (table.functionCount .at) (table.overflowCount .at)
   counts-kept = rebuilt-front 40 56 (omega arith)
@@ -163,10 +169,10 @@ module _ (l : Layout) (ts : List Str) (s : List ℕ) (ad : Admitted l s) where
   unfolding rebuild pointed
   rebuilt-record j h t g x y =
       let n = recordIn l s j in
-      let f = rebuiltFunc j in
+      let f = moveFunc (rebuiltPlace l ts s) (funcOf l s j) in
       ap (valueOf g)
-      (record-back l true (smallAt l s) (smallAt l s) (tailAt l s) (newRegion l ts s) rebuiltFunc rebuiltWords s
-      (sound l s ad true (smallAt l s) (smallAt l s) (tailAt l s) (newTail l ts s) (newRegion l ts s) rebuiltFunc rebuiltWords parted) (ad .bytes) j h
+      (record-back l (rebuilding l ts s) s
+      (sound l s ad (rebuilding l ts s) parted) (ad .bytes) j h
       ∙ ap (λ (b : Bool). pick b (putPointer l (f .ptr) n) (putSmall l f n)) t)
       ∙ pointer-keeps l g (f .ptr) n x y
 
@@ -176,20 +182,22 @@ module _ (l : Layout) (ts : List Str) (s : List ℕ) (ad : Admitted l s) where
     pub rebuilt-limit : length s - tailAt l s + newTail l ts s ≤ sizeLimit
     rebuilt-limit = rw length-rebuilt at (ok .limit)
 
-    pub rebuilt-field : (j : ℕ) → j < functionsIn s → rebuiltFunc j .large ≡ false
-        → (rebuiltFunc j .begin ≤ 33554431) × (rebuiltFunc j .size ≤ sizeMost l) × (rebuiltFunc j .info ≤ 33554431)
-    rebuilt-field j h t = (ok .field j h t .0, size-most l (funcOf l s j) (small-fits l s j t), ok .field j h t .1)
+    pub holds : Holds l s (rebuilding l ts s)
+    holds = record {
+      limit = rebuilt-limit;
+      field = λ j h t. (ok .field j h t .0, size-most l (funcOf l s j) (small-fits l s j t), ok .field j h t .1);
+    }
 
     -- each function is the old one at its moved places
-    pub rebuilt-func : (j : ℕ) → j < functionsIn s → funcOf l (rebuild l ts s) j ≡ rebuiltFunc j
+    pub rebuilt-func : (j : ℕ) → j < functionsIn s → funcOf l (rebuild l ts s) j ≡ moveFunc (rebuiltPlace l ts s) (funcOf l s j)
     unfolding rebuild
-    rebuilt-func = func-out l s ad true (smallAt l s) (smallAt l s) (tailAt l s) (newTail l ts s) (newRegion l ts s) rebuiltFunc rebuiltWords parted rebuilt-limit rebuilt-field
+    rebuilt-func = func-out l s ad (rebuilding l ts s) parted holds
 
     -- each body has the same bytes
     pub rebuilt-body : (j : ℕ) → j < functionsIn s → bodyOf l (rebuild l ts s) j ≡ bodyOf l s j
     unfolding rebuild
     rebuilt-body j h =
-        body-kept l s ad true (smallAt l s) (smallAt l s) (tailAt l s) (newTail l ts s) (newRegion l ts s) rebuiltFunc rebuiltWords parted rebuilt-limit rebuilt-field
+        body-kept l s ad (rebuilding l ts s) parted holds
         j h refl (inr (ad .body j h .0))
 
     -- each byte of the tail that is no word of a large header keeps its value at its moved place
@@ -198,7 +206,7 @@ module _ (l : Layout) (ts : List Str) (s : List ℕ) (ad : Admitted l s) where
         → getD (rebuild l ts s) (rebuiltPlace l ts s p) 0 ≡ getD s p 0
     unfolding rebuild
     rebuilt-tail p h o =
-        tail-byte l s ad true (smallAt l s) (smallAt l s) (tailAt l s) (newTail l ts s) (newRegion l ts s) rebuiltFunc rebuiltWords parted rebuilt-limit rebuilt-field
+        tail-byte l s ad (rebuilding l ts s) parted holds
         p (omega (arith, parted .low)) (inr h) o
 
 -- a modern record with a large header keeps its bits 24 to 45: "bit 24 stays"

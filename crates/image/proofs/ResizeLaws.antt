@@ -22,15 +22,15 @@ use Rattle.footer.specs.Finalize.{sizeLimit}
 use Rattle.image.specs.Sections.{functionsIn, identifiersIn, stringsIn, debugIn, kindsAt, hashesAt, smallAt, storageAt, tailAt}
 use Rattle.image.specs.Strings.{placeAt, sizeOf, stringOf}
 use Rattle.image.specs.Kinds.{isIdentifier, rankOf, hashIn}
-use Rattle.image.specs.Functions.{Func, funcOf, bodyOf}
+use Rattle.image.specs.Functions.{funcOf, bodyOf}
 use Rattle.image.specs.Admitted.{Disjoint, Admitted}
-use Rattle.image.specs.Edit.{splice, Write, word, writeAll, moveFunc}
+use Rattle.image.specs.Edit.{splice, word, writeAll, moveFunc}
 use Rattle.image.specs.Rebuild.{resized, resize}
 use Rattle.image.proofs.WriteLaws.{Outside}
 use Rattle.image.proofs.SlotLaws.{small-fits}
-use Rattle.image.proofs.EditLaws.{first-record, edit-below}
+use Rattle.image.proofs.EditLaws.{first-record, edit-below, Change}
 use Rattle.image.proofs.ReadLaws.{Agree, ordered, number-agree, functions-same, hash-same, identifier-same, rank-same, counts-of, tailAt-same, string-same}
-use Rattle.image.proofs.BodyLaws.{Parted, sizeMost, place-most, length-out, front-agree, floor-agree, front-number, front-long, func-out, tail-byte, body-kept, body-new}
+use Rattle.image.proofs.BodyLaws.{Parted, sizeMost, Holds, place-most, length-out, front-agree, floor-agree, front-number, front-long, func-out, tail-byte, body-kept, body-new}
 use Rattle.image.proofs.RebuildLaws.{debug-place, size-most}
 use Rattle.image.proofs.KeepLaws.{PlacedIn, edit-placed, Tabled, tabled-same, admitted-of}
 
@@ -60,7 +60,23 @@ pub record Alone (l : Layout) (i : ℕ) (body : List ℕ) (s : List ℕ) : Type 
       → (resizedPlace l i body s (funcOf l s j .begin) ≤ 33554431) × (resizedPlace l i body s (funcOf l s j .info) ≤ 33554431)
   pub sized : funcOf l s i .large ≡ false → length body ≤ sizeMost l
 
+-- the patch as an edit
+abbrev pub resizing : Layout → ℕ → List ℕ → List ℕ → Change
+resizing l i body s = record {
+  whole = false;
+  a = funcOf l s i .begin;
+  b = threshold l s i;
+  new = body;
+  func = λ j. pick (eqb j i) (resized (resizedPlace l i body s) (length body) (funcOf l s j)) (moveFunc (resizedPlace l i body s) (funcOf l s j));
+  words = word (table.placeIn l (table.debugRow l)) (resizedPlace l i body s (debugIn l s)) ∷ [];
+  floor = tailAt l s;
+  tail = tailAt l s;
+}
+
 module _ (l : Layout) (i : ℕ) (body : List ℕ) (s : List ℕ) (ad : Admitted l s) (al : Alone l i body s) where
+  abbrev c : Change
+  c = resizing l i body s
+
   abbrev out : List ℕ
   out = resize l i body s
 
@@ -73,19 +89,13 @@ module _ (l : Layout) (i : ℕ) (body : List ℕ) (s : List ℕ) (ad : Admitted 
   abbrev mv : ℕ → ℕ
   mv = resizedPlace l i body s
 
-  abbrev fs : ℕ → Func
-  fs j = pick (eqb j i) (resized mv (length body) (funcOf l s j)) (moveFunc mv (funcOf l s j))
-
-  abbrev ws : List Write
-  ws = word (table.placeIn l (table.debugRow l)) (mv (debugIn l s)) ∷ []
-
-  own : fs i ≡ resized mv (length body) (funcOf l s i)
+  own : c .func i ≡ resized mv (length body) (funcOf l s i)
   own = rw (eq-eqb i i refl)
 
-  other : (j : ℕ) → j ≢ i → fs j ≡ moveFunc mv (funcOf l s j)
+  other : (j : ℕ) → j ≢ i → c .func j ≡ moveFunc mv (funcOf l s j)
   other j d = rw (ne-eqb j i d)
 
-  words-off : (p : ℕ) → (table.placeIn l (table.debugRow l) ≤ p → table.placeIn l (table.debugRow l) + 4 ≤ p) → Outside p ws
+  words-off : (p : ℕ) → (table.placeIn l (table.debugRow l) ≤ p → table.placeIn l (table.debugRow l) + 4 ≤ p) → Outside p (c .words)
   words-off p k = ((λ q. omega (arith, k q, length-bytesOf 4 (mv (debugIn l s)))), tt)
 
   body-side : (j : ℕ) → j < functionsIn s → j ≢ i → Side a b (funcOf l s j .begin) (funcOf l s j .size)
@@ -100,7 +110,7 @@ module _ (l : Layout) (i : ℕ) (body : List ℕ) (s : List ℕ) (ad : Admitted 
         | inr f ↦ absurd (omega (arith, al .debug (eqb-false (debugIn l s) 0 f)))
       ])
 
-  parted : Parted l s (tailAt l s) a b (tailAt l s) (length body) fs ws
+  parted : Parted l s c
   parted =
       let o = ordered l s in
       let (x, y) = ad .body i (al .known) in
@@ -123,12 +133,12 @@ module _ (l : Layout) (i : ℕ) (body : List ℕ) (s : List ℕ) (ad : Admitted 
 
   pub length-resized : length out ≡ length s - b + (a + length body)
   unfolding resize
-  length-resized = length-out l s ad false (tailAt l s) a b (tailAt l s) body fs ws parted
+  length-resized = length-out l s ad c parted
 
   resized-limit : length s - b + (a + length body) ≤ sizeLimit
   resized-limit = rw length-resized at (al .limit)
 
-  resized-field : (j : ℕ) → j < functionsIn s → fs j .large ≡ false → (fs j .begin ≤ 33554431) × (fs j .size ≤ sizeMost l) × (fs j .info ≤ 33554431)
+  resized-field : (j : ℕ) → j < functionsIn s → c .func j .large ≡ false → (c .func j .begin ≤ 33554431) × (c .func j .size ≤ sizeMost l) × (c .func j .info ≤ 33554431)
   resized-field j h = go (eqb j i) refl
     where
       go : (c : Bool) → eqb j i ≡ c → (pick c (resized mv (length body) (funcOf l s j)) (moveFunc mv (funcOf l s j))) .large ≡ false
@@ -141,22 +151,25 @@ module _ (l : Layout) (i : ℕ) (body : List ℕ) (s : List ℕ) (ad : Admitted 
           (omega (arith, m, al .field j h t .0), al .sized (rw e at t), al .field j h t .1)
       go false q t = (al .field j h t .0, size-most l (funcOf l s j) (small-fits l s j t), al .field j h t .1)
 
+  holds : Holds l s c
+  holds = record { limit = resized-limit; field = resized-field }
+
   -- ---- functions and bodies
 
   -- each function is the old one at its moved places; the patched one has its new size
-  pub resized-func : (j : ℕ) → j < functionsIn s → funcOf l out j ≡ fs j
+  pub resized-func : (j : ℕ) → j < functionsIn s → funcOf l out j ≡ c .func j
   unfolding resize
-  resized-func = func-out l s ad false (tailAt l s) a b (tailAt l s) body fs ws parted resized-limit resized-field
+  resized-func = func-out l s ad c parted holds
 
   -- the patched body is the new one
   pub own-body : bodyOf l out i ≡ body
   unfolding resize
-  own-body = body-new l s ad false (tailAt l s) a b (tailAt l s) body fs ws parted resized-limit resized-field i (al .known) own refl
+  own-body = body-new l s ad c parted holds i (al .known) own refl
 
   -- every other body has the same bytes
   pub other-body : (j : ℕ) → j < functionsIn s → j ≢ i → bodyOf l out j ≡ bodyOf l s j
   unfolding resize
-  other-body j h d = body-kept l s ad false (tailAt l s) a b (tailAt l s) body fs ws parted resized-limit resized-field j h (other j d) (body-side j h d)
+  other-body j h d = body-kept l s ad c parted holds j h (other j d) (body-side j h d)
 
   -- each byte of the tail outside the patched body that is no word of a large header keeps its value at its moved place
   pub resized-tail : (p : ℕ) → tailAt l s ≤ p → (p < b → p < a)
@@ -164,7 +177,7 @@ module _ (l : Layout) (i : ℕ) (body : List ℕ) (s : List ℕ) (ad : Admitted 
       → getD out (mv p) 0 ≡ getD s p 0
   unfolding resize
   resized-tail p h k o =
-      tail-byte l s ad false (tailAt l s) a b (tailAt l s) body fs ws parted resized-limit resized-field p h (side a b p 1 (λ g. omega (arith, k g))) o
+      tail-byte l s ad c parted holds p h (side a b p 1 (λ g. omega (arith, k g))) o
 
   -- the debug offset moves with what it points to
   pub resized-debug : debugIn l out ≡ mv (debugIn l s)
@@ -172,20 +185,20 @@ module _ (l : Layout) (i : ℕ) (body : List ℕ) (s : List ℕ) (ad : Admitted 
   resized-debug =
       let d = table.placeIn l (table.debugRow l) in
       let (u, v) = debug-place l in
-      front-number l s ad false (tailAt l s) a b (tailAt l s) body fs ws parted d 4 v
-      ∙ numberAt-back (splice a b body s) d 4 (mv (debugIn l s)) (omega (arith, front-long l s ad false (tailAt l s) a b (tailAt l s) body fs ws parted))
-      (omega (arith, resized-limit, place-most l s ad false (tailAt l s) a b (tailAt l s) body fs ws parted (debugIn l s) debug-side (ad .debug)))
+      front-number l s ad c parted d 4 v
+      ∙ numberAt-back (splice a b body s) d 4 (mv (debugIn l s)) (omega (arith, front-long l s ad c parted))
+      (omega (arith, resized-limit, place-most l s ad c parted (debugIn l s) debug-side (ad .debug)))
 
   -- ---- strings, kinds and hash slots stay
 
   resized-front : (from to : ℕ) → to ≤ 64 → Agree s out from to
   unfolding resize
   resized-front from to h =
-      front-agree l s ad false (tailAt l s) a b (tailAt l s) body fs ws parted from to (omega arith) (λ p f k. words-off p (λ q. omega (arith, debug-place l .0)))
+      front-agree l s ad c parted from to (omega arith) (λ p f k. words-off p (λ q. omega (arith, debug-place l .0)))
 
   pub resized-middle : Agree s out (kindsAt l s) (tailAt l s)
   unfolding resize
-  resized-middle = floor-agree l s ad false (tailAt l s) a b (tailAt l s) body fs ws parted
+  resized-middle = floor-agree l s ad c parted
 
   resized-words : Agree s out (table.functionCount .at) (table.storageSize .at + table.storageSize .width)
   resized-words = resized-front 40 64 (omega arith)
@@ -219,12 +232,12 @@ module _ (l : Layout) (i : ℕ) (body : List ℕ) (s : List ℕ) (ad : Admitted 
 
   resized-below : AllBelow 256 out
   unfolding resize
-  resized-below = edit-below l false a b body fs ws s (al .bytes) (below-bytesOf 4 (mv (debugIn l s)), tt) (ad .bytes)
+  resized-below = edit-below l c s (al .bytes) (below-bytesOf 4 (mv (debugIn l s)), tt) (ad .bytes)
 
   resized-placed : PlacedIn l out
   unfolding resize
   resized-placed =
-      edit-placed l s ad false (tailAt l s) a b (tailAt l s) body fs ws parted resized-limit resized-field (functions-same l s out (counts-of l s out resized-words))
+      edit-placed l s ad c parted holds (functions-same l s out (counts-of l s out resized-words))
       (tailAt-same l s out resized-words) resized-debug debug-side
 
   resized-tabled : Tabled l out

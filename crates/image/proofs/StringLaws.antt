@@ -28,7 +28,7 @@ use Rattle.image.proofs.WriteLaws.{length-words, words-at}
 use Rattle.image.proofs.TableLaws.{length-smalls, length-pairs, smalls-fit, pairs-fit, located, before-all, full-is, index-is, length-lay, lay-at, store-next, store-within, store-byte}
 use Rattle.image.proofs.ReadLaws.{ordered, stringCount-same, smallAt-same}
 use Rattle.image.proofs.BodyLaws.{front-number, front-long, new-byte, place-most}
-use Rattle.image.proofs.RebuildLaws.{debug-place, none-or, Valid, newRegion, newTail, rebuiltPlace, Rebuilds, rebuiltFunc, rebuiltWords, parted, counts-kept, rebuilt-limit}
+use Rattle.image.proofs.RebuildLaws.{debug-place, none-or, Valid, newRegion, newTail, rebuiltPlace, Rebuilds, rebuilding, parted, counts-kept, rebuilt-limit}
 
 -- ---- the strings of an admitted image
 
@@ -94,13 +94,13 @@ module _ (l : Layout) (ts : List Str) (s : List ℕ) (ad : Admitted l s) (ok : R
 
   -- ---- the words of the header
 
-  header-word : (q : ℕ) → q + 4 ≤ 128 → wordAt out q ≡ wordAt (writeAll (rebuiltWords l ts s ad) base) q
+  header-word : (q : ℕ) → q + 4 ≤ 128 → wordAt out q ≡ wordAt (writeAll (rebuilding l ts s .words) base) q
   unfolding rebuild
   header-word q h =
-      front-number l s ad true (smallAt l s) (smallAt l s) (tailAt l s) (newTail l ts s) (newRegion l ts s) (rebuiltFunc l ts s ad) (rebuiltWords l ts s ad) (parted l ts s ad) q 4 h
+      front-number l s ad (rebuilding l ts s) (parted l ts s ad) q 4 h
 
   long : 128 ≤ length base
-  long = front-long l s ad true (smallAt l s) (smallAt l s) (tailAt l s) (newTail l ts s) (newRegion l ts s) (rebuiltFunc l ts s ad) (rebuiltWords l ts s ad) (parted l ts s ad)
+  long = front-long l s ad (rebuilding l ts s) (parted l ts s ad)
 
   abbrev debugAt : ℕ
   debugAt = table.placeIn l (table.debugRow l)
@@ -135,7 +135,7 @@ module _ (l : Layout) (ts : List Str) (s : List ℕ) (ad : Admitted l s) (ok : R
       let (u, v) = debug-place l in
       let o = ordered l s in
       let m : rebuiltPlace l ts s (debugIn l s) ≤ length s - tailAt l s + newTail l ts s =
-      place-most l s ad true (smallAt l s) (smallAt l s) (tailAt l s) (newTail l ts s) (newRegion l ts s) (rebuiltFunc l ts s ad) (rebuiltWords l ts s ad) (parted l ts s ad) (debugIn l s)
+      place-most l s ad (rebuilding l ts s) (parted l ts s ad) (debugIn l s)
       (none-or (smallAt l s) (tailAt l s) (debugIn l s) (omega (arith, o .header, o .kinds, o .hashes, o .smalls, o .pairs, o .storage)) (λ z. ad .debug z .0)) (ad .debug) in
       header-word debugAt v
       ∙ numberAt-back base₂ debugAt 4 (rebuiltPlace l ts s (debugIn l s)) (simp length-sets (omega (arith, long))) (omega (arith, rebuilt-limit l ts s ad ok))
@@ -159,7 +159,7 @@ module _ (l : Layout) (ts : List Str) (s : List ℕ) (ad : Admitted l s) (ok : R
   region-byte : (q : ℕ) → q < length (newRegion l ts s) → getD out (smallAt l s + q) 0 ≡ getD (newRegion l ts s) q 0
   unfolding rebuild
   region-byte q h =
-      new-byte l s ad true (smallAt l s) (smallAt l s) (tailAt l s) (newTail l ts s) (newRegion l ts s) (rebuiltFunc l ts s ad) (rebuiltWords l ts s ad) (parted l ts s ad) q h
+      new-byte l s ad (rebuilding l ts s) (parted l ts s ad) q h
 
   own-byte : (q : ℕ) → q < length (region ts) → getD out (smallAt l s + q) 0 ≡ getD (region ts) q 0
   unfolding padded
