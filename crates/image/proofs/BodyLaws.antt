@@ -51,7 +51,10 @@ pub record Parted (l : Layout) (s : List ℕ) (c : Change) : Type 0 where
       → ((c .func j ≡ moveFunc (movedBy c) (funcOf l s j)) × Side (c .a) (c .b) (funcOf l s j .begin) (funcOf l s j .size))
       ⊎ ((c .func j ≡ resized (movedBy c) (length (c .new)) (funcOf l s j)) × (funcOf l s j .begin ≡ c .a) × (c .tail ≤ c .a))
 
--- the largest size that a record without a large header holds
+-- the largest place that a record without a large header holds, and the largest size
+abbrev pub placeMost : ℕ
+placeMost = 33554431
+
 abbrev pub sizeMost : Layout → ℕ
 sizeMost Modern = 16383
 sizeMost (Legacy big sources) = 32767
@@ -60,7 +63,25 @@ sizeMost (Legacy big sources) = 32767
 pub record Holds (l : Layout) (s : List ℕ) (c : Change) : Type 0 where
   pub limit : length s - c .b + (c .a + length (c .new)) ≤ sizeLimit
   pub field : (j : ℕ) → j < functionsIn s → c .func j .large ≡ false
-      → (c .func j .begin ≤ 33554431) × (c .func j .size ≤ sizeMost l) × (c .func j .info ≤ 33554431)
+      → (c .func j .begin ≤ placeMost) × (c .func j .size ≤ sizeMost l) × (c .func j .info ≤ placeMost)
+
+-- what each layout can hold, from bounds that both share
+pointer-of : (l : Layout) (p : ℕ) → p < 2 ^ 32 → PointerFits l p
+pointer-of Modern p h = h
+pointer-of (Legacy big sources) p h = omega arith
+
+header-of : (l : Layout) (f : Func) → f .begin < 2 ^ 32 → f .size < 2 ^ 32 → f .info < 2 ^ 32 → (l ≡ Modern → f .info ≡ 0) → HeaderFits l f
+header-of Modern f x y z m = (x, y, m refl)
+header-of (Legacy big sources) f x y z m = (x, y, z)
+
+small-of : (l : Layout) (f : Func) → f .large ≡ false → f .ptr ≡ 0 → f .begin ≤ placeMost → f .size ≤ sizeMost l → f .info ≤ placeMost → (l ≡ Modern → f .info ≡ 0)
+    → SmallFits l f
+small-of Modern f t e x y z m = (t, e, omega arith, omega arith, m refl)
+small-of (Legacy big sources) f t e x y z m = (t, e, omega arith, omega arith, omega arith)
+
+small-pointer : (l : Layout) (f : Func) → SmallFits l f → f .ptr ≡ 0
+small-pointer Modern f h = h .1
+small-pointer (Legacy big sources) f h = h .1
 
 module _ (l : Layout) (s : List ℕ) (ad : Admitted l s) (c : Change) (pt : Parted l s c) where
   abbrev a : ℕ
@@ -221,24 +242,30 @@ module _ (l : Layout) (s : List ℕ) (ad : Admitted l s) (c : Change) (pt : Part
       ])
       ∙ splice-new a b new s fit k h
 
+  -- a byte that no header word takes keeps its value at its moved place
+  pub tail-byte : (p : ℕ) → c .floor ≤ p → Side a b p 1 → ((j : ℕ) → j < functionsIn s → funcOf l s j .large ≡ true → Disjoint (funcOf l s j .ptr) (table.largeRow l .width) p 1)
+      → getD out (mv p) 0 ≡ getD s p 0
+  tail-byte p f d o =
+      edit-frame l c s sound (mv p) (omega (arith, pt .records, moved-from a b (length new) p 1 (c .floor) d (pt .under) f))
+      (λ j h t q.
+      let e = like j h .1 in
+      rw e (moved-apart a b (length new) (funcOf l s j .ptr) (table.largeRow l .width) p 1 (pt .header j h (was j h t)) d (o j h (was j h t)) (omega (arith, e))))
+      ∙ elim d [
+        | inl r ↦ rw (moved-low b (a + length new) p (r .0)) (splice-low a b new s fit p (omega (arith, r .1)))
+        | inr r ↦ splice-high a b new s fit p r
+      ]
+
+  bytes-out : (p w : ℕ) → c .floor ≤ p → Side a b p w
+      → (0 < w → (j : ℕ) → j < functionsIn s → funcOf l s j .large ≡ true → Disjoint (funcOf l s j .ptr) (table.largeRow l .width) p w)
+      → bytesAt out (mv p) w ≡ bytesAt s p w
+  bytes-out p w f d o =
+      bytesAt-ext out s w (mv p) p
+      (λ k h.
+      let r = moved-run a b (length new) (pt .order) p w k d h in
+      ap (λ (q : ℕ). getD out q 0) (sym (r .1))
+      ∙ tail-byte (p + k) (omega arith) (r .0) (λ j q t g. omega (arith, o (omega arith) j q t (omega arith))))
+
   -- ---- they fit their records: what is not refused with 11 or 12
-
-  pointer-fits : (l : Layout) (p : ℕ) → p < 2 ^ 32 → PointerFits l p
-  pointer-fits Modern p h = h
-  pointer-fits (Legacy big sources) p h = omega arith
-
-  header-fits : (l : Layout) (f : Func) → f .begin < 2 ^ 32 → f .size < 2 ^ 32 → f .info < 2 ^ 32 → (l ≡ Modern → f .info ≡ 0) → HeaderFits l f
-  header-fits Modern f x y z m = (x, y, m refl)
-  header-fits (Legacy big sources) f x y z m = (x, y, z)
-
-  small-holds : (l : Layout) (f : Func) → f .large ≡ false → f .ptr ≡ 0 → f .begin ≤ 33554431 → f .size ≤ sizeMost l → f .info ≤ 33554431 → (l ≡ Modern → f .info ≡ 0)
-      → SmallFits l f
-  small-holds Modern f t e x y z m = (t, e, omega arith, omega arith, m refl)
-  small-holds (Legacy big sources) f t e x y z m = (t, e, omega arith, omega arith, omega arith)
-
-  small-ptr : (l : Layout) (f : Func) → SmallFits l f → f .ptr ≡ 0
-  small-ptr Modern f h = h .1
-  small-ptr (Legacy big sources) f h = h .1
 
   no-info : (j : ℕ) → j < functionsIn s → l ≡ Modern → fs j .info ≡ 0
   no-info j h e = like j h .2 ∙ ap mv (subst (λ (k : Layout). funcOf k s j .info ≡ 0) (sym e) (modern-info s j)) ∙ still
@@ -247,43 +274,18 @@ module _ (l : Layout) (s : List ℕ) (ad : Admitted l s) (c : Change) (pt : Part
     pub fits : (j : ℕ) → j < functionsIn s → Fits l (fs j)
     fits j h = record {
       asLarge = λ t. (
-        pointer-fits l (fs j .ptr) (omega (arith, header-in j h t .1, hd .limit)),
-        header-fits l (fs j) (omega (arith, body-in j h .1, hd .limit)) (omega (arith, body-in j h .1, hd .limit)) (omega (arith, like j h .2, place-most (funcOf l s j .info) (pt .info j h) (ad .info j h))) (no-info j h),
+        pointer-of l (fs j .ptr) (omega (arith, header-in j h t .1, hd .limit)),
+        header-of l (fs j) (omega (arith, body-in j h .1, hd .limit)) (omega (arith, body-in j h .1, hd .limit)) (omega (arith, like j h .2, place-most (funcOf l s j .info) (pt .info j h) (ad .info j h))) (no-info j h),
       );
       asSmall = λ t.
           let u : funcOf l s j .large ≡ false = sym (like j h .0) ∙ t in
-          let e : fs j .ptr ≡ 0 = like j h .1 ∙ ap mv (small-ptr l (funcOf l s j) (small-fits l s j u)) ∙ still in
-          small-holds l (fs j) t e (hd .field j h t .0) (hd .field j h t .1) (hd .field j h t .2) (no-info j h);
+          let e : fs j .ptr ≡ 0 = like j h .1 ∙ ap mv (small-pointer l (funcOf l s j) (small-fits l s j u)) ∙ still in
+          small-of l (fs j) t e (hd .field j h t .0) (hd .field j h t .1) (hd .field j h t .2) (no-info j h);
     }
 
     -- function j of the result
     pub func-out : (j : ℕ) → j < functionsIn s → funcOf l out j ≡ fs j
     func-out j h = edit-func l c s sound (ad .bytes) j h (fits j h) (func-flag l s j ∙ sym (like j h .0))
-
-    -- ---- bytes
-
-    -- a byte that no header word takes keeps its value at its moved place
-    pub tail-byte : (p : ℕ) → c .floor ≤ p → Side a b p 1 → ((j : ℕ) → j < functionsIn s → funcOf l s j .large ≡ true → Disjoint (funcOf l s j .ptr) (table.largeRow l .width) p 1)
-        → getD out (mv p) 0 ≡ getD s p 0
-    tail-byte p f d o =
-        edit-frame l c s sound (mv p) (omega (arith, pt .records, moved-from a b (length new) p 1 (c .floor) d (pt .under) f))
-        (λ j h t q.
-        let e = like j h .1 in
-        rw e (moved-apart a b (length new) (funcOf l s j .ptr) (table.largeRow l .width) p 1 (pt .header j h (was j h t)) d (o j h (was j h t)) (omega (arith, e))))
-        ∙ elim d [
-          | inl r ↦ rw (moved-low b (a + length new) p (r .0)) (splice-low a b new s fit p (omega (arith, r .1)))
-          | inr r ↦ splice-high a b new s fit p r
-        ]
-
-    bytes-out : (p w : ℕ) → c .floor ≤ p → Side a b p w
-        → (0 < w → (j : ℕ) → j < functionsIn s → funcOf l s j .large ≡ true → Disjoint (funcOf l s j .ptr) (table.largeRow l .width) p w)
-        → bytesAt out (mv p) w ≡ bytesAt s p w
-    bytes-out p w f d o =
-        bytesAt-ext out s w (mv p) p
-        (λ k h.
-        let r = moved-run a b (length new) (pt .order) p w k d h in
-        ap (λ (q : ℕ). getD out q 0) (sym (r .1))
-        ∙ tail-byte (p + k) (omega arith) (r .0) (λ j q t g. omega (arith, o (omega arith) j q t (omega arith))))
 
     -- a function that keeps its body has the same bytes
     pub body-kept : (j : ℕ) → j < functionsIn s → fs j ≡ moveFunc mv (funcOf l s j) → Side a b (funcOf l s j .begin) (funcOf l s j .size) → bodyOf l out j ≡ bodyOf l s j

@@ -33,7 +33,7 @@ use Rattle.image.proofs.TableLaws.{Whole}
 use Rattle.image.proofs.SlotLaws.{SmallFits, small-fits}
 use Rattle.image.proofs.EditLaws.{first-record, Change, record-back}
 use Rattle.image.proofs.ReadLaws.{Agree, ordered, identifier-same, rank-same, hash-same}
-use Rattle.image.proofs.BodyLaws.{Parted, sizeMost, Holds, sound, length-out, front-agree, floor-agree, func-out, tail-byte, body-kept}
+use Rattle.image.proofs.BodyLaws.{Parted, placeMost, sizeMost, Holds, sound, length-out, front-agree, floor-agree, func-out, tail-byte, body-kept}
 
 -- ---- the debug offset stands in the header, behind the words of the strings
 
@@ -81,7 +81,7 @@ pub record Rebuilds (l : Layout) (ts : List Str) (s : List ℕ) : Type 0 where
   pub strings : (d : Str) (i : ℕ) → i < length ts → Valid (getD ts i d)
   pub limit : length (rebuild l ts s) ≤ sizeLimit
   pub field : (j : ℕ) → j < functionsIn s → funcOf l s j .large ≡ false
-      → (rebuiltPlace l ts s (funcOf l s j .begin) ≤ 33554431) × (rebuiltPlace l ts s (funcOf l s j .info) ≤ 33554431)
+      → (rebuiltPlace l ts s (funcOf l s j .begin) ≤ placeMost) × (rebuiltPlace l ts s (funcOf l s j .info) ≤ placeMost)
 
 -- the rebuild as an edit
 abbrev pub rebuilding : Layout → List Str → List ℕ → Change
@@ -176,7 +176,18 @@ module _ (l : Layout) (ts : List Str) (s : List ℕ) (ad : Admitted l s) where
       ∙ ap (λ (b : Bool). pick b (putPointer l (f .ptr) n) (putSmall l f n)) t)
       ∙ pointer-keeps l g (f .ptr) n x y
 
-  -- ---- functions, bodies and the tail
+  -- ---- the tail
+
+  -- each byte of the tail that is no word of a large header keeps its value at its moved place
+  pub rebuilt-tail : (p : ℕ) → tailAt l s ≤ p
+      → ((j : ℕ) → j < functionsIn s → funcOf l s j .large ≡ true → Disjoint (funcOf l s j .ptr) (table.largeRow l .width) p 1)
+      → getD (rebuild l ts s) (rebuiltPlace l ts s p) 0 ≡ getD s p 0
+  unfolding rebuild
+  rebuilt-tail p h o =
+      tail-byte l s ad (rebuilding l ts s) parted
+      p (omega (arith, parted .low)) (inr h) o
+
+  -- ---- functions and bodies
 
   module _ (ok : Rebuilds l ts s) where
     pub rebuilt-limit : length s - tailAt l s + newTail l ts s ≤ sizeLimit
@@ -199,15 +210,6 @@ module _ (l : Layout) (ts : List Str) (s : List ℕ) (ad : Admitted l s) where
     rebuilt-body j h =
         body-kept l s ad (rebuilding l ts s) parted holds
         j h refl (inr (ad .body j h .0))
-
-    -- each byte of the tail that is no word of a large header keeps its value at its moved place
-    pub rebuilt-tail : (p : ℕ) → tailAt l s ≤ p
-        → ((j : ℕ) → j < functionsIn s → funcOf l s j .large ≡ true → Disjoint (funcOf l s j .ptr) (table.largeRow l .width) p 1)
-        → getD (rebuild l ts s) (rebuiltPlace l ts s p) 0 ≡ getD s p 0
-    unfolding rebuild
-    rebuilt-tail p h o =
-        tail-byte l s ad (rebuilding l ts s) parted holds
-        p (omega (arith, parted .low)) (inr h) o
 
 -- a modern record with a large header keeps its bits 24 to 45: "bit 24 stays"
 pub bit24-kept : (ts : List Str) (s : List ℕ) → Admitted Modern s → (j : ℕ) → j < functionsIn s → funcOf Modern s j .large ≡ true

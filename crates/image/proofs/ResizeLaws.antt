@@ -30,7 +30,7 @@ use Rattle.image.proofs.WriteLaws.{Outside}
 use Rattle.image.proofs.SlotLaws.{small-fits}
 use Rattle.image.proofs.EditLaws.{first-record, edit-below, Change}
 use Rattle.image.proofs.ReadLaws.{Agree, ordered, number-agree, functions-same, hash-same, identifier-same, rank-same, counts-of, tailAt-same, string-same}
-use Rattle.image.proofs.BodyLaws.{Parted, sizeMost, Holds, place-most, length-out, front-agree, floor-agree, front-number, front-long, func-out, tail-byte, body-kept, body-new}
+use Rattle.image.proofs.BodyLaws.{Parted, placeMost, sizeMost, Holds, place-most, length-out, front-agree, floor-agree, front-number, front-long, func-out, tail-byte, body-kept, body-new}
 use Rattle.image.proofs.RebuildLaws.{debug-place, size-most}
 use Rattle.image.proofs.KeepLaws.{PlacedIn, edit-placed, Tabled, tabled-same, admitted-of}
 
@@ -57,7 +57,7 @@ pub record Alone (l : Layout) (i : ℕ) (body : List ℕ) (s : List ℕ) : Type 
   pub limit : length (resize l i body s) ≤ sizeLimit
   -- 12: what moves fits the small records, and so does the new size
   pub field : (j : ℕ) → j < functionsIn s → funcOf l s j .large ≡ false
-      → (resizedPlace l i body s (funcOf l s j .begin) ≤ 33554431) × (resizedPlace l i body s (funcOf l s j .info) ≤ 33554431)
+      → (resizedPlace l i body s (funcOf l s j .begin) ≤ placeMost) × (resizedPlace l i body s (funcOf l s j .info) ≤ placeMost)
   pub sized : funcOf l s i .large ≡ false → length body ≤ sizeMost l
 
 -- the patch as an edit
@@ -138,13 +138,13 @@ module _ (l : Layout) (i : ℕ) (body : List ℕ) (s : List ℕ) (ad : Admitted 
   resized-limit : length s - b + (a + length body) ≤ sizeLimit
   resized-limit = rw length-resized at (al .limit)
 
-  resized-field : (j : ℕ) → j < functionsIn s → c .func j .large ≡ false → (c .func j .begin ≤ 33554431) × (c .func j .size ≤ sizeMost l) × (c .func j .info ≤ 33554431)
+  resized-field : (j : ℕ) → j < functionsIn s → c .func j .large ≡ false → (c .func j .begin ≤ placeMost) × (c .func j .size ≤ sizeMost l) × (c .func j .info ≤ placeMost)
   resized-field j h = go (eqb j i) refl
     where
       go : (c : Bool) → eqb j i ≡ c → (pick c (resized mv (length body) (funcOf l s j)) (moveFunc mv (funcOf l s j))) .large ≡ false
-          → (pick c (resized mv (length body) (funcOf l s j)) (moveFunc mv (funcOf l s j)) .begin ≤ 33554431)
+          → (pick c (resized mv (length body) (funcOf l s j)) (moveFunc mv (funcOf l s j)) .begin ≤ placeMost)
           × (pick c (resized mv (length body) (funcOf l s j)) (moveFunc mv (funcOf l s j)) .size ≤ sizeMost l)
-          × (pick c (resized mv (length body) (funcOf l s j)) (moveFunc mv (funcOf l s j)) .info ≤ 33554431)
+          × (pick c (resized mv (length body) (funcOf l s j)) (moveFunc mv (funcOf l s j)) .info ≤ placeMost)
       go true q t =
           let e : j ≡ i = eqb-true j i q in
           let m : mv (funcOf l s j .begin) ≡ funcOf l s j .begin = moved-low b (a + length body) (funcOf l s j .begin) (rw e (omega (arith, al .some))) in
@@ -177,7 +177,7 @@ module _ (l : Layout) (i : ℕ) (body : List ℕ) (s : List ℕ) (ad : Admitted 
       → getD out (mv p) 0 ≡ getD s p 0
   unfolding resize
   resized-tail p h k o =
-      tail-byte l s ad c parted holds p h (side a b p 1 (λ g. omega (arith, k g))) o
+      tail-byte l s ad c parted p h (side a b p 1 (λ g. omega (arith, k g))) o
 
   -- the debug offset moves with what it points to
   pub resized-debug : debugIn l out ≡ mv (debugIn l s)
