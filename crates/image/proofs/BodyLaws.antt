@@ -20,15 +20,17 @@ use Rattle.format.proofs.MoveLaws.{moved-low, Side, moved-side, moved-from, mov
 use Rattle.format.proofs.RecordLaws.{PointerFits}
 use Rattle.footer.specs.Footer.{footerLength}
 use Rattle.footer.specs.Finalize.{sizeLimit}
-use Rattle.image.specs.Sections.{functionsIn, recordAt, kindsAt, tailAt}
+use Rattle.image.specs.Sections.{functionsIn, kindsAt, tailAt}
 use Rattle.image.specs.Functions.{Func, funcOf, bodyOf}
 use Rattle.image.specs.Admitted.{Disjoint, Admitted}
+use Rattle.image.specs.Fit.{offsetRow, sizeRow}
 use Rattle.image.specs.Edit.{writeAll, moveFunc}
 use Rattle.image.specs.Rebuild.{resized}
 use Rattle.image.proofs.WriteLaws.{Outside, writes-off, splice-low, splice-new, splice-high, length-splice}
 use Rattle.image.proofs.SlotLaws.{SmallFits, func-flag, small-fits, modern-info}
-use Rattle.image.proofs.EditLaws.{first-record, HeaderFits, Fits, Change, spliced, edited, Sound, length-edit, edit-frame, edit-kept, edit-front, edit-func}
-use Rattle.image.proofs.ReadLaws.{Agree, ordered}
+use Rattle.image.proofs.PlaceLaws.{records-at, ordered}
+use Rattle.image.proofs.EditLaws.{HeaderFits, Fits, Change, spliced, edited, Sound, length-edit, edit-frame, edit-kept, edit-front, edit-func}
+use Rattle.image.proofs.ReadLaws.{Agree}
 
 -- where what lies past the bytes that are replaced goes
 abbrev pub movedBy : Change → ℕ → ℕ
@@ -37,7 +39,7 @@ movedBy c = moved (c .b) (c .a + length (c .new))
 -- what is asked of an edit of an image: no large header, body or info place reaches into the bytes that are replaced, but for the body that
 -- they are; nothing of the tail comes to stand before the new tail
 pub record Parted (l : Layout) (s : List ℕ) (c : Change) : Type 0 where
-  pub records : recordAt l (functionsIn s) ≤ c .floor
+  pub records : kindsAt l s ≤ c .floor
   pub under : c .floor ≤ c .a
   pub low : c .floor ≤ tailAt l s
   pub order : c .a ≤ c .b
@@ -51,19 +53,11 @@ pub record Parted (l : Layout) (s : List ℕ) (c : Change) : Type 0 where
       → ((c .func j ≡ moveFunc (movedBy c) (funcOf l s j)) × Side (c .a) (c .b) (funcOf l s j .begin) (funcOf l s j .size))
       ⊎ ((c .func j ≡ resized (movedBy c) (length (c .new)) (funcOf l s j)) × (funcOf l s j .begin ≡ c .a) × (c .tail ≤ c .a))
 
--- the largest place that a record without a large header holds, and the largest size
-abbrev pub placeMost : ℕ
-placeMost = 33554431
-
-abbrev pub sizeMost : Layout → ℕ
-sizeMost Modern = 16383
-sizeMost (Legacy big sources) = 32767
-
 -- an edit that is not refused with 11 or 12: the result is not over the limit, and small records hold what they are to hold
 pub record Holds (l : Layout) (s : List ℕ) (c : Change) : Type 0 where
   pub limit : length s - c .b + (c .a + length (c .new)) ≤ sizeLimit
   pub field : (j : ℕ) → j < functionsIn s → c .func j .large ≡ false
-      → (c .func j .begin ≤ placeMost) × (c .func j .size ≤ sizeMost l) × (c .func j .info ≤ placeMost)
+      → (c .func j .begin < 2 ^ offsetRow l .width) × (c .func j .size < 2 ^ sizeRow l .width) × (c .func j .info < 2 ^ table.legacyInfo .width)
 
 -- what each layout can hold, from bounds that both share
 pointer-of : (l : Layout) (p : ℕ) → p < 2 ^ 32 → PointerFits l p
@@ -74,10 +68,10 @@ header-of : (l : Layout) (f : Func) → f .begin < 2 ^ 32 → f .size < 2 ^ 32 �
 header-of Modern f x y z m = (x, y, m refl)
 header-of (Legacy big sources) f x y z m = (x, y, z)
 
-small-of : (l : Layout) (f : Func) → f .large ≡ false → f .ptr ≡ 0 → f .begin ≤ placeMost → f .size ≤ sizeMost l → f .info ≤ placeMost → (l ≡ Modern → f .info ≡ 0)
-    → SmallFits l f
-small-of Modern f t e x y z m = (t, e, omega arith, omega arith, m refl)
-small-of (Legacy big sources) f t e x y z m = (t, e, omega arith, omega arith, omega arith)
+small-of : (l : Layout) (f : Func) → f .large ≡ false → f .ptr ≡ 0 → f .begin < 2 ^ offsetRow l .width → f .size < 2 ^ sizeRow l .width → f .info < 2 ^ table.legacyInfo .width
+    → (l ≡ Modern → f .info ≡ 0) → SmallFits l f
+small-of Modern f t e x y z m = (t, e, x, y, m refl)
+small-of (Legacy big sources) f t e x y z m = (t, e, x, y, z)
 
 small-pointer : (l : Layout) (f : Func) → SmallFits l f → f .ptr ≡ 0
 small-pointer Modern f h = h .1
@@ -114,7 +108,7 @@ module _ (l : Layout) (s : List ℕ) (ad : Admitted l s) (c : Change) (pt : Part
 
   -- 0 stays
   some : 0 < b
-  some = omega (arith, first-record l, pt .records, pt .under, pt .order)
+  some = omega (arith, ordered l s .kinds, pt .records, pt .under, pt .order)
 
   still : mv 0 ≡ 0
   still = moved-low b (a + length new) 0 some
@@ -213,22 +207,22 @@ module _ (l : Layout) (s : List ℕ) (ad : Admitted l s) (c : Change) (pt : Part
   -- header bytes that the writes do not touch
   pub front-agree : (from to : ℕ) → to ≤ 128 → ((p : ℕ) → from ≤ p → p < to → Outside p (c .words)) → Agree s out from to
   front-agree from to h o p f k =
-      edit-front l c s sound p (omega (arith, first-record l))
+      edit-front l c s sound p (omega (arith, records-at l))
       ∙ writes-off (c .words) (spliced c s) p (o p f k)
-      ∙ splice-low a b new s fit p (omega (arith, first-record l, pt .records, pt .under))
+      ∙ splice-low a b new s fit p (omega (arith, ordered l s .kinds, pt .records, pt .under))
 
   -- all bytes between the records and the floor
   pub floor-agree : Agree s out (kindsAt l s) (c .floor)
-  floor-agree p h k = edit-kept l c s sound fit p (omega (arith, ordered l s .records)) k
+  floor-agree p h k = edit-kept l c s sound fit p h k
 
   -- a number in the header is what the writes leave
   pub front-number : (q n : ℕ) → q + n ≤ 128 → numberAt out q n ≡ numberAt (writeAll (c .words) (spliced c s)) q n
   front-number q n h =
       numberAt-ext out (writeAll (c .words) (spliced c s)) n q q
-      (λ j k. edit-front l c s sound (q + j) (omega (arith, first-record l)))
+      (λ j k. edit-front l c s sound (q + j) (omega (arith, records-at l)))
 
   pub front-long : 128 ≤ length (spliced c s)
-  front-long = rw len (omega (arith, first-record l, pt .records, pt .under))
+  front-long = rw len (omega (arith, ordered l s .kinds, pt .records, pt .under))
 
   -- the new bytes
   pub new-byte : (k : ℕ) → k < length new → getD out (a + k) 0 ≡ getD new k 0

@@ -18,22 +18,15 @@ use Rattle.format.specs.declared.Layout.the-variants.{Modern, Legacy}
 use Rattle.format.specs.Table as table
 use Rattle.format.specs.Record.{isLarge, pointer}
 use Rattle.format.proofs.RecordLaws.{PointerFits}
-use Rattle.image.specs.Sections.{functionsIn, recordAt}
+use Rattle.image.specs.Sections.{functionsIn, recordAt, kindsAt}
 use Rattle.image.specs.Functions.{Func, small, header, recordIn, funcOf}
 use Rattle.image.specs.Admitted.{Disjoint}
 use Rattle.image.specs.Edit.{splice, Write, writeAll, groups, putRecord, putHeader, recordGroup, headerGroup, edit}
 use Rattle.image.proofs.WriteLaws.{Outside, Bytes, length-writes, writes-off, writes-below, groups-off, groups-at, groups-below, splice-low, splice-below}
 use Rattle.image.proofs.SlotLaws.{SmallFits, func-eq, record-lt, record-flag, record-pointer, record-small}
+use Rattle.image.proofs.PlaceLaws.{records-at, ordered, record-in}
 
--- ---- records stand one behind the other, past the header
-
-pub first-record : (l : Layout) → table.recordRow l .at ≡ 128
-first-record Modern = refl
-first-record (Legacy big sources) = refl
-
-pub record-fits : (l : Layout) (i n : ℕ) → i < n → recordAt l i + table.recordRow l .width ≤ recordAt l n
-record-fits Modern i n h = omega arith
-record-fits (Legacy big sources) i n h = omega arith
+-- ---- records stand one behind the other
 
 records-apart : (l : Layout) (i j k : ℕ) → j ≢ i → k < table.recordRow l .width → recordAt l j ≤ recordAt l i + k → recordAt l j + table.recordRow l .width ≤ recordAt l i + k
 records-apart Modern i j k n h = omega arith
@@ -165,7 +158,7 @@ edit-below l c s n w h =
 -- what it needs: the records before the floor, the floor at or before the bytes that are replaced; header words past the floor, within the
 -- result, apart
 pub record Sound (l : Layout) (c : Change) (s : List ℕ) : Type 0 where
-  pub records : recordAt l (functionsIn s) ≤ c .floor
+  pub records : kindsAt l s ≤ c .floor
   pub under : c .floor ≤ c .a
   pub fits : c .a ≤ length (spliced c s)
   pub front : (p : ℕ) → table.recordRow l .at ≤ p → Outside p (c .words)
@@ -193,17 +186,17 @@ module _ (l : Layout) (c : Change) (s : List ℕ) (ok : Sound l c s) where
   length-edit = simp length-writes
 
   -- a byte past the records that no header word takes is the splice's
-  pub edit-frame : (p : ℕ) → recordAt l (functionsIn s) ≤ p
+  pub edit-frame : (p : ℕ) → kindsAt l s ≤ p
       → ((j : ℕ) → j < functionsIn s → fs j .large ≡ true → fs j .ptr ≤ p → fs j .ptr + table.largeRow l .width ≤ p)
       → getD out p 0 ≡ getD (spliced c s) p 0
   unfolding edit
   edit-frame p h o =
       groups-off (headerGroup l fs) recorded p (functionsIn s) (λ j k. header-off l fs j p (o j k))
-      ∙ groups-off (recordGroup l (c .whole) s fs) worded p (functionsIn s) (λ j k. record-off l (c .whole) s fs j p (λ q. omega (arith, record-fits l j (functionsIn s) k)))
-      ∙ writes-off (c .words) (spliced c s) p (ok .front p (omega arith))
+      ∙ groups-off (recordGroup l (c .whole) s fs) worded p (functionsIn s) (λ j k. record-off l (c .whole) s fs j p (λ q. omega (arith, record-in l s j k)))
+      ∙ writes-off (c .words) (spliced c s) p (ok .front p (omega (arith, records-at l, ordered l s .kinds)))
 
   -- a byte between the records and the floor stays
-  pub edit-kept : c .a ≤ length s → (p : ℕ) → recordAt l (functionsIn s) ≤ p → p < c .floor → getD out p 0 ≡ getD s p 0
+  pub edit-kept : c .a ≤ length s → (p : ℕ) → kindsAt l s ≤ p → p < c .floor → getD out p 0 ≡ getD s p 0
   edit-kept f p h k =
       edit-frame p h (λ j q t u. omega (arith, ok .past j q t)) ∙ splice-low (c .a) (c .b) (c .new) s f p (omega (arith, ok .under))
 
@@ -211,7 +204,7 @@ module _ (l : Layout) (c : Change) (s : List ℕ) (ok : Sound l c s) where
   pub edit-front : (p : ℕ) → p < table.recordRow l .at → getD out p 0 ≡ getD worded p 0
   unfolding edit
   edit-front p h =
-      groups-off (headerGroup l fs) recorded p (functionsIn s) (λ j q. header-off l fs j p (λ t u. omega (arith, ok .past j q t, ok .records)))
+      groups-off (headerGroup l fs) recorded p (functionsIn s) (λ j q. header-off l fs j p (λ t u. omega (arith, ok .past j q t, ok .records, records-at l, ordered l s .kinds)))
       ∙ groups-off (recordGroup l (c .whole) s fs) worded p (functionsIn s) (λ j k. record-off l (c .whole) s fs j p (omega arith))
 
   -- byte k of record i, and so the record
@@ -219,7 +212,7 @@ module _ (l : Layout) (c : Change) (s : List ℕ) (ok : Sound l c s) where
       → getD out (recordAt l i + k) 0 ≡ getD (bytesOf (table.recordRow l .width) (putRecord l (c .whole) (fs i) (recordIn l s i))) k 0
   unfolding edit recordGroup writeAll
   record-byte i k h g =
-      let e : recordAt l i + table.recordRow l .width ≤ recordAt l (functionsIn s) = record-fits l i (functionsIn s) h in
+      let e : recordAt l i + table.recordRow l .width ≤ kindsAt l s = record-in l s i h in
       groups-off (headerGroup l fs) recorded (recordAt l i + k) (functionsIn s)
       (λ j q. header-off l fs j (recordAt l i + k) (λ t u. omega (arith, ok .past j q t, ok .records)))
       ∙ groups-at (recordGroup l (c .whole) s fs) worded (recordAt l i + k) (functionsIn s) i h

@@ -20,8 +20,8 @@ use Rattle.image.specs.Strings.{placeAt, sizeOf, stringOf}
 use Rattle.image.specs.Kinds.{isIdentifier, rankOf, hashIn}
 use Rattle.image.specs.Functions.{Func, funcOf, bodyOf}
 use Rattle.image.specs.Admitted.{Disjoint, Admitted}
-use Rattle.image.proofs.ReadLaws.{Agree, bytes-agree, number-agree, ordered, hashesAt-same, identifier-same, rank-same, counts-of, storageAt-same, place-same, string-same}
-use Rattle.image.proofs.RebuildLaws.{debug-place}
+use Rattle.image.proofs.PlaceLaws.{debug-at, ordered, hash-in}
+use Rattle.image.proofs.ReadLaws.{Agree, bytes-agree, number-agree, hashesAt-same, identifier-same, rank-same, counts-of, storageAt-same, place-same, string-same}
 use Rattle.image.proofs.KeepLaws.{Same, funcs-same, same-admitted}
 
 -- bytes apart from a write agree
@@ -61,12 +61,12 @@ module _ (l : Layout) (s : List ℕ) (ad : Admitted l s) (at : ℕ) (vs : List �
       record {
         long = length-sets s at vs;
         bytes = below-sets 256 (omega arith) vs s at (ip .bytes) (ad .bytes);
-        magic = front 0 8 (omega (arith, o .header, o .kinds));
-        words = front 40 64 (omega (arith, o .header, o .kinds));
+        magic = front 0 8 (omega (arith, o .kinds, o .hashes));
+        words = front 40 64 (omega (arith, o .kinds, o .hashes));
         debug =
             let d = table.placeIn l (table.debugRow l) in
-            number-agree s t d (d + 4) (front d (d + 4) (omega (arith, o .header, o .kinds, debug-place l .1))) d 4 (omega arith) (omega arith);
-        records = front _ _ (omega (arith, o .kinds));
+            number-agree s t d (d + 4) (front d (d + 4) (omega (arith, o .kinds, o .hashes, debug-at l))) d 4 (omega arith) (omega arith);
+        records = front _ _ (omega (arith, o .hashes));
         kinds = front _ _ (omega arith);
         tables = put-agree vs s at (smallAt l s) (storageAt l s) (ip .between);
         ascii = λ i h w j k.
@@ -127,12 +127,12 @@ module _ (l : Layout) (s : List ℕ) (ad : Admitted l s) where
   string-in-place q value h z =
       let o = ordered l s in
       record {
-        fits = omega (arith, o .storage, ad .room);
+        fits = omega (arith, o .tail, ad .room);
         bytes = λ p. omega (arith, z p);
-        past = omega (arith, o .hashes, o .smalls, o .pairs);
+        past = omega (arith, o .small, o .over, o .storage);
         between = λ g. absurd (omega arith);
         ascii = λ x y. z;
-        headers = λ w j k u g. omega (arith, o .storage, ad .header j k u .0);
+        headers = λ w j k u g. omega (arith, o .tail, ad .header j k u .0);
       }
 
   -- a hash slot
@@ -140,13 +140,14 @@ module _ (l : Layout) (s : List ℕ) (ad : Admitted l s) where
   hash-in-place r x h =
       let o = ordered l s in
       let n = length-bytesOf 4 x in
+      let e = hash-in l s r h in
       record {
-        fits = omega (arith, o .hashes, o .smalls, o .pairs, o .storage, ad .room, n);
+        fits = omega (arith, e, o .over, o .storage, o .tail, ad .room, n);
         bytes = below-bytesOf 4 x;
         past = omega arith;
-        between = λ g. omega (arith, o .hashes, n);
-        ascii = λ u v. absurd (omega (arith, o .hashes, o .smalls, o .pairs, n));
-        headers = λ w j k u g. omega (arith, o .hashes, o .smalls, o .pairs, o .storage, ad .header j k u .0, n);
+        between = λ g. omega (arith, e, n);
+        ascii = λ u v. absurd (omega (arith, e, o .over, o .storage, n));
+        headers = λ w j k u g. omega (arith, e, o .over, o .storage, o .tail, ad .header j k u .0, n);
       }
 
   -- and its hash is the one written
@@ -166,9 +167,9 @@ module _ (l : Layout) (s : List ℕ) (ad : Admitted l s) where
       record {
         fits = omega arith;
         bytes = z;
-        past = omega (arith, o .hashes, o .smalls, o .pairs, o .storage);
-        between = λ g. absurd (omega (arith, o .storage));
-        ascii = λ u v. absurd (omega (arith, o .storage));
+        past = omega (arith, o .small, o .over, o .storage, o .tail);
+        between = λ g. absurd (omega (arith, o .tail));
+        ascii = λ u v. absurd (omega (arith, o .tail));
         headers = λ w j k u g.
             elim (below-or (funcOf l s j .ptr) (funcOf l s i .begin + funcOf l s i .size)) [
               | inl q ↦ absurd (omega (arith, ad .clear i j h k (omega arith) u q))

@@ -5,8 +5,8 @@ use mathlib.Core.Logic.{_≢_}
 use mathlib.Core.List.{List, [], _∷_, _++_}
 use Prim.Native.Nat.{ℕ, suc, _+_, _-_, _≤_, _<_}
 use native.Mathlib.Omega.{arith}
-use lib.ListN.{length, getD, replicate}
-use Rattle.bits.specs.Bytes.{numberAt}
+use lib.ListN.{length, getD}
+use Rattle.bits.specs.Bytes.{numberAt, up4, zerosTo4}
 use Rattle.bits.proofs.ListLaws.{AllBelow, below-nil, below-append, below-zeros, below-bytesOf}
 use Rattle.format.specs.declared.Layout.{Layout}
 use Rattle.format.specs.Table as table
@@ -15,7 +15,7 @@ use Rattle.format.specs.Entry.{Place}
 use Rattle.format.proofs.MoveLaws.{Side}
 use Rattle.footer.specs.Footer.{footerLength}
 use Rattle.footer.specs.Finalize.{sizeLimit}
-use Rattle.image.specs.Sections.{functionsIn, kindsIn, identifiersIn, stringsIn, overflowsIn, storageIn, debugIn, kindsAt, hashesAt, smallAt, storageAt, tailAt, up4}
+use Rattle.image.specs.Sections.{functionsIn, kindsIn, identifiersIn, stringsIn, overflowsIn, storageIn, debugIn, kindsAt, hashesAt, smallAt, storageAt, tailAt}
 use Rattle.image.specs.Strings.{isFull, overBefore, smallIn, placeAt, sizeOf, Str}
 use Rattle.image.specs.Kinds.{kindIn, covered, identified}
 use Rattle.image.specs.Functions.{Func, funcOf}
@@ -23,8 +23,9 @@ use Rattle.image.specs.Admitted.{Disjoint, Admitted}
 use Rattle.image.specs.Rebuild.{layFrom, storeOf, smallsFrom, pairsFor, wordsOf, region, padded, rebuild}
 use Rattle.image.proofs.WriteLaws.{words-below}
 use Rattle.image.proofs.TableLaws.{store-within}
-use Rattle.image.proofs.EditLaws.{first-record, edit-below, Change, edited}
-use Rattle.image.proofs.ReadLaws.{Agree, ordered, number-agree, functions-same, identifierCount-same, stringCount-same, covered-all, identified-all, func-same, counts-of, overflowCount-same, storageSize-same, storageAt-same, tailAt-same, small-same, before-same, place-same}
+use Rattle.image.proofs.PlaceLaws.{records-at, ordered}
+use Rattle.image.proofs.EditLaws.{edit-below, Change, edited}
+use Rattle.image.proofs.ReadLaws.{Agree, number-agree, functions-same, identifierCount-same, stringCount-same, covered-all, identified-all, func-same, counts-of, overflowCount-same, storageSize-same, storageAt-same, tailAt-same, small-same, before-same, place-same}
 use Rattle.image.proofs.BodyLaws.{movedBy, Parted, Holds, place-in, header-in, body-in, info-in, headers-apart, body-apart, length-out, func-out}
 use Rattle.image.proofs.RebuildLaws.{none-or, newRegion, Rebuilds, rebuilding, parted, holds, length-rebuilt, rebuilt-front, counts-kept, kinds-kept}
 use Rattle.image.proofs.StringLaws.{count-le, tail-is, storage-size, rebuilt-debug, rebuilt-place, rebuilt-size, rebuilt-byte, rebuilt-overflows, rebuilt-index}
@@ -177,7 +178,7 @@ region-below : (l : Layout) (ts : List Str) (s : List ℕ) → ((d : Str) (i : �
 unfolding padded region
 region-below l ts s h =
     let ps : List Place = layFrom 0 ts in
-    below-append 256 (omega arith) (region ts) (replicate (up4 (smallAt l s + length (region ts)) - (smallAt l s + length (region ts))) 0)
+    below-append 256 (omega arith) (region ts) (zerosTo4 (smallAt l s + length (region ts)))
     (below-append 256 (omega arith) (wordsOf (smallsFrom 0 ps)) (wordsOf (pairsFor ps) ++ storeOf ts) (words-below (smallsFrom 0 ps))
     (below-append 256 (omega arith) (wordsOf (pairsFor ps)) (storeOf ts) (words-below (pairsFor ps)) (store-below ts h)))
     (below-zeros 256 (omega arith) (up4 (smallAt l s + length (region ts)) - (smallAt l s + length (region ts))))
@@ -196,7 +197,7 @@ module _ (l : Layout) (ts : List Str) (s : List ℕ) (ad : Admitted l s) (ok : R
   rebuilt-placed =
       let o = ordered l s in
       edit-placed l s ad (rebuilding l ts s) (parted l ts s ad) (holds l ts s ad ok) (functions-same l s (rebuild l ts s) (counts-kept l ts s ad)) (tail-is l ts s ad ok) (rebuilt-debug l ts s ad ok)
-      (none-or (smallAt l s) (tailAt l s) (debugIn l s) (omega (arith, o .header, o .kinds, o .hashes, o .smalls, o .pairs, o .storage)) (λ z. ad .debug z .0))
+      (none-or (smallAt l s) (tailAt l s) (debugIn l s) (omega (arith, o .kinds, o .hashes, o .small, o .over, o .storage, o .tail)) (λ z. ad .debug z .0))
 
   rebuilt-tabled : Tabled l (rebuild l ts s)
   rebuilt-tabled =
@@ -226,6 +227,6 @@ module _ (l : Layout) (ts : List Str) (s : List ℕ) (ad : Admitted l s) (ok : R
       let t : List ℕ = rebuild l ts s in
       let o = ordered l s in
       let n = length-rebuilt l ts s ad in
-      admitted-of l t rebuilt-below (omega (arith, n, ad .room, first-record l, o .header, o .kinds, o .hashes)) (ok .limit)
+      admitted-of l t rebuilt-below (omega (arith, n, ad .room, records-at l, o .kinds, o .hashes, o .small)) (ok .limit)
       (number-agree s t 0 8 (rebuilt-front l ts s ad 0 8 (omega arith)) 0 8 (omega arith) (omega arith) ∙ ad .magic)
       (omega (arith, n, tail-is l ts s ad ok, ad .room)) rebuilt-tabled rebuilt-placed

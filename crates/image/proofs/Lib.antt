@@ -9,3 +9,8 @@ pub mod StringLaws
 pub mod KeepLaws
 pub mod ResizeLaws
 pub mod InPlaceLaws
+pub mod CheckLaws
+pub mod AdmitLaws
+pub mod FaultLaws
+pub mod PlaceLaws
+pub mod KindLaws

@@ -3,7 +3,7 @@ use mathlib.Core.Path.{_≡_, refl, ap, _∙_}
 use mathlib.Core.Bool.{Bool, true, false}
 use mathlib.Core.Logic.{inl, inr, _≢_}
 use mathlib.Core.List.{List, [], _∷_}
-use Prim.Native.Nat.{ℕ, _+_, _-_, _≤_, _<_}
+use Prim.Native.Nat.{ℕ, _+_, _-_, _^_, _≤_, _<_}
 use native.Mathlib.Omega.{arith}
 use borrow.Author.Tests.{eqb-true, eqb-false}
 use lib.Dec.{eqb}
@@ -26,28 +26,21 @@ use Rattle.image.specs.Strings.{Str}
 use Rattle.image.specs.Kinds.{isIdentifier, rankOf, hashIn}
 use Rattle.image.specs.Functions.{Func, recordIn, funcOf, bodyOf}
 use Rattle.image.specs.Admitted.{Disjoint, Admitted}
+use Rattle.image.specs.Fit.{offsetRow, sizeRow}
 use Rattle.image.specs.Edit.{word, putSmall, pointed, moveFunc}
 use Rattle.image.specs.Rebuild.{layFrom, storeOf, overs, region, padded, rebuild}
 use Rattle.image.proofs.WriteLaws.{Outside}
 use Rattle.image.proofs.TableLaws.{Whole}
 use Rattle.image.proofs.SlotLaws.{SmallFits, small-fits}
-use Rattle.image.proofs.EditLaws.{first-record, Change, record-back}
-use Rattle.image.proofs.ReadLaws.{Agree, ordered, identifier-same, rank-same, hash-same}
-use Rattle.image.proofs.BodyLaws.{Parted, placeMost, sizeMost, Holds, sound, length-out, front-agree, floor-agree, func-out, tail-byte, body-kept}
-
--- ---- the debug offset stands in the header, behind the words of the strings
-
-pub debug-place : (l : Layout) → (64 ≤ table.placeIn l (table.debugRow l)) × (table.placeIn l (table.debugRow l) + 4 ≤ 128)
-debug-place Modern = (omega arith, omega arith)
-debug-place (Legacy true true) = (omega arith, omega arith)
-debug-place (Legacy true false) = (omega arith, omega arith)
-debug-place (Legacy false true) = (omega arith, omega arith)
-debug-place (Legacy false false) = (omega arith, omega arith)
+use Rattle.image.proofs.PlaceLaws.{records-at, debug-at, debug-past, ordered}
+use Rattle.image.proofs.EditLaws.{Change, record-back}
+use Rattle.image.proofs.ReadLaws.{Agree, identifier-same, rank-same, hash-same}
+use Rattle.image.proofs.BodyLaws.{Parted, Holds, sound, length-out, front-agree, floor-agree, func-out, tail-byte, body-kept}
 
 -- a record without a large header holds its body's size
-pub size-most : (l : Layout) (f : Func) → SmallFits l f → f .size ≤ sizeMost l
-size-most Modern f h = omega (arith, h .3)
-size-most (Legacy big sources) f h = omega (arith, h .3)
+pub size-fits : (l : Layout) (f : Func) → SmallFits l f → f .size < 2 ^ sizeRow l .width
+size-fits Modern f h = h .3
+size-fits (Legacy big sources) f h = h .3
 
 -- a place that is 0 or in the tail stands on one side of bytes before the tail
 pub none-or : (a b p : ℕ) → 0 < b → (p ≢ 0 → b ≤ p) → Side a b p 0
@@ -81,7 +74,7 @@ pub record Rebuilds (l : Layout) (ts : List Str) (s : List ℕ) : Type 0 where
   pub strings : (d : Str) (i : ℕ) → i < length ts → Valid (getD ts i d)
   pub limit : length (rebuild l ts s) ≤ sizeLimit
   pub field : (j : ℕ) → j < functionsIn s → funcOf l s j .large ≡ false
-      → (rebuiltPlace l ts s (funcOf l s j .begin) ≤ placeMost) × (rebuiltPlace l ts s (funcOf l s j .info) ≤ placeMost)
+      → (rebuiltPlace l ts s (funcOf l s j .begin) < 2 ^ offsetRow l .width) × (rebuiltPlace l ts s (funcOf l s j .info) < 2 ^ table.legacyInfo .width)
 
 -- the rebuild as an edit
 abbrev pub rebuilding : Layout → List Str → List ℕ → Change
@@ -114,16 +107,16 @@ module _ (l : Layout) (ts : List Str) (s : List ℕ) (ad : Admitted l s) where
   parted =
       let o = ordered l s in
       record {
-        records = omega (arith, o .records, o .kinds, o .hashes);
+        records = omega (arith, o .hashes, o .small);
         under = omega arith;
-        low = omega (arith, o .smalls, o .pairs, o .storage);
-        order = omega (arith, o .smalls, o .pairs, o .storage);
+        low = omega (arith, o .over, o .storage, o .tail);
+        order = omega (arith, o .over, o .storage, o .tail);
         room = ad .room;
-        front = λ p h. words-off p (λ q. omega (arith, first-record l)) (λ q. omega (arith, first-record l, debug-place l .1));
+        front = λ p h. words-off p (λ q. omega (arith, records-at l)) (λ q. omega (arith, records-at l, debug-at l));
         past = λ p w d h. rw (moved-high (tailAt l s) (newTail l ts s) p h) (omega arith);
         header = λ j h t. inr (ad .header j h t .0);
         info = λ j h.
-            none-or (smallAt l s) (tailAt l s) (funcOf l s j .info) (omega (arith, o .header, o .kinds, o .hashes, o .smalls, o .pairs, o .storage))
+            none-or (smallAt l s) (tailAt l s) (funcOf l s j .info) (omega (arith, o .kinds, o .hashes, o .small, o .over, o .storage, o .tail))
             (λ z. ad .info j h z .0);
         body = λ j h. inl (refl, inr (ad .body j h .0));
       }
@@ -138,7 +131,7 @@ module _ (l : Layout) (ts : List Str) (s : List ℕ) (ad : Admitted l s) where
   unfolding rebuild
   rebuilt-front from to h =
       front-agree l s ad (rebuilding l ts s) parted from to (omega arith)
-      (λ p f k. words-off p (λ q. omega arith) (λ q. omega (arith, debug-place l .0)))
+      (λ p f k. words-off p (λ q. omega arith) (λ q. omega (arith, debug-past l)))
 
   pub rebuilt-middle : Agree s (rebuild l ts s) (kindsAt l s) (smallAt l s)
   unfolding rebuild
@@ -148,7 +141,7 @@ module _ (l : Layout) (ts : List Str) (s : List ℕ) (ad : Admitted l s) where
   counts-kept = rebuilt-front 40 56 (omega arith)
 
   pub kinds-kept : Agree s (rebuild l ts s) (kindsAt l s) (hashesAt l s)
-  kinds-kept p h k = rebuilt-middle p h (omega (arith, ordered l s .hashes))
+  kinds-kept p h k = rebuilt-middle p h (omega (arith, ordered l s .small))
 
   -- the identifier flag of every string, its rank, and every hash slot
   pub rebuilt-identifier : (i : ℕ) → isIdentifier l (rebuild l ts s) i ≡ isIdentifier l s i
@@ -159,7 +152,7 @@ module _ (l : Layout) (ts : List Str) (s : List ℕ) (ad : Admitted l s) where
 
   pub rebuilt-hash : (r : ℕ) → r < identifiersIn s → hashIn l (rebuild l ts s) r ≡ hashIn l s r
   rebuilt-hash r h =
-      hash-same l s (rebuild l ts s) counts-kept (λ p f k. rebuilt-middle p (omega (arith, ordered l s .kinds)) k) r h
+      hash-same l s (rebuild l ts s) counts-kept (λ p f k. rebuilt-middle p (omega (arith, ordered l s .hashes)) k) r h
 
   -- ---- records
 
@@ -196,7 +189,7 @@ module _ (l : Layout) (ts : List Str) (s : List ℕ) (ad : Admitted l s) where
     pub holds : Holds l s (rebuilding l ts s)
     holds = record {
       limit = rebuilt-limit;
-      field = λ j h t. (ok .field j h t .0, size-most l (funcOf l s j) (small-fits l s j t), ok .field j h t .1);
+      field = λ j h t. (ok .field j h t .0, size-fits l (funcOf l s j) (small-fits l s j t), ok .field j h t .1);
     }
 
     -- each function is the old one at its moved places

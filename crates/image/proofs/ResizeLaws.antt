@@ -4,7 +4,7 @@ use mathlib.Core.Path.{_≡_, refl, _∙_}
 use mathlib.Core.Bool.{Bool, true, false}
 use mathlib.Core.Logic.{inl, inr, _≢_}
 use mathlib.Core.List.{List, [], _∷_}
-use Prim.Native.Nat.{ℕ, _+_, _-_, _≤_, _<_}
+use Prim.Native.Nat.{ℕ, _+_, _-_, _^_, _≤_, _<_}
 use native.Mathlib.Omega.{arith}
 use borrow.Author.Tests.{eq-eqb, ne-eqb, eqb-true, eqb-false}
 use lib.Dec.{eqb}
@@ -24,14 +24,16 @@ use Rattle.image.specs.Strings.{placeAt, sizeOf, stringOf}
 use Rattle.image.specs.Kinds.{isIdentifier, rankOf, hashIn}
 use Rattle.image.specs.Functions.{funcOf, bodyOf}
 use Rattle.image.specs.Admitted.{Disjoint, Admitted}
+use Rattle.image.specs.Fit.{offsetRow, sizeRow}
 use Rattle.image.specs.Edit.{splice, word, writeAll, moveFunc}
 use Rattle.image.specs.Rebuild.{resized, resize}
 use Rattle.image.proofs.WriteLaws.{Outside}
 use Rattle.image.proofs.SlotLaws.{small-fits}
-use Rattle.image.proofs.EditLaws.{first-record, edit-below, Change}
-use Rattle.image.proofs.ReadLaws.{Agree, ordered, number-agree, functions-same, hash-same, identifier-same, rank-same, counts-of, tailAt-same, string-same}
-use Rattle.image.proofs.BodyLaws.{Parted, placeMost, sizeMost, Holds, place-most, length-out, front-agree, floor-agree, front-number, front-long, func-out, tail-byte, body-kept, body-new}
-use Rattle.image.proofs.RebuildLaws.{debug-place, size-most}
+use Rattle.image.proofs.PlaceLaws.{records-at, debug-at, debug-past, ordered}
+use Rattle.image.proofs.EditLaws.{edit-below, Change}
+use Rattle.image.proofs.ReadLaws.{Agree, number-agree, functions-same, hash-same, identifier-same, rank-same, counts-of, tailAt-same, string-same}
+use Rattle.image.proofs.BodyLaws.{Parted, Holds, place-most, length-out, front-agree, floor-agree, front-number, front-long, func-out, tail-byte, body-kept, body-new}
+use Rattle.image.proofs.RebuildLaws.{size-fits}
 use Rattle.image.proofs.KeepLaws.{PlacedIn, edit-placed, Tabled, tabled-same, admitted-of}
 
 -- ---- what a body patch of another length is asked for
@@ -57,8 +59,8 @@ pub record Alone (l : Layout) (i : ℕ) (body : List ℕ) (s : List ℕ) : Type 
   pub limit : length (resize l i body s) ≤ sizeLimit
   -- 12: what moves fits the small records, and so does the new size
   pub field : (j : ℕ) → j < functionsIn s → funcOf l s j .large ≡ false
-      → (resizedPlace l i body s (funcOf l s j .begin) ≤ placeMost) × (resizedPlace l i body s (funcOf l s j .info) ≤ placeMost)
-  pub sized : funcOf l s i .large ≡ false → length body ≤ sizeMost l
+      → (resizedPlace l i body s (funcOf l s j .begin) < 2 ^ offsetRow l .width) × (resizedPlace l i body s (funcOf l s j .info) < 2 ^ table.legacyInfo .width)
+  pub sized : funcOf l s i .large ≡ false → length body < 2 ^ sizeRow l .width
 
 -- the patch as an edit
 abbrev pub resizing : Layout → ℕ → List ℕ → List ℕ → Change
@@ -115,12 +117,12 @@ module _ (l : Layout) (i : ℕ) (body : List ℕ) (s : List ℕ) (ad : Admitted 
       let o = ordered l s in
       let (x, y) = ad .body i (al .known) in
       record {
-        records = omega (arith, o .records, o .kinds, o .hashes, o .smalls, o .pairs, o .storage);
+        records = omega (arith, o .hashes, o .small, o .over, o .storage, o .tail);
         under = x;
         low = omega arith;
         order = omega arith;
         room = y;
-        front = λ p h. words-off p (λ q. omega (arith, first-record l, debug-place l .1));
+        front = λ p h. words-off p (λ q. omega (arith, records-at l, debug-at l));
         past = λ p w d h. moved-from a b (length body) p w (tailAt l s) d x h;
         header = λ j h t. side a b (funcOf l s j .ptr) (table.largeRow l .width) (ad .clear i j (al .known) h (al .some) t);
         info = λ j h. side a b (funcOf l s j .info) 0 (λ g. omega (arith, al .infos j h g));
@@ -138,18 +140,18 @@ module _ (l : Layout) (i : ℕ) (body : List ℕ) (s : List ℕ) (ad : Admitted 
   resized-limit : length s - b + (a + length body) ≤ sizeLimit
   resized-limit = rw length-resized at (al .limit)
 
-  resized-field : (j : ℕ) → j < functionsIn s → c .func j .large ≡ false → (c .func j .begin ≤ placeMost) × (c .func j .size ≤ sizeMost l) × (c .func j .info ≤ placeMost)
+  resized-field : (j : ℕ) → j < functionsIn s → c .func j .large ≡ false → (c .func j .begin < 2 ^ offsetRow l .width) × (c .func j .size < 2 ^ sizeRow l .width) × (c .func j .info < 2 ^ table.legacyInfo .width)
   resized-field j h = go (eqb j i) refl
     where
       go : (c : Bool) → eqb j i ≡ c → (pick c (resized mv (length body) (funcOf l s j)) (moveFunc mv (funcOf l s j))) .large ≡ false
-          → (pick c (resized mv (length body) (funcOf l s j)) (moveFunc mv (funcOf l s j)) .begin ≤ placeMost)
-          × (pick c (resized mv (length body) (funcOf l s j)) (moveFunc mv (funcOf l s j)) .size ≤ sizeMost l)
-          × (pick c (resized mv (length body) (funcOf l s j)) (moveFunc mv (funcOf l s j)) .info ≤ placeMost)
+          → (pick c (resized mv (length body) (funcOf l s j)) (moveFunc mv (funcOf l s j)) .begin < 2 ^ offsetRow l .width)
+          × (pick c (resized mv (length body) (funcOf l s j)) (moveFunc mv (funcOf l s j)) .size < 2 ^ sizeRow l .width)
+          × (pick c (resized mv (length body) (funcOf l s j)) (moveFunc mv (funcOf l s j)) .info < 2 ^ table.legacyInfo .width)
       go true q t =
           let e : j ≡ i = eqb-true j i q in
           let m : mv (funcOf l s j .begin) ≡ funcOf l s j .begin = moved-low b (a + length body) (funcOf l s j .begin) (rw e (omega (arith, al .some))) in
-          (omega (arith, m, al .field j h t .0), al .sized (rw e at t), al .field j h t .1)
-      go false q t = (al .field j h t .0, size-most l (funcOf l s j) (small-fits l s j t), al .field j h t .1)
+          (rw m at (al .field j h t .0), al .sized (rw e at t), al .field j h t .1)
+      go false q t = (al .field j h t .0, size-fits l (funcOf l s j) (small-fits l s j t), al .field j h t .1)
 
   holds : Holds l s c
   holds = record { limit = resized-limit; field = resized-field }
@@ -184,9 +186,8 @@ module _ (l : Layout) (i : ℕ) (body : List ℕ) (s : List ℕ) (ad : Admitted 
   unfolding resize writeAll
   resized-debug =
       let d = table.placeIn l (table.debugRow l) in
-      let (u, v) = debug-place l in
-      front-number l s ad c parted d 4 v
-      ∙ numberAt-back (splice a b body s) d 4 (mv (debugIn l s)) (omega (arith, front-long l s ad c parted))
+      front-number l s ad c parted d 4 (debug-at l)
+      ∙ numberAt-back (splice a b body s) d 4 (mv (debugIn l s)) (omega (arith, debug-at l, front-long l s ad c parted))
       (omega (arith, resized-limit, place-most l s ad c parted (debugIn l s) debug-side (ad .debug)))
 
   -- ---- strings, kinds and hash slots stay
@@ -194,7 +195,7 @@ module _ (l : Layout) (i : ℕ) (body : List ℕ) (s : List ℕ) (ad : Admitted 
   resized-front : (from to : ℕ) → to ≤ 64 → Agree s out from to
   unfolding resize
   resized-front from to h =
-      front-agree l s ad c parted from to (omega arith) (λ p f k. words-off p (λ q. omega (arith, debug-place l .0)))
+      front-agree l s ad c parted from to (omega arith) (λ p f k. words-off p (λ q. omega (arith, debug-past l)))
 
   pub resized-middle : Agree s out (kindsAt l s) (tailAt l s)
   unfolding resize
@@ -204,15 +205,15 @@ module _ (l : Layout) (i : ℕ) (body : List ℕ) (s : List ℕ) (ad : Admitted 
   resized-words = resized-front 40 64 (omega arith)
 
   resized-kinds : Agree s out (kindsAt l s) (hashesAt l s)
-  resized-kinds p h k = let o = ordered l s in resized-middle p h (omega (arith, o .hashes, o .smalls, o .pairs, o .storage))
+  resized-kinds p h k = let o = ordered l s in resized-middle p h (omega (arith, o .small, o .over, o .storage, o .tail))
 
   resized-tables : Agree s out (smallAt l s) (storageAt l s)
-  resized-tables p h k = let o = ordered l s in resized-middle p (omega (arith, o .kinds, o .hashes)) (omega (arith, o .storage))
+  resized-tables p h k = let o = ordered l s in resized-middle p (omega (arith, o .hashes, o .small)) (omega (arith, o .tail))
 
   resized-stored : (j p : ℕ) → j < stringsIn s → storageAt l s + placeAt l s j .at ≤ p → p < storageAt l s + placeAt l s j .at + sizeOf (placeAt l s j) → getD out p 0 ≡ getD s p 0
   resized-stored j p h f k =
       let o = ordered l s in
-      resized-middle p (omega (arith, o .kinds, o .hashes, o .smalls, o .pairs)) (omega (arith, o .storage, ad .stored j h))
+      resized-middle p (omega (arith, o .hashes, o .small, o .over, o .storage)) (omega (arith, o .tail, ad .stored j h))
 
   pub resized-string : (j : ℕ) → j < stringsIn s → stringOf l out j ≡ stringOf l s j
   resized-string j h = string-same l s out resized-words resized-tables (ad .overflows) j h (λ p f k. resized-stored j p h f k)
@@ -226,7 +227,7 @@ module _ (l : Layout) (i : ℕ) (body : List ℕ) (s : List ℕ) (ad : Admitted 
   pub resized-hash : (r : ℕ) → r < identifiersIn s → hashIn l out r ≡ hashIn l s r
   resized-hash r h =
       let o = ordered l s in
-      hash-same l s out (counts-of l s out resized-words) (λ p f k. resized-middle p (omega (arith, o .kinds)) (omega (arith, o .smalls, o .pairs, o .storage))) r h
+      hash-same l s out (counts-of l s out resized-words) (λ p f k. resized-middle p (omega (arith, o .hashes)) (omega (arith, o .over, o .storage, o .tail))) r h
 
   -- ---- the result is admitted
 
@@ -251,6 +252,6 @@ module _ (l : Layout) (i : ℕ) (body : List ℕ) (s : List ℕ) (ad : Admitted 
   resized-admitted =
       let o = ordered l s in
       let (x, y) = ad .body i (al .known) in
-      admitted-of l out resized-below (omega (arith, length-resized, x, y, first-record l, o .header, o .kinds, o .hashes, o .smalls, o .pairs, o .storage)) (al .limit)
+      admitted-of l out resized-below (omega (arith, length-resized, x, y, records-at l, o .kinds, o .hashes, o .small, o .over, o .storage, o .tail)) (al .limit)
       (number-agree s out 0 8 (resized-front 0 8 (omega arith)) 0 8 (omega arith) (omega arith) ∙ ad .magic)
       (omega (arith, length-resized, tailAt-same l s out resized-words, x, y)) resized-tabled resized-placed

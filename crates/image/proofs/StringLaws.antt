@@ -9,7 +9,7 @@ use native.Mathlib.Nat.{add-assoc, zero-add}
 use native.Mathlib.Omega.{arith}
 use lib.ListN.{length, getD, take, replicate, length-append, length-replicate, getD-replicate, List·getD-append, List·getD-eq-default}
 use lib.Seq.{sets, length-sets, take-length}
-use Rattle.bits.specs.Bytes.{bytesAt, wordAt, bytesOf}
+use Rattle.bits.specs.Bytes.{bytesAt, wordAt, bytesOf, up4, zerosTo4}
 use Rattle.bits.proofs.TestLaws.{below-or}
 use Rattle.bits.proofs.ListLaws.{getD-past}
 use Rattle.bits.proofs.ByteLaws.{length-bytesAt, getD-bytesAt, bytesAt-is, bytesAt-below, numberAt-ext}
@@ -19,16 +19,17 @@ use Rattle.format.specs.Table as table
 use Rattle.format.specs.Record.{valueOf}
 use Rattle.format.specs.Entry.{Place, isOver}
 use Rattle.footer.specs.Finalize.{sizeLimit}
-use Rattle.image.specs.Sections.{stringsIn, overflowsIn, storageIn, debugIn, smallAt, overAt, storageAt, tailAt, up4}
+use Rattle.image.specs.Sections.{stringsIn, overflowsIn, storageIn, debugIn, smallAt, overAt, storageAt, tailAt}
 use Rattle.image.specs.Strings.{isFull, overBefore, smallIn, overIn, placeAt, unitSize, sizeOf, Str, stringOf}
 use Rattle.image.specs.Admitted.{Admitted}
 use Rattle.image.specs.Edit.{splice, writeAll}
 use Rattle.image.specs.Rebuild.{countOf, layFrom, storeOf, smallsFrom, pairsFor, overs, wordsOf, region, padded, rebuild}
 use Rattle.image.proofs.WriteLaws.{length-words, words-at}
 use Rattle.image.proofs.TableLaws.{length-smalls, length-pairs, smalls-fit, pairs-fit, located, before-all, full-is, index-is, length-lay, lay-at, store-next, store-within, store-byte}
-use Rattle.image.proofs.ReadLaws.{ordered, stringCount-same, smallAt-same}
+use Rattle.image.proofs.PlaceLaws.{debug-at, debug-past, ordered}
+use Rattle.image.proofs.ReadLaws.{stringCount-same, smallAt-same}
 use Rattle.image.proofs.BodyLaws.{front-number, front-long, new-byte, place-most}
-use Rattle.image.proofs.RebuildLaws.{debug-place, none-or, Valid, newRegion, newTail, rebuiltPlace, Rebuilds, rebuilding, parted, counts-kept, rebuilt-limit}
+use Rattle.image.proofs.RebuildLaws.{none-or, Valid, newRegion, newTail, rebuiltPlace, Rebuilds, rebuilding, parted, counts-kept, rebuilt-limit}
 
 -- ---- the strings of an admitted image
 
@@ -84,7 +85,7 @@ module _ (l : Layout) (ts : List Str) (s : List ℕ) (ad : Admitted l s) (ok : R
   -- what is not over the limit fits its words
   region-fits : length (region ts) ≤ sizeLimit
   unfolding padded
-  region-fits = omega (arith, rebuilt-limit l ts s ad ok, length-append (region ts) (replicate (up4 (smallAt l s + length (region ts)) - (smallAt l s + length (region ts))) 0))
+  region-fits = omega (arith, rebuilt-limit l ts s ad ok, length-append (region ts) (zerosTo4 (smallAt l s + length (region ts))))
 
   pub few : overs ps ≤ 0x800000
   few = omega (arith, region-fits, length-region ts)
@@ -114,7 +115,7 @@ module _ (l : Layout) (ts : List Str) (s : List ℕ) (ad : Admitted l s) (ok : R
   pub overflows-is : overflowsIn out ≡ overs ps
   unfolding writeAll
   overflows-is =
-      let (u, v) = debug-place l in
+      let u = debug-past l in
       header-word 56 (omega arith)
       ∙ numberAt-off base₂ debugAt 4 (rebuiltPlace l ts s (debugIn l s)) 56 4 (omega arith)
       ∙ numberAt-off base₁ 60 4 (length (storeOf ts)) 56 4 (omega arith)
@@ -123,7 +124,7 @@ module _ (l : Layout) (ts : List Str) (s : List ℕ) (ad : Admitted l s) (ok : R
   pub storage-size : storageIn out ≡ length (storeOf ts)
   unfolding writeAll
   storage-size =
-      let (u, v) = debug-place l in
+      let u = debug-past l in
       header-word 60 (omega arith)
       ∙ numberAt-off base₂ debugAt 4 (rebuiltPlace l ts s (debugIn l s)) 60 4 (omega arith)
       ∙ numberAt-back base₁ 60 4 (length (storeOf ts)) (simp length-sets (omega (arith, long))) store-fits
@@ -132,13 +133,12 @@ module _ (l : Layout) (ts : List Str) (s : List ℕ) (ad : Admitted l s) (ok : R
   pub rebuilt-debug : debugIn l out ≡ rebuiltPlace l ts s (debugIn l s)
   unfolding writeAll
   rebuilt-debug =
-      let (u, v) = debug-place l in
       let o = ordered l s in
       let m : rebuiltPlace l ts s (debugIn l s) ≤ length s - tailAt l s + newTail l ts s =
       place-most l s ad (rebuilding l ts s) (parted l ts s ad) (debugIn l s)
-      (none-or (smallAt l s) (tailAt l s) (debugIn l s) (omega (arith, o .header, o .kinds, o .hashes, o .smalls, o .pairs, o .storage)) (λ z. ad .debug z .0)) (ad .debug) in
-      header-word debugAt v
-      ∙ numberAt-back base₂ debugAt 4 (rebuiltPlace l ts s (debugIn l s)) (simp length-sets (omega (arith, long))) (omega (arith, rebuilt-limit l ts s ad ok))
+      (none-or (smallAt l s) (tailAt l s) (debugIn l s) (omega (arith, o .kinds, o .hashes, o .small, o .over, o .storage, o .tail)) (λ z. ad .debug z .0)) (ad .debug) in
+      header-word debugAt (debug-at l)
+      ∙ numberAt-back base₂ debugAt 4 (rebuiltPlace l ts s (debugIn l s)) (simp length-sets (omega (arith, long, debug-at l))) (omega (arith, rebuilt-limit l ts s ad ok))
 
   -- ---- the places of the sections
 

@@ -4,7 +4,7 @@ use mathlib.Core.List.{List, [], _∷_}
 use Prim.Native.Nat.{ℕ, _+_, _*_}
 use lib.Dec.{leb, ltb, eqb}
 use lib.ListN.{length, getD}
-use Rattle.bits.specs.Choice.{both, implies, allBelow, Check, judge}
+use Rattle.bits.specs.Choice.{both, implies, allBelow, Check, check, judge}
 use Rattle.bits.specs.Bytes.{numberAt}
 use Rattle.format.specs.declared.Layout.{Layout}
 use Rattle.format.specs.Table as table
@@ -82,9 +82,6 @@ unfoldable pub bodiesApart : Layout → List ℕ → Bool
 bodiesApart l s = allBelow (functionsIn s) (λ i. allBelow (functionsIn s) (λ j. bodyApart (table.largeRow l .width) (funcOf l s i) (funcOf l s j)))
 
 -- ---- the checks in order
-
-abbrev pub check : ℕ → Bool → Check
-check n met = record { number = n; met = met }
 
 -- what is right of an image, each with the number that is given where it is not
 unfoldable pub checks : Layout → List ℕ → List Check

@@ -1,16 +1,16 @@
 -- The rebuild of an image's strings, and the replacement of a body by one of another length. 01, Strings: "ids in order, storage packed with no gaps and no sharing".
 use mathlib.Core.Bool.{Bool, true, false}
 use mathlib.Core.List.{List, [], _∷_, _++_}
-use Prim.Native.Nat.{ℕ, zero, suc, _+_, _-_, _/_}
+use Prim.Native.Nat.{ℕ, zero, suc, _+_, _/_}
 use lib.Dec.{eqb}
-use lib.ListN.{length, replicate}
+use lib.ListN.{length}
 use Rattle.bits.specs.Choice.{pick}
-use Rattle.bits.specs.Bytes.{bytesOf}
+use Rattle.bits.specs.Bytes.{bytesOf, zerosTo4}
 use Rattle.format.specs.declared.Layout.{Layout}
 use Rattle.format.specs.Table as table
 use Rattle.format.specs.Entry.{Place, bit, isOver, smallWord}
 use Rattle.format.specs.Move.{moved}
-use Rattle.image.specs.Sections.{debugIn, smallAt, up4, tailAt}
+use Rattle.image.specs.Sections.{debugIn, smallAt, tailAt}
 use Rattle.image.specs.Strings.{Str, unitSize}
 use Rattle.image.specs.Functions.{Func, funcOf}
 use Rattle.image.specs.Edit.{word, edit, moveFunc}
@@ -62,7 +62,7 @@ region ts = wordsOf (smallsFrom 0 (layFrom 0 ts)) ++ (wordsOf (pairsFor (layFrom
 
 -- "zeros to a multiple of 4", for bytes that start at a
 unfoldable pub padded : ℕ → List ℕ → List ℕ
-padded a bs = bs ++ replicate (up4 (a + length bs) - (a + length bs)) 0
+padded a bs = bs ++ zerosTo4 (a + length bs)
 
 -- ---- the rebuild of an image with a list of strings: "The words at 56 and 60 become the new overflow count and storage size"; what lies in the tail moves
 

@@ -1,7 +1,7 @@
 -- The header words of an image, and the places of its sections. 01, Image rules: "Sections follow each other from byte 128".
 use mathlib.Core.List.{List}
-use Prim.Native.Nat.{ℕ, _+_, _*_, _/_}
-use Rattle.bits.specs.Bytes.{wordAt}
+use Prim.Native.Nat.{ℕ, _+_, _*_}
+use Rattle.bits.specs.Bytes.{wordAt, up4}
 use Rattle.format.specs.declared.Layout.{Layout}
 use Rattle.format.specs.Table as table
 
@@ -49,10 +49,6 @@ overAt l s = smallAt l s + stringsIn s * table.smallEntry .width
 
 unfoldable pub storageAt : Layout → List ℕ → ℕ
 storageAt l s = overAt l s + overflowsIn s * table.overflowEntry .width
-
--- "rounded up to 4"
-abbrev pub up4 : ℕ → ℕ
-up4 n = (n + 3) / 4 * 4
 
 -- "The tail starts at the end of storage rounded up to 4"
 unfoldable pub tailAt : Layout → List ℕ → ℕ
