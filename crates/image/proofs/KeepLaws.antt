@@ -27,7 +27,7 @@ use Rattle.image.proofs.PlaceLaws.{records-at, ordered}
 use Rattle.image.proofs.EditLaws.{edit-below, Change, edited}
 use Rattle.image.proofs.ReadLaws.{Agree, number-agree, functions-same, identifierCount-same, stringCount-same, covered-all, identified-all, func-same, counts-of, overflowCount-same, storageSize-same, storageAt-same, tailAt-same, small-same, before-same, place-same}
 use Rattle.image.proofs.BodyLaws.{movedBy, Parted, Holds, place-in, header-in, body-in, info-in, headers-apart, body-apart, length-out, func-out}
-use Rattle.image.proofs.RebuildLaws.{none-or, newRegion, Rebuilds, rebuilding, parted, holds, length-rebuilt, rebuilt-front, counts-kept, kinds-kept}
+use Rattle.image.proofs.RebuildLaws.{beside, newRegion, Rebuilds, rebuilding, parted, holds, length-rebuilt, rebuilt-front, counts-kept, kinds-kept}
 use Rattle.image.proofs.StringLaws.{count-le, tail-is, storage-size, rebuilt-debug, rebuilt-place, rebuilt-size, rebuilt-byte, rebuilt-overflows, rebuilt-index}
 
 -- ---- functions
@@ -195,9 +195,8 @@ module _ (l : Layout) (ts : List Str) (s : List ℕ) (ad : Admitted l s) (ok : R
   rebuilt-placed : PlacedIn l (rebuild l ts s)
   unfolding rebuild
   rebuilt-placed =
-      let o = ordered l s in
       edit-placed l s ad (rebuilding l ts s) (parted l ts s ad) (holds l ts s ad ok) (functions-same l s (rebuild l ts s) (counts-kept l ts s ad)) (tail-is l ts s ad ok) (rebuilt-debug l ts s ad ok)
-      (none-or (smallAt l s) (tailAt l s) (debugIn l s) (omega (arith, o .kinds, o .hashes, o .small, o .over, o .storage, o .tail)) (λ z. ad .debug z .0))
+      (beside l s (debugIn l s) (λ z. ad .debug z .0))
 
   rebuilt-tabled : Tabled l (rebuild l ts s)
   rebuilt-tabled =

@@ -8,6 +8,7 @@ pub mod RebuildLaws
 pub mod StringLaws
 pub mod KeepLaws
 pub mod ResizeLaws
+pub mod FitLaws
 pub mod InPlaceLaws
 pub mod CheckLaws
 pub mod AdmitLaws

@@ -42,11 +42,12 @@ pub size-fits : (l : Layout) (f : Func) → SmallFits l f → f .size < 2 ^ size
 size-fits Modern f h = h .3
 size-fits (Legacy big sources) f h = h .3
 
--- a place that is 0 or in the tail stands on one side of bytes before the tail
-pub none-or : (a b p : ℕ) → 0 < b → (p ≢ 0 → b ≤ p) → Side a b p 0
-none-or a b p z h =
+-- a place that is 0 or in the tail stands on one side of the strings
+pub beside : (l : Layout) (s : List ℕ) (p : ℕ) → (p ≢ 0 → tailAt l s ≤ p) → Side (smallAt l s) (tailAt l s) p 0
+beside l s p h =
+    let o = ordered l s in
     elim (which (eqb p 0)) [
-      | inl t ↦ let e = eqb-true p 0 t in inl (omega arith, omega arith)
+      | inl t ↦ let e = eqb-true p 0 t in inl (omega (arith, o .kinds, o .hashes, o .small, o .over, o .storage, o .tail), omega arith)
       | inr f ↦ inr (h (eqb-false p 0 f))
     ]
 
@@ -115,9 +116,7 @@ module _ (l : Layout) (ts : List Str) (s : List ℕ) (ad : Admitted l s) where
         front = λ p h. words-off p (λ q. omega (arith, records-at l)) (λ q. omega (arith, records-at l, debug-at l));
         past = λ p w d h. rw (moved-high (tailAt l s) (newTail l ts s) p h) (omega arith);
         header = λ j h t. inr (ad .header j h t .0);
-        info = λ j h.
-            none-or (smallAt l s) (tailAt l s) (funcOf l s j .info) (omega (arith, o .kinds, o .hashes, o .small, o .over, o .storage, o .tail))
-            (λ z. ad .info j h z .0);
+        info = λ j h. beside l s (funcOf l s j .info) (λ z. ad .info j h z .0);
         body = λ j h. inl (refl, inr (ad .body j h .0));
       }
 

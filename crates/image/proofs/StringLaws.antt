@@ -26,10 +26,10 @@ use Rattle.image.specs.Edit.{splice, writeAll}
 use Rattle.image.specs.Rebuild.{countOf, layFrom, storeOf, smallsFrom, pairsFor, overs, wordsOf, region, padded, rebuild}
 use Rattle.image.proofs.WriteLaws.{length-words, words-at}
 use Rattle.image.proofs.TableLaws.{length-smalls, length-pairs, smalls-fit, pairs-fit, located, before-all, full-is, index-is, length-lay, lay-at, store-next, store-within, store-byte}
-use Rattle.image.proofs.PlaceLaws.{debug-at, debug-past, ordered}
+use Rattle.image.proofs.PlaceLaws.{debug-at, debug-past}
 use Rattle.image.proofs.ReadLaws.{stringCount-same, smallAt-same}
 use Rattle.image.proofs.BodyLaws.{front-number, front-long, new-byte, place-most}
-use Rattle.image.proofs.RebuildLaws.{none-or, Valid, newRegion, newTail, rebuiltPlace, Rebuilds, rebuilding, parted, counts-kept, rebuilt-limit}
+use Rattle.image.proofs.RebuildLaws.{beside, Valid, newRegion, newTail, rebuiltPlace, Rebuilds, rebuilding, parted, counts-kept, rebuilt-limit}
 
 -- ---- the strings of an admitted image
 
@@ -133,10 +133,9 @@ module _ (l : Layout) (ts : List Str) (s : List ℕ) (ad : Admitted l s) (ok : R
   pub rebuilt-debug : debugIn l out ≡ rebuiltPlace l ts s (debugIn l s)
   unfolding writeAll
   rebuilt-debug =
-      let o = ordered l s in
       let m : rebuiltPlace l ts s (debugIn l s) ≤ length s - tailAt l s + newTail l ts s =
       place-most l s ad (rebuilding l ts s) (parted l ts s ad) (debugIn l s)
-      (none-or (smallAt l s) (tailAt l s) (debugIn l s) (omega (arith, o .kinds, o .hashes, o .small, o .over, o .storage, o .tail)) (λ z. ad .debug z .0)) (ad .debug) in
+      (beside l s (debugIn l s) (λ z. ad .debug z .0)) (ad .debug) in
       header-word debugAt (debug-at l)
       ∙ numberAt-back base₂ debugAt 4 (rebuiltPlace l ts s (debugIn l s)) (simp length-sets (omega (arith, long, debug-at l))) (omega (arith, rebuilt-limit l ts s ad ok))
 
