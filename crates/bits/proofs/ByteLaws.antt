@@ -2,7 +2,7 @@
 use mathlib.Core.Path.{_≡_, refl, ap, sym, _∙_}
 use mathlib.Core.List.{List, [], _∷_, _++_, append-assoc, append-nil}
 use Prim.Native.Nat.{ℕ, zero, suc, _+_, _-_, _*_, _/_, _%_, _^_, _≤_, _<_}
-use native.Mathlib.Nat.{add-zero, zero-add, add-suc, suc-add, add-assoc, add-mul, mul-assoc, zero-mul, mul-one, pow-suc, div-div-eq-div-mul, mul-comm, add-comm, mul-add-mod-self-right, mul-add-div-right}
+use native.Mathlib.Nat.{not-suc-le-zero, add-zero, zero-add, add-suc, suc-add, add-assoc, add-mul, mul-assoc, zero-mul, mul-one, pow-suc, div-div-eq-div-mul, mul-comm, add-comm, mul-add-mod-self-right, mul-add-div-right}
 use native.Mathlib.Numerals.{add-one}
 use native.Mathlib.Omega.{arith}
 use lib.ListN.{length, getD, take, drop, length-append}
@@ -32,6 +32,13 @@ bytesAt-ext s t (suc n) p q h =
     let r : bytesAt s (suc p) n ≡ bytesAt t (suc q) n =
     bytesAt-ext s t n (suc p) (suc q) (λ j k. simp (suc-add, add-suc) (simp (suc-add, add-suc) at (h (suc j) (omega arith)))) in
     rw (a, r)
+
+-- byte j of n bytes
+pub getD-bytesAt : (s : List ℕ) (n p j : ℕ) → j < n → getD (bytesAt s p n) j 0 ≡ getD s (p + j) 0
+unfolding bytesAt
+getD-bytesAt s zero p j h = absurd (not-suc-le-zero h)
+getD-bytesAt s (suc n) p zero h = rw add-zero
+getD-bytesAt s (suc n) p (suc j) h = rw (add-suc, ← suc-add) (getD-bytesAt s n (suc p) j (omega arith))
 
 bytesAt-cons : (x : ℕ) (xs : List ℕ) (n p : ℕ) → bytesAt (x ∷ xs) (suc p) n ≡ bytesAt xs p n
 unfolding bytesAt
@@ -107,7 +114,7 @@ unfolding number
 number-lt [] h = omega arith
 number-lt (b ∷ bs) h = rw pow-suc (omega (arith, h 0, number-lt bs (λ j. h (suc j))))
 
-bytesAt-below : (s : List ℕ) (n p : ℕ) → AllBelow 256 s → AllBelow 256 (bytesAt s p n)
+pub bytesAt-below : (s : List ℕ) (n p : ℕ) → AllBelow 256 s → AllBelow 256 (bytesAt s p n)
 unfolding bytesAt
 bytesAt-below s zero p h j = omega arith
 bytesAt-below s (suc n) p h zero = h p

@@ -1,6 +1,6 @@
 -- Sums over the numbers below a bound.
 use mathlib.Core.Path.{_≡_, refl}
-use Prim.Native.Nat.{ℕ, zero, suc, _+_, _<_}
+use Prim.Native.Nat.{ℕ, zero, suc, _<_}
 use native.Mathlib.Omega.{arith}
 use Rattle.bits.specs.Choice.{sumBelow}
 

@@ -6,7 +6,7 @@ use native.Mathlib.Nat.{mod-lt}
 use native.Mathlib.Omega.{arith}
 use lib.Pow.{pow-pos}
 use Rattle.bits.proofs.TestLaws.{below-or}
-use Rattle.bits.specs.Fields.{fieldOf, withField}
+use Rattle.bits.specs.Fields.{fieldOf}
 use Rattle.bits.proofs.FieldLaws.{field-same, field-part, field-above, field-below, with-lt}
 use Rattle.format.specs.declared.Field.{Field}
 use Rattle.format.specs.declared.Layout.{Layout}

@@ -2,8 +2,8 @@
 use mathlib.Core.Path.{_≡_, refl, ap, sym, _∙_}
 use mathlib.Core.Bool.{Bool, true, false}
 use mathlib.Core.Logic.{_≢_}
-use mathlib.Core.List.{List, [], _∷_}
-use Prim.Native.Nat.{ℕ, _+_, _*_, _^_, _≤_, _<_}
+use mathlib.Core.List.{List, []}
+use Prim.Native.Nat.{ℕ, _+_, _^_, _≤_, _<_}
 use native.Mathlib.Nat.{add-assoc}
 use native.Mathlib.Omega.{arith}
 use lib.ListN.{length, getD}
@@ -18,22 +18,15 @@ use Rattle.format.specs.declared.Layout.the-variants.{Modern, Legacy}
 use Rattle.format.specs.Table as table
 use Rattle.format.specs.Record.{isLarge, pointer}
 use Rattle.format.proofs.RecordLaws.{PointerFits}
-use Rattle.image.specs.Sections.{functionsIn, recordAt}
+use Rattle.image.specs.Sections.{functionsIn, recordAt, kindsAt}
 use Rattle.image.specs.Functions.{Func, small, header, recordIn, funcOf}
 use Rattle.image.specs.Admitted.{Disjoint}
 use Rattle.image.specs.Edit.{splice, Write, writeAll, groups, putRecord, putHeader, recordGroup, headerGroup, edit}
 use Rattle.image.proofs.WriteLaws.{Outside, Bytes, length-writes, writes-off, writes-below, groups-off, groups-at, groups-below, splice-low, splice-below}
 use Rattle.image.proofs.SlotLaws.{SmallFits, func-eq, record-lt, record-flag, record-pointer, record-small}
+use Rattle.image.proofs.PlaceLaws.{records-at, ordered, record-in}
 
--- ---- records stand one behind the other, past the header
-
-pub first-record : (l : Layout) → table.recordRow l .at ≡ 128
-first-record Modern = refl
-first-record (Legacy big sources) = refl
-
-pub record-fits : (l : Layout) (i n : ℕ) → i < n → recordAt l i + table.recordRow l .width ≤ recordAt l n
-record-fits Modern i n h = omega arith
-record-fits (Legacy big sources) i n h = omega arith
+-- ---- records stand one behind the other
 
 records-apart : (l : Layout) (i j k : ℕ) → j ≢ i → k < table.recordRow l .width → recordAt l j ≤ recordAt l i + k → recordAt l j + table.recordRow l .width ≤ recordAt l i + k
 records-apart Modern i j k n h = omega arith
@@ -81,14 +74,6 @@ header-bytes l fs j = go (fs j .large)
 record-bytes : (l : Layout) (whole : Bool) (s : List ℕ) (fs : ℕ → Func) (j : ℕ) → Bytes (recordGroup l whole s fs j)
 unfolding recordGroup
 record-bytes l whole s fs j = (below-bytesOf (table.recordRow l .width) (putRecord l whole (fs j) (recordIn l s j)), tt)
-
-pub edit-below : (l : Layout) (whole : Bool) (a b : ℕ) (new : List ℕ) (fs : ℕ → Func) (ws : List Write) (s : List ℕ)
-    → AllBelow 256 new → Bytes ws → AllBelow 256 s → AllBelow 256 (edit l whole a b new fs ws s)
-unfolding edit
-edit-below l whole a b new fs ws s n w h =
-    groups-below (headerGroup l fs) (writeAll (groups (functionsIn s) (recordGroup l whole s fs)) (writeAll ws (splice a b new s))) (functionsIn s) (header-bytes l fs)
-    (groups-below (recordGroup l whole s fs) (writeAll ws (splice a b new s)) (functionsIn s) (record-bytes l whole s fs)
-    (writes-below ws (splice a b new s) w (splice-below a b new s n h)))
 
 -- ---- a large header's own words
 
@@ -143,75 +128,104 @@ pub record Fits (l : Layout) (f : Func) : Type 0 where
   pub asLarge : f .large ≡ true → PointerFits l (f .ptr) × HeaderFits l f
   pub asSmall : f .large ≡ false → SmallFits l f
 
--- what an edit needs: n records before a floor, the floor at or before the bytes that are replaced; header words past the floor,
--- within the result of m bytes, apart
-pub record Sound (l : Layout) (n floor a m : ℕ) (fs : ℕ → Func) (ws : List Write) : Type 0 where
-  pub records : recordAt l n ≤ floor
-  pub under : floor ≤ a
-  pub fits : a ≤ m
-  pub front : (p : ℕ) → table.recordRow l .at ≤ p → Outside p ws
-  pub past : (j : ℕ) → j < n → fs j .large ≡ true → floor ≤ fs j .ptr
-  pub within : (j : ℕ) → j < n → fs j .large ≡ true → fs j .ptr + table.largeRow l .width ≤ m
-  pub apart : (i j : ℕ) → i < n → j < n → i ≢ j → fs i .large ≡ true → fs j .large ≡ true
-      → Disjoint (fs i .ptr) (table.largeRow l .width) (fs j .ptr) (table.largeRow l .width)
+-- an edit: whether every large pointer is written, the new bytes for those from a to b, the functions that are to be, words of the header.
+-- It leaves what lies between the records and a floor, and the tail of its result starts at `tail`
+pub record Change : Type 0 where
+  pub whole : Bool
+  pub a : ℕ
+  pub b : ℕ
+  pub new : List ℕ
+  pub func : ℕ → Func
+  pub words : List Write
+  pub floor : ℕ
+  pub tail : ℕ
 
-module _ (l : Layout) (whole : Bool) (floor a b : ℕ) (new : List ℕ) (fs : ℕ → Func) (ws : List Write) (s : List ℕ)
-    (ok : Sound l (functionsIn s) floor a (length (splice a b new s)) fs ws) where
+abbrev pub spliced : Change → List ℕ → List ℕ
+spliced c s = splice (c .a) (c .b) (c .new) s
+
+abbrev pub edited : Layout → Change → List ℕ → List ℕ
+edited l c s = edit l (c .whole) (c .a) (c .b) (c .new) (c .func) (c .words) s
+
+-- it makes bytes of bytes
+pub edit-below : (l : Layout) (c : Change) (s : List ℕ) → AllBelow 256 (c .new) → Bytes (c .words) → AllBelow 256 s → AllBelow 256 (edited l c s)
+unfolding edit
+edit-below l c s n w h =
+    groups-below (headerGroup l (c .func)) (writeAll (groups (functionsIn s) (recordGroup l (c .whole) s (c .func))) (writeAll (c .words) (spliced c s))) (functionsIn s)
+    (header-bytes l (c .func))
+    (groups-below (recordGroup l (c .whole) s (c .func)) (writeAll (c .words) (spliced c s)) (functionsIn s) (record-bytes l (c .whole) s (c .func))
+    (writes-below (c .words) (spliced c s) w (splice-below (c .a) (c .b) (c .new) s n h)))
+
+-- what it needs: the records before the floor, the floor at or before the bytes that are replaced; header words past the floor, within the
+-- result, apart
+pub record Sound (l : Layout) (c : Change) (s : List ℕ) : Type 0 where
+  pub records : kindsAt l s ≤ c .floor
+  pub under : c .floor ≤ c .a
+  pub fits : c .a ≤ length (spliced c s)
+  pub front : (p : ℕ) → table.recordRow l .at ≤ p → Outside p (c .words)
+  pub past : (j : ℕ) → j < functionsIn s → c .func j .large ≡ true → c .floor ≤ c .func j .ptr
+  pub within : (j : ℕ) → j < functionsIn s → c .func j .large ≡ true → c .func j .ptr + table.largeRow l .width ≤ length (spliced c s)
+  pub apart : (i j : ℕ) → i < functionsIn s → j < functionsIn s → i ≢ j → c .func i .large ≡ true → c .func j .large ≡ true
+      → Disjoint (c .func i .ptr) (table.largeRow l .width) (c .func j .ptr) (table.largeRow l .width)
+
+module _ (l : Layout) (c : Change) (s : List ℕ) (ok : Sound l c s) where
+  abbrev fs : ℕ → Func
+  fs = c .func
+
   abbrev out : List ℕ
-  out = edit l whole a b new fs ws s
+  out = edited l c s
 
   -- the edit before the large headers' words, and before the records
   abbrev recorded : List ℕ
-  recorded = writeAll (groups (functionsIn s) (recordGroup l whole s fs)) (writeAll ws (splice a b new s))
+  recorded = writeAll (groups (functionsIn s) (recordGroup l (c .whole) s fs)) (writeAll (c .words) (spliced c s))
 
   abbrev worded : List ℕ
-  worded = writeAll ws (splice a b new s)
+  worded = writeAll (c .words) (spliced c s)
 
-  pub length-edit : length out ≡ length (splice a b new s)
+  pub length-edit : length out ≡ length (spliced c s)
   unfolding edit
   length-edit = simp length-writes
 
   -- a byte past the records that no header word takes is the splice's
-  pub edit-frame : (p : ℕ) → recordAt l (functionsIn s) ≤ p
+  pub edit-frame : (p : ℕ) → kindsAt l s ≤ p
       → ((j : ℕ) → j < functionsIn s → fs j .large ≡ true → fs j .ptr ≤ p → fs j .ptr + table.largeRow l .width ≤ p)
-      → getD out p 0 ≡ getD (splice a b new s) p 0
+      → getD out p 0 ≡ getD (spliced c s) p 0
   unfolding edit
   edit-frame p h o =
       groups-off (headerGroup l fs) recorded p (functionsIn s) (λ j k. header-off l fs j p (o j k))
-      ∙ groups-off (recordGroup l whole s fs) worded p (functionsIn s) (λ j k. record-off l whole s fs j p (λ q. omega (arith, record-fits l j (functionsIn s) k)))
-      ∙ writes-off ws (splice a b new s) p (ok .front p (omega arith))
+      ∙ groups-off (recordGroup l (c .whole) s fs) worded p (functionsIn s) (λ j k. record-off l (c .whole) s fs j p (λ q. omega (arith, record-in l s j k)))
+      ∙ writes-off (c .words) (spliced c s) p (ok .front p (omega (arith, records-at l, ordered l s .kinds)))
 
   -- a byte between the records and the floor stays
-  pub edit-kept : a ≤ length s → (p : ℕ) → recordAt l (functionsIn s) ≤ p → p < floor → getD out p 0 ≡ getD s p 0
+  pub edit-kept : c .a ≤ length s → (p : ℕ) → kindsAt l s ≤ p → p < c .floor → getD out p 0 ≡ getD s p 0
   edit-kept f p h k =
-      edit-frame p h (λ j q t u. omega (arith, ok .past j q t)) ∙ splice-low a b new s f p (omega (arith, ok .under))
+      edit-frame p h (λ j q t u. omega (arith, ok .past j q t)) ∙ splice-low (c .a) (c .b) (c .new) s f p (omega (arith, ok .under))
 
   -- a byte before the records is what the header's writes leave
   pub edit-front : (p : ℕ) → p < table.recordRow l .at → getD out p 0 ≡ getD worded p 0
   unfolding edit
   edit-front p h =
-      groups-off (headerGroup l fs) recorded p (functionsIn s) (λ j q. header-off l fs j p (λ t u. omega (arith, ok .past j q t, ok .records)))
-      ∙ groups-off (recordGroup l whole s fs) worded p (functionsIn s) (λ j k. record-off l whole s fs j p (omega arith))
+      groups-off (headerGroup l fs) recorded p (functionsIn s) (λ j q. header-off l fs j p (λ t u. omega (arith, ok .past j q t, ok .records, records-at l, ordered l s .kinds)))
+      ∙ groups-off (recordGroup l (c .whole) s fs) worded p (functionsIn s) (λ j k. record-off l (c .whole) s fs j p (omega arith))
 
   -- byte k of record i, and so the record
   record-byte : (i k : ℕ) → i < functionsIn s → k < table.recordRow l .width
-      → getD out (recordAt l i + k) 0 ≡ getD (bytesOf (table.recordRow l .width) (putRecord l whole (fs i) (recordIn l s i))) k 0
+      → getD out (recordAt l i + k) 0 ≡ getD (bytesOf (table.recordRow l .width) (putRecord l (c .whole) (fs i) (recordIn l s i))) k 0
   unfolding edit recordGroup writeAll
   record-byte i k h g =
-      let e : recordAt l i + table.recordRow l .width ≤ recordAt l (functionsIn s) = record-fits l i (functionsIn s) h in
+      let e : recordAt l i + table.recordRow l .width ≤ kindsAt l s = record-in l s i h in
       groups-off (headerGroup l fs) recorded (recordAt l i + k) (functionsIn s)
       (λ j q. header-off l fs j (recordAt l i + k) (λ t u. omega (arith, ok .past j q t, ok .records)))
-      ∙ groups-at (recordGroup l whole s fs) worded (recordAt l i + k) (functionsIn s) i h
-      (λ j q d. record-off l whole s fs j (recordAt l i + k) (records-apart l i j k d g))
-      ∙ rw (length-bytesOf, length-writes) at (sets-in (bytesOf (table.recordRow l .width) (putRecord l whole (fs i) (recordIn l s i))) worded (recordAt l i) k)
+      ∙ groups-at (recordGroup l (c .whole) s fs) worded (recordAt l i + k) (functionsIn s) i h
+      (λ j q d. record-off l (c .whole) s fs j (recordAt l i + k) (records-apart l i j k d g))
+      ∙ rw (length-bytesOf, length-writes) at (sets-in (bytesOf (table.recordRow l .width) (putRecord l (c .whole) (fs i) (recordIn l s i))) worded (recordAt l i) k)
       (omega (arith, ok .records, ok .under, ok .fits)) g
 
-  pub record-back : AllBelow 256 s → (i : ℕ) → i < functionsIn s → recordIn l out i ≡ putRecord l whole (fs i) (recordIn l s i)
+  pub record-back : AllBelow 256 s → (i : ℕ) → i < functionsIn s → recordIn l out i ≡ putRecord l (c .whole) (fs i) (recordIn l s i)
   unfolding recordIn
   record-back bytes i h =
-      let n : ℕ = putRecord l whole (fs i) (recordIn l s i) in
+      let n : ℕ = putRecord l (c .whole) (fs i) (recordIn l s i) in
       ap number (bytesAt-is out (bytesOf (table.recordRow l .width) n) (recordAt l i) (table.recordRow l .width) (length-bytesOf (table.recordRow l .width) n) (λ k g. record-byte i k h g))
-      ∙ number-back (table.recordRow l .width) n (record-lt l whole (fs i) (recordIn l s i) (numberAt-lt s (recordAt l i) (table.recordRow l .width) bytes))
+      ∙ number-back (table.recordRow l .width) n (record-lt l (c .whole) (fs i) (recordIn l s i) (numberAt-lt s (recordAt l i) (table.recordRow l .width) bytes))
 
   -- byte k of the header of function i, and so the header
   header-byte : (i k : ℕ) → i < functionsIn s → fs i .large ≡ true → k < table.largeRow l .width
@@ -232,13 +246,13 @@ module _ (l : Layout) (whole : Bool) (floor a b : ℕ) (new : List ℕ) (fs : �
   pub edit-func : AllBelow 256 s → (i : ℕ) → i < functionsIn s → Fits l (fs i) → isLarge l (recordIn l s i) ≡ fs i .large → funcOf l out i ≡ fs i
   unfolding funcOf
   edit-func bytes i h f e =
-      let n : ℕ = putRecord l whole (fs i) (recordIn l s i) in
+      let n : ℕ = putRecord l (c .whole) (fs i) (recordIn l s i) in
       ap (λ (m : ℕ). pick (isLarge l m) (header l (pointer l m) out) (small l m)) (record-back bytes i h)
-      ∙ ap (λ (x : Bool). pick x (header l (pointer l n) out) (small l n)) (record-flag l whole (fs i) (recordIn l s i) ∙ e)
+      ∙ ap (λ (x : Bool). pick x (header l (pointer l n) out) (small l n)) (record-flag l (c .whole) (fs i) (recordIn l s i) ∙ e)
       ∙ go (fs i .large) refl
     where
       go : (x : Bool) → fs i .large ≡ x
-          → pick x (header l (pointer l (putRecord l whole (fs i) (recordIn l s i))) out) (small l (putRecord l whole (fs i) (recordIn l s i))) ≡ fs i
+          → pick x (header l (pointer l (putRecord l (c .whole) (fs i) (recordIn l s i))) out) (small l (putRecord l (c .whole) (fs i) (recordIn l s i))) ≡ fs i
       go true t =
-          ap (λ (p : ℕ). header l p out) (record-pointer l whole (fs i) (recordIn l s i) t (f .asLarge t .0)) ∙ header-back i h t (f .asLarge t .1)
-      go false t = record-small l whole (fs i) (recordIn l s i) t (f .asSmall t)
+          ap (λ (p : ℕ). header l p out) (record-pointer l (c .whole) (fs i) (recordIn l s i) t (f .asLarge t .0)) ∙ header-back i h t (f .asLarge t .1)
+      go false t = record-small l (c .whole) (fs i) (recordIn l s i) t (f .asSmall t)

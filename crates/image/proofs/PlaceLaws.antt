@@ -34,6 +34,14 @@ debug-at (Legacy true false) = omega arith
 debug-at (Legacy false true) = omega arith
 debug-at (Legacy false false) = omega arith
 
+-- behind the words of the strings
+pub debug-past : (l : Layout) → table.storageSize .at + table.storageSize .width ≤ table.placeIn l (table.debugRow l)
+debug-past Modern = omega arith
+debug-past (Legacy true true) = omega arith
+debug-past (Legacy true false) = omega arith
+debug-past (Legacy false true) = omega arith
+debug-past (Legacy false false) = omega arith
+
 -- no section starts before the one that it follows, and storage ends before the tail
 pub record Ordered (l : Layout) (s : List ℕ) : Type 0 where
   pub kinds : 128 ≤ kindsAt l s

@@ -1,10 +1,10 @@
 -- What is read of an image hangs only on the bytes that hold it.
-use mathlib.Core.Path.{_≡_, refl, ap, sym, _∙_, subst}
+use mathlib.Core.Path.{_≡_, refl, ap, sym, _∙_}
 use mathlib.Core.Bool.{Bool, true, false}
 use mathlib.Core.List.{List}
-use Prim.Native.Nat.{ℕ, zero, suc, _+_, _*_, _≤_, _<_}
+use Prim.Native.Nat.{ℕ, zero, suc, _+_, _*_, _/_, _≤_, _<_}
 use native.Mathlib.Omega.{arith}
-use lib.ListN.{length, getD}
+use lib.ListN.{getD}
 use Rattle.bits.specs.Choice.{pick}
 use Rattle.bits.specs.Bytes.{bytesAt, number, numberAt}
 use Rattle.bits.proofs.SumLaws.{sum-ext}
@@ -12,13 +12,14 @@ use Rattle.bits.proofs.ByteLaws.{bytesAt-ext}
 use Rattle.format.specs.declared.Layout.{Layout}
 use Rattle.format.specs.Table as table
 use Rattle.format.specs.Record.{isLarge, pointer}
-use Rattle.format.specs.Entry.{Place, bit}
+use Rattle.format.specs.Entry.{bit}
 use Rattle.image.specs.Sections.{functionsIn, kindsIn, identifiersIn, stringsIn, overflowsIn, storageIn, recordAt, kindsAt, hashesAt, smallAt, overAt, storageAt, tailAt}
-use Rattle.image.specs.Strings.{overBefore, smallIn, overIn, placeAt, sizeOf, Str, stringOf}
-use Rattle.image.specs.Kinds.{kindIn, runOf, isIdentifierRun, identifierRun, covered, identified, flagOf, isIdentifier, rankOf, hashIn}
-use Rattle.image.specs.Functions.{Func, small, header, recordIn, funcOf}
+use Rattle.image.specs.Strings.{overBefore, smallIn, overIn, placeAt, sizeOf, stringOf}
+use Rattle.image.specs.Kinds.{kindIn, runOf, identifierRun, covered, identified, flagOf, isIdentifier, rankOf, hashIn}
+use Rattle.image.specs.Functions.{small, header, recordIn, funcOf}
 use Rattle.image.proofs.SlotLaws.{func-flag, func-pointer}
-use Rattle.image.proofs.EditLaws.{first-record, record-fits, header-ext}
+use Rattle.image.proofs.PlaceLaws.{ordered, record-in, kind-in, hash-in, small-in, pair-in}
+use Rattle.image.proofs.EditLaws.{header-ext}
 use Rattle.image.proofs.TableLaws.{over-ext, locate-ext}
 
 -- two lists have the same bytes from one place to another
@@ -31,22 +32,6 @@ module _ (s t : List ℕ) (from to : ℕ) (same : Agree s t from to) where
 
   pub number-agree : (q n : ℕ) → from ≤ q → q + n ≤ to → numberAt t q n ≡ numberAt s q n
   number-agree q n h k = ap number (bytes-agree q n h k)
-
--- ---- sections follow each other
-
-pub record Ordered (l : Layout) (s : List ℕ) : Type 0 where
-  pub header : 128 ≤ kindsAt l s
-  pub records : recordAt l (functionsIn s) ≡ kindsAt l s
-  pub kinds : kindsAt l s + kindsIn s * 4 ≡ hashesAt l s
-  pub hashes : hashesAt l s + identifiersIn s * 4 ≡ smallAt l s
-  pub smalls : smallAt l s + stringsIn s * 4 ≡ overAt l s
-  pub pairs : overAt l s + overflowsIn s * 8 ≡ storageAt l s
-  pub storage : storageAt l s + storageIn s ≤ tailAt l s
-
-pub ordered : (l : Layout) (s : List ℕ) → Ordered l s
-unfolding kindsAt hashesAt smallAt overAt storageAt tailAt
-ordered l s =
-    record { header = omega (arith, first-record l); records = refl; kinds = refl; hashes = refl; smalls = refl; pairs = refl; storage = omega arith }
 
 -- ---- counts, and the places of the sections up to the overflow table
 
@@ -84,8 +69,7 @@ module _ (l : Layout) (s t : List ℕ) (counts : Agree s t (table.functionCount 
   pub hash-same : Agree s t (hashesAt l s) (smallAt l s) → (r : ℕ) → r < identifiersIn s → hashIn l t r ≡ hashIn l s r
   unfolding hashIn
   hash-same hashes r h =
-      let o = ordered l s in
-      rw hashesAt-same (number-agree s t (hashesAt l s) (smallAt l s) hashes (hashesAt l s + r * 4) 4 (omega arith) (omega (arith, o .hashes)))
+      rw hashesAt-same (number-agree s t (hashesAt l s) (smallAt l s) hashes (hashesAt l s + r * 4) 4 (omega arith) (hash-in l s r h))
 
   -- ---- kinds
 
@@ -93,17 +77,20 @@ module _ (l : Layout) (s t : List ℕ) (counts : Agree s t (table.functionCount 
     kind-same : (k : ℕ) → k < kindsIn s → kindIn l t k ≡ kindIn l s k
     unfolding kindIn
     kind-same k h =
-        let o = ordered l s in
-        rw kindsAt-same (number-agree s t (kindsAt l s) (hashesAt l s) kinds (kindsAt l s + k * 4) 4 (omega arith) (omega (arith, o .kinds)))
+        rw kindsAt-same (number-agree s t (kindsAt l s) (hashesAt l s) kinds (kindsAt l s + k * 4) 4 (omega arith) (kind-in l s k h))
 
-    pub covered-same : (n : ℕ) → n ≤ kindsIn s → covered (kindIn l t) n ≡ covered (kindIn l s) n
+    covered-same : (n : ℕ) → n ≤ kindsIn s → covered (kindIn l t) n ≡ covered (kindIn l s) n
     unfolding covered
     covered-same n h = sum-ext n (λ k. runOf (kindIn l t k)) (λ k. runOf (kindIn l s k)) (λ k g. ap runOf (kind-same k (omega arith)))
 
-    pub identified-same : (n : ℕ) → n ≤ kindsIn s → identified (kindIn l t) n ≡ identified (kindIn l s) n
+    pub covered-all : covered (kindIn l t) (kindsIn t) ≡ covered (kindIn l s) (kindsIn s)
+    covered-all = rw kindCount-same (covered-same (kindsIn s) (omega arith))
+
+    pub identified-all : identified (kindIn l t) (kindsIn t) ≡ identified (kindIn l s) (kindsIn s)
     unfolding identified
-    identified-same n h =
-        sum-ext n (λ k. identifierRun (kindIn l t k)) (λ k. identifierRun (kindIn l s k)) (λ k g. ap identifierRun (kind-same k (omega arith)))
+    identified-all =
+        rw kindCount-same
+        (sum-ext (kindsIn s) (λ k. identifierRun (kindIn l t k)) (λ k. identifierRun (kindIn l s k)) (λ k g. ap identifierRun (kind-same k g)))
 
     flag-same : (n i : ℕ) → n ≤ kindsIn s → flagOf (kindIn l t) n i ≡ flagOf (kindIn l s) n i
     unfolding flagOf
@@ -122,10 +109,9 @@ module _ (l : Layout) (s t : List ℕ) (counts : Agree s t (table.functionCount 
 
   module _ (records : Agree s t (table.recordRow l .at) (kindsAt l s)) where
     record-same : (i : ℕ) → i < functionsIn s → recordIn l t i ≡ recordIn l s i
-    unfolding recordIn kindsAt
+    unfolding recordIn
     record-same i h =
-        number-agree s t (table.recordRow l .at) (recordAt l (functionsIn s)) records (recordAt l i) (table.recordRow l .width) (omega arith)
-        (omega (arith, record-fits l i (functionsIn s) h))
+        number-agree s t (table.recordRow l .at) (kindsAt l s) records (recordAt l i) (table.recordRow l .width) (omega arith) (record-in l s i h)
 
     pub func-same : (i : ℕ) → i < functionsIn s
         → (funcOf l s i .large ≡ true → Agree s t (funcOf l s i .ptr) (funcOf l s i .ptr + table.largeRow l .width)) → funcOf l t i ≡ funcOf l s i
@@ -143,8 +129,8 @@ module _ (l : Layout) (s t : List ℕ) (counts : Agree s t (table.functionCount 
 -- ---- strings
 
 module _ (l : Layout) (s t : List ℕ) (words : Agree s t (table.functionCount .at) (table.storageSize .at + table.storageSize .width)) where
-  counts : Agree s t (table.functionCount .at) (table.overflowCount .at)
-  counts p h k = words p h (omega arith)
+  pub counts-of : Agree s t (table.functionCount .at) (table.overflowCount .at)
+  counts-of p h k = words p h (omega arith)
 
   pub overflowCount-same : overflowsIn t ≡ overflowsIn s
   overflowCount-same = number-agree s t 40 64 words 56 4 (omega arith) (omega arith)
@@ -154,7 +140,7 @@ module _ (l : Layout) (s t : List ℕ) (words : Agree s t (table.functionCount .
 
   pub storageAt-same : storageAt l t ≡ storageAt l s
   unfolding storageAt
-  storageAt-same = rw (overAt-same l s t counts, overflowCount-same)
+  storageAt-same = rw (overAt-same l s t counts-of, overflowCount-same)
 
   pub tailAt-same : tailAt l t ≡ tailAt l s
   unfolding tailAt
@@ -164,16 +150,14 @@ module _ (l : Layout) (s t : List ℕ) (words : Agree s t (table.functionCount .
     pub small-same : (i : ℕ) → i < stringsIn s → smallIn l t i ≡ smallIn l s i
     unfolding smallIn
     small-same i h =
-        let o = ordered l s in
-        rw (smallAt-same l s t counts)
-        (number-agree s t (smallAt l s) (storageAt l s) tables (smallAt l s + i * 4) 4 (omega arith) (omega (arith, o .smalls, o .pairs)))
+        rw (smallAt-same l s t counts-of)
+        (number-agree s t (smallAt l s) (storageAt l s) tables (smallAt l s + i * 4) 4 (omega arith) (omega (arith, small-in l s i h, ordered l s .storage)))
 
     pair-same : (j : ℕ) → j < overflowsIn s * 2 → overIn l t j ≡ overIn l s j
     unfolding overIn
     pair-same j h =
-        let o = ordered l s in
-        rw (overAt-same l s t counts)
-        (number-agree s t (smallAt l s) (storageAt l s) tables (overAt l s + j * 4) 4 (omega (arith, o .smalls)) (omega (arith, o .pairs)))
+        rw (overAt-same l s t counts-of)
+        (number-agree s t (smallAt l s) (storageAt l s) tables (overAt l s + j * 4) 4 (omega (arith, ordered l s .over)) (omega (arith, pair-in l s (j / 2) (omega arith))))
 
     pub before-same : (i : ℕ) → i ≤ stringsIn s → overBefore (smallIn l t) i ≡ overBefore (smallIn l s) i
     before-same i h = over-ext (smallIn l t) (smallIn l s) i (λ j k. small-same j (omega arith))

@@ -1,24 +1,25 @@
 -- The string tables of a list of places are read back as those places; strings are packed one behind the other.
 use mathlib.Core.Path.{_≡_, refl, ap, sym, _∙_}
 use mathlib.Core.Bool.{Bool, true, false}
-use mathlib.Core.Logic.{_⊎_, inl, inr}
+use mathlib.Core.Logic.{inl, inr}
 use mathlib.Core.List.{List, [], _∷_, _++_, append-assoc}
 use Prim.Native.Nat.{ℕ, zero, suc, _+_, _*_, _^_, _≤_, _<_}
 use native.Mathlib.Nat.{not-suc-le-zero, le-of-suc-le-suc, add-zero, zero-add, add-assoc}
 use native.Mathlib.Omega.{arith}
-use borrow.Author.Tests.{ne-eqb, eqb-true}
+use borrow.Author.Tests.{ne-eqb}
 use lib.Dec.{eqb}
 use lib.ListN.{length, getD, take, drop, length-append, List·getD-append}
 use lib.Seq.{take-length}
 use Rattle.bits.specs.Choice.{pick}
-use Rattle.bits.proofs.TestLaws.{which, below}
+use Rattle.bits.proofs.TestLaws.{which}
 use Rattle.bits.proofs.ListLaws.{getD-past}
 use Rattle.format.specs.Table.{entryOffset, entryLength}
 use Rattle.format.specs.Record.{valueOf}
 use Rattle.format.specs.Entry.{Place, bit, entry, isOver, smallWord}
 use Rattle.format.proofs.EntryLaws.{entry-length, entry-offset, entry-wide, small-lt, not-over}
-use Rattle.image.specs.Strings.{isFull, isWide, overBefore, placeOf, locate, unitSize, sizeOf, Str}
-use Rattle.image.specs.Rebuild.{countOf, layFrom, storeOf, smallsFrom, pairOf, pairsFor, overs}
+use Rattle.image.specs.Strings.{isFull, isWide, overBefore, placeOf, locate, unitSize, Str}
+use Rattle.image.specs.Rebuild.{countOf, layFrom, storeOf, smallsFrom, pairsFor, overs}
+use Rattle.image.proofs.PlaceLaws.{over-lt}
 
 -- ---- one entry back to its place
 
@@ -168,11 +169,6 @@ module _ (d : Place) where
 
 -- ---- locating hangs only on the words that it reads
 
-over-mono : (w : ℕ → ℕ) (n i : ℕ) → i < n → overBefore w i + bit (isFull (w i)) ≤ overBefore w n
-unfolding overBefore
-over-mono w zero i h = absurd (not-suc-le-zero h)
-over-mono w (suc n) i h = elim (below i n h) [ inl e ↦ rw e (omega arith) | inr k ↦ omega (arith, over-mono w n i k) ]
-
 pub over-ext : (w w′ : ℕ → ℕ) (i : ℕ) → ((j : ℕ) → j < i → w j ≡ w′ j) → overBefore w i ≡ overBefore w′ i
 unfolding overBefore
 over-ext w w′ zero h = refl
@@ -195,7 +191,7 @@ locate-ext w w′ v v′ n i h f g =
     rw (← over-ext w w′ i (λ j k. f j (omega arith)), ← f i h)
     (place-ext v v′ (overBefore w i) (w i)
     (λ b.
-    let m : overBefore w i + 1 ≤ overBefore w n = rw b at (over-mono w n i h) in
+    let m : overBefore w i < overBefore w n = over-lt w i n h b in
     (g (overBefore w i * 2) (omega arith), g (overBefore w i * 2 + 1) (omega arith))))
 
 -- ---- packing, said without recursion

@@ -1,16 +1,16 @@
 -- Lists of writes: what they leave, and what they put. Splices: where bytes go. Words one behind the other.
-use mathlib.Core.Path.{_≡_, refl, ap, sym, _∙_}
-use mathlib.Core.Logic.{_⊎_, inl, inr, _≢_}
+use mathlib.Core.Path.{_≡_, refl, ap, _∙_}
+use mathlib.Core.Logic.{inl, inr, _≢_}
 use mathlib.Core.List.{List, [], _∷_, _++_}
 use Prim.Native.Nat.{ℕ, zero, suc, _+_, _-_, _*_, _^_, _≤_, _<_}
-use native.Mathlib.Nat.{not-suc-le-zero, le-of-suc-le-suc, add-zero, zero-add}
+use native.Mathlib.Nat.{not-suc-le-zero, le-of-suc-le-suc, zero-add}
 use native.Mathlib.Omega.{arith}
 use lib.ListN.{length, getD, take, drop, length-append, length-drop, List·getD-append}
 use lib.Seq.{sets, length-sets, getD-take, getD-drop, getD-append-add, length-take-le}
-use Rattle.bits.specs.Bytes.{bytesAt, wordAt, bytesOf, number}
+use Rattle.bits.specs.Bytes.{wordAt, bytesOf, number}
 use Rattle.bits.proofs.TestLaws.{below}
 use Rattle.bits.proofs.ListLaws.{getD-past, AllBelow, below-append, below-take, below-drop, below-sets, below-nil, below-bytesOf}
-use Rattle.bits.proofs.ByteLaws.{bytesAt-ext, bytesAt-is, numberAt-ext, length-bytesOf, number-back}
+use Rattle.bits.proofs.ByteLaws.{bytesAt-is, numberAt-ext, length-bytesOf, number-back}
 use Rattle.bits.proofs.WriteLaws.{sets-off, sets-byte}
 use Rattle.format.specs.Move.{moved}
 use Rattle.format.proofs.MoveLaws.{moved-high}
@@ -106,21 +106,6 @@ module _ (a b : ℕ) (new s : List ℕ) (fits : a ≤ length s) where
       rw (moved-high b (a + length new) p h, e)
       (getD-past (take a s) (new ++ drop b s) a (length new + (p - b)) (length-take-le a s fits)
       ∙ getD-append-add new (drop b s) (p - b) 0 ∙ getD-drop b s (p - b) 0 ∙ rw f)
-
-  -- n bytes past the splice, before it, and in it
-  pub splice-after : (p n : ℕ) → b ≤ p → bytesAt (splice a b new s) (moved b (a + length new) p) n ≡ bytesAt s p n
-  splice-after p n h =
-      bytesAt-ext (splice a b new s) s n (moved b (a + length new) p) p
-      (λ j k.
-      ap (λ (q : ℕ). getD (splice a b new s) q 0)
-      (rw (moved-high b (a + length new) p h, moved-high b (a + length new) (p + j) (omega arith)) (omega arith))
-      ∙ splice-high (p + j) (omega arith))
-
-  pub splice-before : (p n : ℕ) → p + n ≤ a → bytesAt (splice a b new s) p n ≡ bytesAt s p n
-  splice-before p n h = bytesAt-ext (splice a b new s) s n p p (λ j k. splice-low (p + j) (omega arith))
-
-  pub splice-own : bytesAt (splice a b new s) a (length new) ≡ new
-  splice-own = bytesAt-is (splice a b new s) new a (length new) refl (λ j k. splice-new j k)
 
   pub length-splice : b ≤ length s → length (splice a b new s) ≡ length s - b + (a + length new)
   unfolding splice
