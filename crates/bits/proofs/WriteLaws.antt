@@ -2,7 +2,7 @@
 use mathlib.Core.Path.{_≡_, refl, ap, sym, _∙_}
 use mathlib.Core.Logic.{inl, inr}
 use mathlib.Core.List.{List, [], _∷_, _++_, append-assoc, append-nil}
-use Prim.Native.Nat.{ℕ, zero, suc, _+_, _-_, _^_, _≤_, _<_}
+use Prim.Native.Nat.{ℕ, zero, suc, _+_, _-_, _*_, _^_, _≤_, _<_}
 use native.Mathlib.Nat.{add-zero, zero-add, add-suc, suc-add, not-suc-le-zero}
 use native.Mathlib.Omega.{arith}
 use borrow.Author.Tests.{eqb-true, eqb-false}
@@ -11,9 +11,9 @@ use lib.Dec.{eqb}
 use lib.ListN.{length, getD, set, take, drop, length-set, length-drop, take-append-drop, drop-of-length-le, replicate, length-replicate, getD-replicate}
 use native.Mathlib.Numerals.{add-one}
 use lib.Seq.{paste, paste-suc, take-all, sets, sets-eq, length-sets, set-append-left, length-take-le, getD-set-same, getD-set-other, set-getD, set-out}
-use Rattle.bits.specs.Bytes.{bytesAt, number, numberAt, bytesOf}
+use Rattle.bits.specs.Bytes.{bytesAt, number, numberAt, bytesOf, wordsOf}
 use Rattle.bits.proofs.TestLaws.{which, below-or}
-use Rattle.bits.proofs.ByteLaws.{bytesAt-ext, bytesAt-is, length-bytesOf, number-back}
+use Rattle.bits.proofs.ByteLaws.{bytesAt-ext, bytesAt-is, length-bytesOf, number-back, length-words, words-next}
 
 -- the code's places i + 1, i + 2, i + 3 as `sets` goes through them
 pub next1 : (i : ℕ) → i + 1 ≡ suc i
@@ -65,6 +65,10 @@ numberAt-off s at n x p m o = ap number (bytesAt-off (bytesOf n x) s at p m (λ 
 pub sets-append : (a b l : List ℕ) (i : ℕ) → sets l i (a ++ b) ≡ sets (sets l i a) (i + length a) b
 sets-append [] b l i = rw add-zero
 sets-append (x ∷ a) b l i = rw (add-suc, ← suc-add) (sets-append a b (set l i x) (suc i))
+
+-- what is written behind a write is written with it
+pub sets-then : (l m n a b : List ℕ) (i at : ℕ) → m ≡ sets l i a → at ≡ i + length a → n ≡ sets m at b → n ≡ sets l i (a ++ b)
+sets-then l m n a b i at p e q = q ∙ rw (p, e) (sym (sets-append a b l i))
 
 set-append-right : (p q : List ℕ) (j x : ℕ) → set (p ++ q) (length p + j) x ≡ p ++ set q j x
 set-append-right [] q j x = rw zero-add
@@ -120,6 +124,14 @@ set-byte s t at p v l e =
 pub sets-byte : (vs s t : List ℕ) (at p : ℕ) → length s ≡ length t → getD s p 0 ≡ getD t p 0 → getD (sets s at vs) p 0 ≡ getD (sets t at vs) p 0
 sets-byte [] s t at p l e = e
 sets-byte (v ∷ vs) s t at p l e = sets-byte vs (set s at v) (set t at v) (suc at) p (simp length-set l) (set-byte s t at p v l e)
+
+-- words, one by one
+pub words-more : (ws d out out′ : List ℕ) (at i : ℕ) → out ≡ sets d at (wordsOf (take i ws)) → i < length ws → out′ ≡ sets out (at + i * 4) (bytesOf 4 (getD ws i 0))
+    → out′ ≡ sets d at (wordsOf (take (i + 1) ws))
+words-more ws d out out′ at i e h q =
+    rw (words-next ws i h)
+    (sets-then d out out′ (wordsOf (take i ws)) (bytesOf 4 (getD ws i 0)) at (at + i * 4) e
+    (omega (arith, length-words (take i ws), length-take-le i ws (omega arith))) q)
 
 -- zeros, byte by byte
 pub zeros-more : (d out : List ℕ) (at n i : ℕ) → out ≡ paste d at (replicate n 0) i → at + i < length d → i < n → set out (at + i) 0 ≡ paste d at (replicate n 0) (i + 1)

@@ -1,6 +1,6 @@
 -- Bytes of a list and the numbers that they stand for. 01, Image rules: "All words are little-endian."
 use mathlib.Core.Bool.{Bool}
-use mathlib.Core.List.{List, [], _∷_}
+use mathlib.Core.List.{List, [], _∷_, _++_}
 use Prim.Native.Nat.{ℕ, zero, suc, _+_, _-_, _*_, _/_, _%_}
 use lib.Dec.{leb}
 use lib.ListN.{length, getD, replicate}
@@ -28,6 +28,11 @@ numberAt s at n = number (bytesAt s at n)
 -- a word is 4 bytes
 abbrev pub wordAt : List ℕ → ℕ → ℕ
 wordAt s at = numberAt s at 4
+
+-- words, one behind the other
+unfoldable pub wordsOf : List ℕ → List ℕ
+wordsOf [] = []
+wordsOf (w ∷ ws) = bytesOf 4 w ++ wordsOf ws
 
 -- 01, Image rules: "rounded up to 4"
 abbrev pub up4 : ℕ → ℕ

@@ -6,7 +6,7 @@ ghost use mathlib.Core.Path.{_≡_};
 ghost use Prim.Native.Nat.{_+_, _*_, _≤_, _<_, _^_};
 ghost use lib.ListN.{length, replicate};
 ghost use lib.Seq.{sets};
-ghost use Rattle.bits.specs.Bytes.{wordAt, numberAt, bytesOf, ascii};
+ghost use Rattle.bits.specs.Bytes.{wordAt, numberAt, bytesOf, wordsOf, ascii};
 ghost use Rattle.bits.specs.Fields.{fieldOf, withField};
 ghost use Rattle.bits.specs.Words.{whole, InOneWord};
 
@@ -169,6 +169,18 @@ pub fn put_bytes(s: &mut [u8], at: usize, src: &[u8])
     let mut i = 0;
     while i < src.len() {
         s[at + i] = src[i];
+        i += 1;
+    }
+}
+
+// All words of `words`, stored from `at` on.
+pub fn put_words(s: &mut [u8], at: usize, words: &[u32])
+    requires { ⌜ at + length (now words) * 4 ≤ length (now s) ⌝ }
+    ensures { λ _. ⌜ now (s .exit) ≡ sets (now (s .entry)) at (wordsOf (now (words .entry))) ⌝ }
+{
+    let mut i = 0;
+    while i < words.len() {
+        put_word(s, at + i * 4, words[i] as u64);
         i += 1;
     }
 }

@@ -6,7 +6,7 @@ use Prim.Native.Nat.{ℕ, _+_, _-_, _≤_, _<_}
 use native.Mathlib.Omega.{arith}
 use borrow.Author.Tests.{lt-ltb, le-ltb, ltb-false}
 use lib.Dec.{ltb}
-use lib.ListN.{length, take, drop, getD, drop-of-length-le}
+use lib.ListN.{length, take, drop, getD, length-append, drop-of-length-le}
 use lib.Seq.{sets, length-sets, length-take-le, getD-take, take-at}
 use Rattle.bits.specs.Choice.{pick, either}
 use Rattle.bits.specs.Bytes.{bytesOf}
@@ -89,6 +89,18 @@ module _ (s : List ℕ) where
       let k : length (sealed (lengthed s)) ≡ length s = length-finalized h in
       let e : o2 ≡ sealed (lengthed s) = q ∙ rw (lengthed-is o1 p) (ap (λ (n : ℕ). sets (lengthed s) (n - footerLength) (digest (take (n - footerLength) (lengthed s)))) (sym l) ∙ sealed-stored (lengthed s) (omega arith)) in
       e ∙ sym (rw (drop-of-length-le s {i = length (sealed (lengthed s))} (omega arith)) (append-nil (sealed (lengthed s))))
+
+-- what the footer is put over does not matter
+over : (a z : List ℕ) → length z ≡ footerLength → sealed (lengthed (a ++ z)) ≡ footed (sets a (fileLength .at) (bytesOf (fileLength .width) (length a + footerLength)))
+unfolding sealed lengthed
+over a z l =
+    let n : length (a ++ z) ≡ length a + footerLength = length-append a z ∙ rw l in
+    let v = bytesOf (fileLength .width) (length a + footerLength) in
+    let m : length (sets (a ++ z) (fileLength .at) v) - footerLength ≡ length a = omega (arith, length-sets (a ++ z) (fileLength .at) v) in
+    rw (n, m, take-sets (length a) v (a ++ z) (fileLength .at), take-at a z (length a) refl)
+
+pub finalized-over : (a x y : List ℕ) → length x ≡ footerLength → length y ≡ footerLength → sealed (lengthed (a ++ x)) ≡ sealed (lengthed (a ++ y))
+finalized-over a x y h k = over a x h ∙ sym (over a y k)
 
 -- ---- what an accepted image is, and what finalize keeps of it
 

@@ -9,7 +9,7 @@ use native.Mathlib.Omega.{arith}
 use borrow.Author.Tests.{eqb-true, leb-true, lt-leb, le-leb}
 use lib.Dec.{leb, eqb}
 use lib.ListN.{length, getD, set, drop, drop-of-length-le}
-use lib.Seq.{sets, drop-cons}
+use lib.Seq.{sets, length-sets, drop-cons}
 use Rattle.bits.specs.Bytes.{bytesOf}
 use Rattle.bits.proofs.TestLaws.{both-0, both-1}
 use Rattle.format.specs.declared.Field.{Field}
@@ -18,7 +18,7 @@ use Rattle.format.specs.declared.Layout.the-variants.{Modern, Legacy}
 use Rattle.format.specs.Table.{rowOf, placeIn, ifSet, legacyOptions}
 use Rattle.header_write.specs.declared.Wrote.the-variants.{Done, Refused}
 use Rattle.header_write.specs.Slots.{Writes}
-use Rattle.header_write.specs.Headers.{Put, put, putAll, run, isHeaderWord, headerWords, onHeader}
+use Rattle.header_write.specs.Headers.{Put, put, putAll, run, isHeaderWord, headerWords, onHeader, identity, modernHeader}
 use Rattle.header_write.proofs.SlotLaws.{whole}
 
 -- ---- tests
@@ -60,6 +60,16 @@ pub parts : (l : Layout) (a b c d e f : List Put) (s s₁ s₂ s₃ s₄ s₅ s�
     → s₆ ≡ putAll l (a ++ (b ++ (c ++ (d ++ (e ++ f))))) s
 parts l a b c d e f s s₁ s₂ s₃ s₄ s₅ s₆ p₁ p₂ p₃ p₄ p₅ p₆ =
     rw (putAll-append l a, ← p₁, putAll-append l b, ← p₂, putAll-append l c, ← p₃, putAll-append l d, ← p₄, putAll-append l e, ← p₅) p₆
+
+-- a header keeps the length of its buffer
+length-putAll : (l : Layout) (ps : List Put) (s : List ℕ) → length (putAll l ps s) ≡ length s
+unfolding putAll
+length-putAll l [] s = refl
+length-putAll l (p ∷ ps) s = length-putAll l ps (sets s (placeIn l (p .field)) (bytesOf (p .field .width) (p .value))) ∙ simp length-sets
+
+pub length-modernHeader : (v : ℕ) (hash : List ℕ) (f k i n z : ℕ) (s : List ℕ) → length (modernHeader v hash f k i n z s) ≡ length s
+unfolding modernHeader identity
+length-modernHeader v hash f k i n z s = simp (length-putAll, length-sets)
 
 -- the one field that is a byte
 pub options-fit : (l : Layout) (f : Field) → f ≡ legacyOptions → (f .at + f .big + f .sources ≤ 128) × (placeIn l f < 128)

@@ -5,7 +5,8 @@ use Prim.Native.Nat.{ℕ, zero, suc, _+_, _/_}
 use lib.Dec.{eqb}
 use lib.ListN.{length}
 use Rattle.bits.specs.Choice.{pick}
-use Rattle.bits.specs.Bytes.{bytesOf, zerosTo4}
+use Rattle.bits.specs.Bytes.{zerosTo4}
+unfoldable pub use Rattle.bits.specs.Bytes.{wordsOf}
 use Rattle.format.specs.declared.Layout.{Layout}
 use Rattle.format.specs.Table as table
 use Rattle.format.specs.Entry.{Place, bit, isOver, smallWord}
@@ -50,11 +51,6 @@ pairsFor (p ∷ ps) = pairOf p ++ pairsFor ps
 unfoldable pub overs : List Place → ℕ
 overs [] = 0
 overs (p ∷ ps) = bit (isOver p) + overs ps
-
--- words one behind the other
-unfoldable pub wordsOf : List ℕ → List ℕ
-wordsOf [] = []
-wordsOf (w ∷ ws) = bytesOf 4 w ++ wordsOf ws
 
 -- small table, overflow table and storage of a list of strings
 unfoldable pub region : List Str → List ℕ

@@ -1,7 +1,8 @@
 -- The header words of an image, and the places of its sections. 01, Image rules: "Sections follow each other from byte 128".
 use mathlib.Core.List.{List}
 use Prim.Native.Nat.{ℕ, _+_, _*_}
-use Rattle.bits.specs.Bytes.{wordAt, up4}
+use Rattle.bits.specs.Bytes.{wordAt}
+pub use Rattle.bits.specs.Bytes.{up4}
 use Rattle.format.specs.declared.Layout.{Layout}
 use Rattle.format.specs.Table as table
 

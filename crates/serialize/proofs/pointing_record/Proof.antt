@@ -1,0 +1,13 @@
+use Rattle.serialize.specs.Parts.{recordOf}
+use borrow.Author.Needs.{needs}
+use Rattle.serialize.proofs.pointing_record.Statement.{statement}
+use Rattle.serialize.proofs.pointing_record.Tie as tie
+
+returns : tie.Need-returns
+unfolding recordOf
+returns c = rw (c .with-modern-pointer .ensures, c .before .with-value .ensures, c .before .before .with-field .ensures, c .before .before .before .width .ensures, c .before .before .before .before .at .ensures)
+
+pub pointing-record-spec : {M : Type 1} → statement M
+pointing-record-spec =
+    tie.close
+    (tie.spec (λ c κs. search needs) (λ c κs. search needs) (λ c κs. search needs) (λ c κs. search needs) (λ c κs. search needs) returns)

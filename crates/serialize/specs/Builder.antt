@@ -1,0 +1,51 @@
+-- The builder: its refusals in order, and its outcome. 01, Refusal numbers: "Builder: 15, 8, 12, 11, 13".
+use mathlib.Core.Bool.{Bool, not}
+use mathlib.Core.List.{List, [], _∷_}
+use Prim.Native.Nat.{ℕ, suc}
+use lib.Dec.{leb, ltb, eqb}
+use lib.ListN.{length}
+use Rattle.bits.specs.Choice.{pick, allBelow, Check, check, judge}
+use Rattle.bits.specs.Bytes.{ascii}
+use Rattle.bits.specs.Outcome.{Outcome, refused, made}
+use Rattle.bits.specs.declared.Answer.{Answer}
+use Rattle.bits.specs.declared.Answer.the-variants.{Length, Refused}
+use Rattle.format.specs.Entry.{isOver}
+use Rattle.footer.specs.Finalize.{sizeLimit}
+use Rattle.serialize.specs.Parts.{startOf, placeOf, storageOf, minimal}
+
+-- 01, refusal 15: "builder version under 97"
+abbrev pub leastVersion : ℕ
+leastVersion = 97
+
+-- no end is below the one before
+unfoldable pub endsAscend : List ℕ → Bool
+endsAscend ends = allBelow (length ends) (λ i. leb (startOf ends i) (startOf ends (suc i)))
+
+-- no end is past the text
+unfoldable pub endsWithin : List ℕ → List ℕ → Bool
+endsWithin text ends = allBelow (length ends) (λ i. leb (startOf ends (suc i)) (length text))
+
+-- no string is of 255 bytes or more, or at offset 0x800000 or more
+unfoldable pub allSmall : List ℕ → Bool
+allSmall ends = allBelow (length ends) (λ i. not (isOver (placeOf ends i)))
+
+-- all refusals but 13
+unfoldable pub checks : ℕ → List ℕ → List ℕ → List ℕ → List Check
+checks version text ends body =
+    check 15 (not (endsAscend ends))
+    ∷ check 15 (not (endsWithin text ends))
+    ∷ check 15 (ltb version leastVersion)
+    ∷ check 8 (not (ascii (storageOf text ends)))
+    ∷ check 12 (not (allSmall ends))
+    ∷ check 11 (ltb sizeLimit (length (minimal version (storageOf text ends) ends body)))
+    ∷ []
+
+-- what a buffer that is long enough gets
+unfoldable pub built : ℕ → List ℕ → List ℕ → List ℕ → Outcome
+built version text ends body =
+    let refusal = judge (checks version text ends body) in
+    pick (eqb refusal 0) (made (minimal version (storageOf text ends) ends body)) (refused refusal)
+
+-- the answer by the length alone
+abbrev pub lengthAnswer : ℕ → Answer
+lengthAnswer n = pick (ltb sizeLimit n) (Refused 11) (Length n)
