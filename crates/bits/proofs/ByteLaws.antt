@@ -2,14 +2,14 @@
 use mathlib.Core.Path.{_≡_, refl, ap, sym, _∙_}
 use mathlib.Core.List.{List, [], _∷_, _++_, append-assoc, append-nil}
 use Prim.Native.Nat.{ℕ, zero, suc, _+_, _-_, _*_, _/_, _%_, _^_, _≤_, _<_}
-use native.Mathlib.Nat.{not-suc-le-zero, add-zero, zero-add, add-suc, suc-add, add-assoc, add-mul, mul-assoc, zero-mul, mul-one, pow-suc, div-div-eq-div-mul, mul-comm, add-comm, mul-add-mod-self-right, mul-add-div-right}
+use native.Mathlib.Nat.{not-suc-le-zero, le-of-suc-le-suc, add-zero, zero-add, add-suc, suc-add, add-assoc, add-mul, mul-assoc, zero-mul, mul-one, pow-suc, div-div-eq-div-mul, mul-comm, add-comm, mul-add-mod-self-right, mul-add-div-right}
 use native.Mathlib.Numerals.{add-one}
 use native.Mathlib.Omega.{arith}
-use lib.ListN.{length, getD, take, drop, length-append}
+use lib.ListN.{length, getD, take, drop, length-append, List·getD-append}
 use lib.Pow.{high}
 use lib.Seq.{drop-cons, take-suc}
 use Rattle.bits.specs.Bytes.{bytesAt, number, bytesOf, numberAt, wordsOf}
-use Rattle.bits.proofs.ListLaws.{AllBelow}
+use Rattle.bits.proofs.ListLaws.{getD-past, AllBelow, below-nil, below-append, below-bytesOf}
 
 pub length-bytesOf : (n x : ℕ) → length (bytesOf n x) ≡ n
 unfolding bytesOf
@@ -149,3 +149,23 @@ words-append (w ∷ a) b = rw (words-append a b, append-assoc)
 pub words-next : (ws : List ℕ) (i : ℕ) → i < length ws → wordsOf (take (i + 1) ws) ≡ wordsOf (take i ws) ++ bytesOf 4 (getD ws i 0)
 unfolding wordsOf
 words-next ws i h = rw (add-one, take-suc ws i 0 h, words-append (take i ws), append-nil)
+
+-- word j
+pub words-at : (ws : List ℕ) (j : ℕ) → j < length ws → ((k : ℕ) → k < length ws → getD ws k 0 < 2 ^ 32) → numberAt (wordsOf ws) (j * 4) 4 ≡ getD ws j 0
+unfolding wordsOf
+words-at [] j h f = absurd (not-suc-le-zero h)
+words-at (w ∷ ws) zero h f =
+    ap number (bytesAt-is (bytesOf 4 w ++ wordsOf ws) (bytesOf 4 w) 0 4 (length-bytesOf 4 w)
+    (λ i k. rw zero-add (List·getD-append (bytesOf 4 w) (wordsOf ws) 0 i (rw length-bytesOf k))))
+    ∙ number-back 4 w (f 0 h)
+words-at (w ∷ ws) (suc j) h f =
+    numberAt-ext (bytesOf 4 w ++ wordsOf ws) (wordsOf ws) 4 (suc j * 4) (j * 4)
+    (λ i k.
+    let e : suc j * 4 + i ≡ 4 + (j * 4 + i) = omega arith in
+    rw e (getD-past (bytesOf 4 w) (wordsOf ws) 4 (j * 4 + i) (length-bytesOf 4 w)))
+    ∙ words-at ws j (le-of-suc-le-suc h) (λ k g. f (suc k) (omega arith))
+
+pub words-below : (ws : List ℕ) → AllBelow 256 (wordsOf ws)
+unfolding wordsOf
+words-below [] = below-nil 256 (omega arith)
+words-below (w ∷ ws) = below-append 256 (omega arith) (bytesOf 4 w) (wordsOf ws) (below-bytesOf 4 w) (words-below ws)

@@ -6,8 +6,9 @@ use mathlib.Core.List.{List, [], _∷_, _++_}
 use Prim.Native.Nat.{ℕ, suc, _+_, _-_, _≤_, _<_}
 use native.Mathlib.Omega.{arith}
 use lib.ListN.{length, getD}
-use Rattle.bits.specs.Bytes.{numberAt, up4, zerosTo4}
+use Rattle.bits.specs.Bytes.{numberAt, up4, zerosTo4, wordsOf}
 use Rattle.bits.proofs.ListLaws.{AllBelow, below-nil, below-append, below-zeros, below-bytesOf}
+use Rattle.bits.proofs.ByteLaws.{words-below}
 use Rattle.format.specs.declared.Layout.{Layout}
 use Rattle.format.specs.Table as table
 use Rattle.format.specs.Record.{valueOf}
@@ -20,8 +21,7 @@ use Rattle.image.specs.Strings.{isFull, overBefore, smallIn, placeAt, si
 use Rattle.image.specs.Kinds.{kindIn, covered, identified}
 use Rattle.image.specs.Functions.{Func, funcOf}
 use Rattle.image.specs.Admitted.{Disjoint, Admitted}
-use Rattle.image.specs.Rebuild.{layFrom, storeOf, smallsFrom, pairsFor, wordsOf, region, padded, rebuild}
-use Rattle.image.proofs.WriteLaws.{words-below}
+use Rattle.image.specs.Rebuild.{layFrom, storeOf, smallsFrom, pairsFor, region, padded, rebuild}
 use Rattle.image.proofs.TableLaws.{store-within}
 use Rattle.image.proofs.PlaceLaws.{records-at, ordered}
 use Rattle.image.proofs.EditLaws.{edit-below, Change, edited}

@@ -9,10 +9,10 @@ use native.Mathlib.Nat.{add-assoc, zero-add}
 use native.Mathlib.Omega.{arith}
 use lib.ListN.{length, getD, take, replicate, length-append, length-replicate, getD-replicate, List·getD-append, List·getD-eq-default}
 use lib.Seq.{sets, length-sets, take-length}
-use Rattle.bits.specs.Bytes.{bytesAt, wordAt, bytesOf, up4, zerosTo4}
+use Rattle.bits.specs.Bytes.{bytesAt, wordAt, bytesOf, up4, zerosTo4, wordsOf}
 use Rattle.bits.proofs.TestLaws.{below-or}
 use Rattle.bits.proofs.ListLaws.{getD-past}
-use Rattle.bits.proofs.ByteLaws.{length-bytesAt, getD-bytesAt, bytesAt-is, bytesAt-below, numberAt-ext}
+use Rattle.bits.proofs.ByteLaws.{length-bytesAt, getD-bytesAt, bytesAt-is, bytesAt-below, numberAt-ext, length-words, words-at}
 use Rattle.bits.proofs.WriteLaws.{numberAt-back, numberAt-off}
 use Rattle.format.specs.declared.Layout.{Layout}
 use Rattle.format.specs.Table as table
@@ -23,8 +23,7 @@ use Rattle.image.specs.Sections.{stringsIn, overflowsIn, storageIn, debu
 use Rattle.image.specs.Strings.{isFull, overBefore, smallIn, overIn, placeAt, unitSize, sizeOf, Str, stringOf}
 use Rattle.image.specs.Admitted.{Admitted}
 use Rattle.image.specs.Edit.{splice, writeAll}
-use Rattle.image.specs.Rebuild.{countOf, layFrom, storeOf, smallsFrom, pairsFor, overs, wordsOf, region, padded, rebuild}
-use Rattle.image.proofs.WriteLaws.{length-words, words-at}
+use Rattle.image.specs.Rebuild.{countOf, layFrom, storeOf, smallsFrom, pairsFor, overs, region, padded, rebuild}
 use Rattle.image.proofs.TableLaws.{length-smalls, length-pairs, smalls-fit, pairs-fit, located, before-all, full-is, index-is, length-lay, lay-at, store-next, store-within, store-byte}
 use Rattle.image.proofs.PlaceLaws.{debug-at, debug-past}
 use Rattle.image.proofs.ReadLaws.{stringCount-same, smallAt-same}

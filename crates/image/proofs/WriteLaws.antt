@@ -1,21 +1,18 @@
--- Lists of writes: what they leave, and what they put. Splices: where bytes go. Words one behind the other.
-use mathlib.Core.Path.{_≡_, refl, ap, _∙_}
+-- Lists of writes: what they leave, and what they put. Splices: where bytes go.
+use mathlib.Core.Path.{_≡_, refl, _∙_}
 use mathlib.Core.Logic.{inl, inr, _≢_}
 use mathlib.Core.List.{List, [], _∷_, _++_}
-use Prim.Native.Nat.{ℕ, zero, suc, _+_, _-_, _*_, _^_, _≤_, _<_}
-use native.Mathlib.Nat.{not-suc-le-zero, le-of-suc-le-suc, zero-add}
+use Prim.Native.Nat.{ℕ, zero, suc, _+_, _-_, _≤_, _<_}
+use native.Mathlib.Nat.{not-suc-le-zero}
 use native.Mathlib.Omega.{arith}
 use lib.ListN.{length, getD, take, drop, length-append, length-drop, List·getD-append}
 use lib.Seq.{sets, length-sets, getD-take, getD-drop, getD-append-add, length-take-le}
-use Rattle.bits.specs.Bytes.{wordAt, bytesOf, number}
 use Rattle.bits.proofs.TestLaws.{below}
-use Rattle.bits.proofs.ListLaws.{getD-past, AllBelow, below-append, below-take, below-drop, below-sets, below-nil, below-bytesOf}
-use Rattle.bits.proofs.ByteLaws.{bytesAt-is, numberAt-ext, length-bytesOf, number-back}
+use Rattle.bits.proofs.ListLaws.{getD-past, AllBelow, below-append, below-take, below-drop, below-sets}
 use Rattle.bits.proofs.WriteLaws.{sets-off, sets-byte}
 use Rattle.format.specs.Move.{moved}
 use Rattle.format.proofs.MoveLaws.{moved-high}
 use Rattle.image.specs.Edit.{splice, Write, writeAll, groups}
-use Rattle.image.specs.Rebuild.{wordsOf}
 
 -- ---- a list of writes
 
@@ -116,29 +113,3 @@ unfolding splice
 splice-below a b new s n h =
     below-append 256 (omega arith) (take a s) (new ++ drop b s) (below-take 256 (omega arith) a s h)
     (below-append 256 (omega arith) new (drop b s) n (below-drop 256 (omega arith) b s h))
-
--- ---- words one behind the other
-
-pub length-words : (ws : List ℕ) → length (wordsOf ws) ≡ length ws * 4
-unfolding wordsOf
-length-words [] = refl
-length-words (w ∷ ws) = simp (length-append, length-bytesOf) (omega (arith, length-words ws))
-
-pub words-at : (ws : List ℕ) (j : ℕ) → j < length ws → ((k : ℕ) → k < length ws → getD ws k 0 < 2 ^ 32) → wordAt (wordsOf ws) (j * 4) ≡ getD ws j 0
-unfolding wordsOf
-words-at [] j h f = absurd (not-suc-le-zero h)
-words-at (w ∷ ws) zero h f =
-    ap number (bytesAt-is (bytesOf 4 w ++ wordsOf ws) (bytesOf 4 w) 0 4 (length-bytesOf 4 w)
-    (λ i k. rw zero-add (List·getD-append (bytesOf 4 w) (wordsOf ws) 0 i (rw length-bytesOf k))))
-    ∙ number-back 4 w (f 0 h)
-words-at (w ∷ ws) (suc j) h f =
-    numberAt-ext (bytesOf 4 w ++ wordsOf ws) (wordsOf ws) 4 (suc j * 4) (j * 4)
-    (λ i k.
-    let e : suc j * 4 + i ≡ 4 + (j * 4 + i) = omega arith in
-    rw e (getD-past (bytesOf 4 w) (wordsOf ws) 4 (j * 4 + i) (length-bytesOf 4 w)))
-    ∙ words-at ws j (le-of-suc-le-suc h) (λ k g. f (suc k) (omega arith))
-
-pub words-below : (ws : List ℕ) → AllBelow 256 (wordsOf ws)
-unfolding wordsOf
-words-below [] = below-nil 256 (omega arith)
-words-below (w ∷ ws) = below-append 256 (omega arith) (bytesOf 4 w) (wordsOf ws) (below-bytesOf 4 w) (words-below ws)
