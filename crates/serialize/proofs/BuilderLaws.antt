@@ -111,6 +111,10 @@ module _ (text ends : List ℕ) where
   within-not : (n : ℕ) → length text < startOf ends n → allBelow n within ≡ false
   within-not n h = elim (which (allBelow n within)) [ inl t ↦ absurd (omega (arith, within-last n t)) | inr f ↦ f ]
 
+-- the part of the text that the code judges is the storage
+pub ascii-is : (text ends : List ℕ) (size : ℕ) (r b : Bool) → size ≡ startOf ends (length ends) → r ≡ ascii (take (size - 0) (drop 0 text)) → r ≡ b → ascii (storageOf text ends) ≡ b
+ascii-is text ends size r b s e f = sym (rw (s, sub-zero) at e) ∙ f
+
 -- ---- an outcome that is judged
 
 -- the last test is of the length

@@ -1,8 +1,7 @@
 use mathlib.Core.Path.{sym, _∙_}
-use native.Mathlib.Nat.{sub-zero}
 use native.Mathlib.Omega.{arith}
 use borrow.Author.Tests.{not-true, not-false}
-use Rattle.serialize.proofs.BuilderLaws.{unordered, past-text, old-version, not-ascii, not-small, by-length}
+use Rattle.serialize.proofs.BuilderLaws.{ascii-is, unordered, past-text, old-version, not-ascii, not-small, by-length}
 use borrow.Author.Needs.{needs}
 use Rattle.serialize.proofs.measure.Statement.{statement}
 use Rattle.serialize.proofs.measure.Tie as tie
@@ -24,20 +23,20 @@ returns-4 : tie.Need-returns-4
 returns-4 c =
     let a = c .before .before .before .before .before .before .before .before .before .before .before .args in
     not-ascii (a .version) (a .text .now) (a .ends .now) (a .body .now) (sym (c .before .before .before .before .before .before .before .ends-ascend .ensures) ∙ not-false _ (c .before .before .before .before .before .before .if1 .left)) (omega arith) (c .before .before .before .if3 .left)
-    (sym (rw (c .before .before .before .before .before .start-of .ensures .0, sub-zero) at (c .before .ascii .ensures)) ∙ not-true _ (c .if4 .taken))
+    (ascii-is (a .text .now) (a .ends .now) (c .before .before .before .before .before .start-of .result) _ _ (c .before .before .before .before .before .start-of .ensures .0) (c .before .ascii .ensures) (not-true _ (c .if4 .taken)))
 
 returns-5 : tie.Need-returns-5
 returns-5 c =
     let a = c .before .before .before .before .before .before .before .before .before .before .before .before .before .args in
     not-small (a .version) (a .text .now) (a .ends .now) (a .body .now) (sym (c .before .before .before .before .before .before .before .before .before .ends-ascend .ensures) ∙ not-false _ (c .before .before .before .before .before .before .before .before .if1 .left)) (omega arith) (c .before .before .before .before .before .if3 .left)
-    (sym (rw (c .before .before .before .before .before .before .before .start-of .ensures .0, sub-zero) at (c .before .before .before .ascii .ensures)) ∙ not-false _ (c .before .before .if4 .left)) (sym (c .before .all-small .ensures) ∙ not-true _ (c .if5 .taken))
+    (ascii-is (a .text .now) (a .ends .now) (c .before .before .before .before .before .before .before .start-of .result) _ _ (c .before .before .before .before .before .before .before .start-of .ensures .0) (c .before .before .before .ascii .ensures) (not-false _ (c .before .before .if4 .left))) (sym (c .before .all-small .ensures) ∙ not-true _ (c .if5 .taken))
 
 returns-6 : tie.Need-returns-6
 returns-6 c =
     let a = c .before .before .before .before .before .before .before .before .before .before .before .before .before .before .args in
     rw (c .before .before .before .before .before .before .before .before .start-of .ensures .0) at (c .limited .ensures)
     ∙ by-length (a .version) (a .text .now) (a .ends .now) (a .body .now) (sym (c .before .before .before .before .before .before .before .before .before .before .ends-ascend .ensures) ∙ not-false _ (c .before .before .before .before .before .before .before .before .before .if1 .left)) (omega arith) (c .before .before .before .before .before .before .if3 .left)
-    (sym (rw (c .before .before .before .before .before .before .before .before .start-of .ensures .0, sub-zero) at (c .before .before .before .before .ascii .ensures)) ∙ not-false _ (c .before .before .before .if4 .left)) (sym (c .before .before .all-small .ensures) ∙ not-false _ (c .before .if5 .left))
+    (ascii-is (a .text .now) (a .ends .now) (c .before .before .before .before .before .before .before .before .start-of .result) _ _ (c .before .before .before .before .before .before .before .before .start-of .ensures .0) (c .before .before .before .before .ascii .ensures) (not-false _ (c .before .before .before .if4 .left))) (sym (c .before .before .all-small .ensures) ∙ not-false _ (c .before .if5 .left))
 
 pub measure-spec : {M : Type 1} → statement M
 measure-spec =
