@@ -103,6 +103,9 @@ module _ (l : Layout) (s : List ℕ) (i n : ℕ) (e : n ≡ recordIn l s i) (b :
   unfolding funcOf
   small-is t f h = rw (← e, ← g, t, h)
 
+  pub is-small : b ≡ false → funcOf l s i .large ≡ false
+  is-small t = ap (λ (f : Func). f .large) (sym (small-is t (small l n) refl)) ∙ small-large l n
+
   module _ (t : b ≡ true) (p : ℕ) (q : p ≡ pointer l n) where
     large-is : header l p s ≡ funcOf l s i
     unfolding funcOf
@@ -114,9 +117,9 @@ module _ (l : Layout) (s : List ℕ) (i n : ℕ) (e : n ≡ recordIn l s i) (b :
     pub is-large : funcOf l s i .large ≡ true
     is-large = ap (λ (f : Func). f .large) (sym large-is) ∙ header-large l p s
 
-    pub pointer-is : funcOf l s i .ptr ≡ p
-    pointer-is = ap (λ (f : Func). f .ptr) (sym large-is) ∙ header-ptr l p s
+    pub points-to : funcOf l s i .ptr ≡ p
+    points-to = ap (λ (f : Func). f .ptr) (sym large-is) ∙ header-ptr l p s
 
     -- where every large header stands in the tail, this one may be read
     pub header-fits : headersIn l s ≡ true → i < functionsIn s → p + table.largeRow l .width ≤ length s
-    header-fits h k = omega (arith, headers-in l s .holds h i k is-large, pointer-is)
+    header-fits h k = omega (arith, headers-in l s .holds h i k is-large, points-to)

@@ -5,18 +5,21 @@ use format::Layout;
 use header_write::Pointer;
 use sections::Places;
 ghost use mathlib.Core.Path.{_≡_};
-ghost use mathlib.Core.Bool.{true};
+ghost use mathlib.Core.Bool.{true, not};
 ghost use Prim.Native.Nat.{_+_, _≤_, _<_, _^_};
+ghost use lib.Dec.{eqb};
 ghost use lib.ListN.{length};
+ghost use Rattle.bits.specs.Choice.{implies};
 ghost use Rattle.bits.specs.Words.{whole};
 ghost use Rattle.bits.specs.Bytes.{numberAt, wordAt};
 ghost use Rattle.format.specs.Table.{rowOf, rowCount, recordRow, largeRow};
 ghost use Rattle.format.specs.Record.{valueOf, flagsRow, isLarge, pointer};
+ghost use Rattle.footer.specs.Finalize.{sizeLimit};
 ghost use Rattle.image.specs.Sections.{functionsIn};
 ghost use Rattle.image.specs.Functions.{small, header, recordIn, funcOf};
-ghost use Rattle.image.specs.Admission.{headersIn};
+ghost use Rattle.image.specs.Admission.{headersIn, debugInTail};
 ghost use Rattle.sections.specs.Places.{Fits, Placed};
-ghost use Rattle.function_table.specs.Functions.{asFunc, WordSized, pointerJudged, functionRead};
+ghost use Rattle.function_table.specs.Functions.{asFunc, WordSized, FoundSized, pointerJudged, functionRead, within, functionIn, functionsInTail};
 
 // A function: whether it has a large header, the pointer to that, its body's start and size, and its
 // info place; 0 where there is none.
@@ -131,7 +134,7 @@ fn large_word(image: &[u8], ptr: usize, k: usize) -> usize
 
 // The function whose large header stands at `ptr`.
 pub fn large_function(image: &[u8], layout: Layout, ptr: usize) -> Function
-    requires { ⌜ ptr + largeRow layout .width ≤ length (now image) ⌝ }
+    requires { ⌜ (ptr + largeRow layout .width ≤ length (now image)) × (length (now image) ≤ sizeLimit) ⌝ }
     ensures { λ r. ⌜ (asFunc r ≡ header layout ptr (now (image .entry))) × WordSized r ⌝ }
 {
     match layout {
@@ -166,4 +169,101 @@ pub fn function_at(image: &[u8], layout: Layout, i: usize) -> Function
         return large_function(image, layout, pointer_of(words, layout) as usize);
     }
     small_function(words, layout)
+}
+
+// ---- the tail
+
+// Whether `n` bytes from `at` on stand in the tail and before the footer.
+fn is_in_tail(image: &[u8], tail: usize, at: usize, n: usize) -> bool
+    requires { ⌜ (at < 2 ^ 41) × (n < 2 ^ 32) ⌝ }
+    ensures { λ r. ⌜ r ≡ within tail (length (now (image .entry))) at n ⌝ }
+{
+    if at < tail {
+        return false;
+    }
+    at + n + footer::FOOTER_LEN <= image.len()
+}
+
+// Whether a place is 0 or stands in the tail. It has no width.
+fn is_place_in_tail(image: &[u8], tail: usize, at: usize) -> bool
+    requires { ⌜ at < 2 ^ 32 ⌝ }
+    ensures { λ r. ⌜ r ≡ implies (not (eqb at 0)) (within tail (length (now (image .entry))) at 0) ⌝ }
+{
+    if at == 0 {
+        return true;
+    }
+    is_in_tail(image, tail, at, 0)
+}
+
+// The large pointer of a record, judged as a whole number, before any modulo: refused with 6 where
+// the words of the header do not stand in the tail.
+fn judged_pointer(image: &[u8], p: Places, words: Words) -> Pointer
+    requires { ⌜ Placed p (now image) ⌝ }
+    ensures { λ r. ⌜ r ≡ pointerJudged (p .layout) (now (image .entry)) (whole words) ⌝ }
+{
+    let layout = p.layout;
+    let ptr = pointer_of(words, layout) as usize;
+    if !is_in_tail(image, p.tail, ptr, format::large_row(layout).width) {
+        return Pointer::Refused(6);
+    }
+    Pointer::At(ptr as u32)
+}
+
+// Function `i`. A large header is read only after its place was judged.
+fn read_function(image: &[u8], p: Places, i: usize) -> FunctionRead
+    requires { ⌜ Placed p (now image) ⌝ }
+    requires { ⌜ i < functionsIn (now image) ⌝ }
+    ensures { λ r. ⌜ (r ≡ functionRead (p .layout) (now (image .entry)) i) × FoundSized r ⌝ }
+{
+    let layout = p.layout;
+    let words = record_of(image, layout, i);
+    if !is_large(words, layout) {
+        return FunctionRead::Found(small_function(words, layout));
+    }
+    let judged = judged_pointer(image, p, words);
+    let Pointer::At(ptr) = judged else {
+        return FunctionRead::Refused(6);
+    };
+    FunctionRead::Found(large_function(image, layout, ptr as usize))
+}
+
+// Whether the large header, the body and the info place of function `i` stand in the tail.
+fn is_function_in_tail(image: &[u8], p: Places, i: usize) -> bool
+    requires { ⌜ Placed p (now image) ⌝ }
+    requires { ⌜ i < functionsIn (now image) ⌝ }
+    ensures { λ r. ⌜ r ≡ functionIn (p .layout) (now (image .entry)) (funcOf (p .layout) (now (image .entry)) i) ⌝ }
+{
+    let read = read_function(image, p, i);
+    let FunctionRead::Found(f) = read else {
+        return false;
+    };
+    if !is_in_tail(image, p.tail, f.begin, f.size) {
+        return false;
+    }
+    is_place_in_tail(image, p.tail, f.info)
+}
+
+// Whether those of every function do.
+pub fn are_functions_in_tail(image: &[u8], p: Places) -> bool
+    requires { ⌜ Placed p (now image) ⌝ }
+    ensures { λ r. ⌜ r ≡ functionsInTail (p .layout) (now (image .entry)) ⌝ }
+{
+    let mut i = 0;
+    while i < p.functions {
+        if !is_function_in_tail(image, p, i) {
+            return false;
+        }
+        i += 1;
+    }
+    true
+}
+
+// Whether the debug place is 0 or stands in the tail.
+pub fn is_debug_in_tail(image: &[u8], p: Places) -> bool
+    requires { ⌜ Placed p (now image) ⌝ }
+    ensures { λ r. ⌜ r ≡ debugInTail (p .layout) (now (image .entry)) ⌝ }
+{
+    let layout = p.layout;
+    let at = format::place(format::debug_row(layout), layout);
+    is_place_in_tail(image, p.tail, bits::word(image, at) as usize)
 }

@@ -4,8 +4,10 @@ use Rattle.function_table.proofs.function_at.Statement.{statement}
 use Rattle.function_table.proofs.function_at.Tie as tie
 
 large-function-requires : tie.Need-large-function-requires
-large-function-requires c κs =
-    header-fits _ _ _ _ (c .before .before .before .record-of .ensures) _ (c .before .before .is-large .ensures) (c .before .if1 .taken) _ (c .pointer-of .ensures .0) (c .before .before .before .before .before .pre .0 .1) (c .before .before .before .before .before .pre .1)
+large-function-requires c κs = (
+  header-fits _ _ _ _ (c .before .before .before .record-of .ensures) _ (c .before .before .is-large .ensures) (c .before .if1 .taken) _ (c .pointer-of .ensures .0) (c .before .before .before .before .before .pre .0 .1) (c .before .before .before .before .before .pre .1),
+  c .before .before .before .before .before .pre .0 .0 .most,
+)
 
 returns : tie.Need-returns
 returns c = (
