@@ -4,7 +4,7 @@ use mathlib.Core.Bool.{Bool, true, false, not}
 use Prim.Native.Nat.{ℕ, zero, suc, _+_, _<_}
 use native.Mathlib.Omega.{arith}
 use borrow.Author.Tests.{not-true, not-false}
-use Rattle.bits.specs.Choice.{both, allBelow}
+use Rattle.bits.specs.Choice.{both, implies, allBelow}
 use Rattle.bits.proofs.TestLaws.{all-fails, all-next}
 
 module _ (p : ℕ → Bool) where
@@ -41,3 +41,20 @@ pub all-same : (p q : ℕ → Bool) (n : ℕ) → ((i : ℕ) → i < n → p i �
 unfolding allBelow
 all-same p q zero h = refl
 all-same p q (suc n) h = rw (h n (omega arith), all-same p q n (λ i k. h i (omega arith)))
+
+-- ---- two passes, one within the other
+
+all-true : (n : ℕ) → allBelow n (λ i. true) ≡ true
+unfolding allBelow
+all-true zero = refl
+all-true (suc n) = all-true n
+
+pub all-swap : (p : ℕ → ℕ → Bool) (m n : ℕ) → allBelow n (λ j. allBelow m (λ i. p i j)) ≡ allBelow m (λ i. allBelow n (p i))
+unfolding allBelow
+all-swap p m zero = sym (all-true m)
+all-swap p m (suc n) = rw (all-swap p m n) (sym (all-both (λ i. p i n) (λ i. allBelow n (p i)) m))
+
+-- a pass that is only made where a test holds
+pub imp-all : (b : Bool) (p : ℕ → Bool) (n : ℕ) → implies b (allBelow n p) ≡ allBelow n (λ i. implies b (p i))
+imp-all true p n = refl
+imp-all false p n = sym (all-true n)

@@ -77,6 +77,7 @@ pub record Sectioned (p : Places) (s : List ℕ) : Type 0 where
   pub overFrom : p .«over_at» ≡ overAt (p .layout) s
   pub storageFrom : p .«storage_at» ≡ storageAt (p .layout) s
   pub tailFrom : p .tail ≡ tailAt (p .layout) s
+  pub kindsNext : 128 ≤ p .«kinds_at»
   pub hashesNext : p .«hashes_at» ≡ p .«kinds_at» + p .kinds * 4
   pub smallNext : p .«small_at» ≡ p .«hashes_at» + p .identifiers * 4
   pub overNext : p .«over_at» ≡ p .«small_at» + p .strings * 4
@@ -88,6 +89,10 @@ pub record Sectioned (p : Places) (s : List ℕ) : Type 0 where
 tail-past : (l : Layout) (s : List ℕ) → storageAt l s + storageIn s ≤ tailAt l s
 unfolding tailAt
 tail-past l s = omega arith
+
+records-past : (l : Layout) (s : List ℕ) → 128 ≤ kindsAt l s
+unfolding kindsAt
+records-past l s = omega (arith, record-start l)
 
 of-places : (l : Layout) (s : List ℕ) → Fits l s → Sectioned (placesOf l s) s
 unfolding placesOf hashesAt smallAt overAt storageAt
@@ -104,6 +109,7 @@ of-places l s h =
       overFrom = refl;
       storageFrom = refl;
       tailFrom = refl;
+      kindsNext = records-past l s;
       hashesNext = refl;
       smallNext = refl;
       overNext = refl;
@@ -128,3 +134,11 @@ records-fit l s i h k =
     let a : recordAt l i + table.recordRow l .width ≤ kindsAt l s = before-kinds l s i k in
     let b : Sectioned (placesOf l s) s = of-places l s h in
     omega arith
+
+-- so that there are few
+pub records-few : (l : Layout) (s : List ℕ) (i : ℕ) → Fits l s → i < functionsIn s → i < 67108864
+records-few l s i h k = few l (records-fit l s i h k) (h .most)
+  where
+    few : (l : Layout) → recordAt l i + table.recordRow l .width ≤ length s → length s ≤ sizeLimit → i < 67108864
+    few Modern a b = omega arith
+    few (Legacy big sources) a b = omega arith
