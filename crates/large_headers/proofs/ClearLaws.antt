@@ -22,11 +22,10 @@ starts-before p w q v h = rw (lt-ltb p (q + v) h)
 pub starts-past : (p w q v : ℕ) → q + v ≤ p → true ≡ apart p w q v
 starts-past p w q v h = rw (le-ltb p (q + v) h)
 
-module _ (l : Layout) (s : List ℕ) (j i w : ℕ) (g f : Func) (r : Bool) (d : w ≡ table.largeRow l .width) (e : g ≡ funcOf l s j) (h : f ≡ funcOf l s i)
-    (k : r ≡ clearOf w (not (eqb i j)) g f) where
-  pub clear-at : r ≡ clearAt l s j i
-  unfolding clearAt
-  clear-at = rw (← d, ← e, ← h, k)
+pub clear-at : (l : Layout) (s : List ℕ) (j i w : ℕ) (g f : Func) (other r : Bool) → w ≡ table.largeRow l .width → g ≡ funcOf l s j → f ≡ funcOf l s i
+    → other ≡ not (eqb i j) → r ≡ clearOf w other g f → r ≡ clearAt l s j i
+unfolding clearAt
+clear-at l s j i w g f other r d e h o k = rw (← d, ← e, ← h, ← o, k)
 
 -- ---- a header against all functions
 

@@ -4,8 +4,9 @@
 use format::Layout;
 use function_table::Function;
 ghost use mathlib.Core.Path.{_≡_};
-ghost use mathlib.Core.Bool.{true};
+ghost use mathlib.Core.Bool.{true, not};
 ghost use Prim.Native.Nat.{_+_, _≤_, _<_};
+ghost use lib.Dec.{eqb};
 ghost use lib.ListN.{length};
 ghost use Rattle.format.specs.Table.{largeRow};
 ghost use Rattle.image.specs.Sections.{functionsIn};
@@ -110,6 +111,13 @@ fn are_apart(p: usize, w: usize, q: usize, v: usize) -> bool
     true
 }
 
+// Whether two ids are of two functions.
+fn are_two(i: usize, j: usize) -> bool
+    ensures { λ r. ⌜ r ≡ not (eqb i j) ⌝ }
+{
+    i != j
+}
+
 // Whether the header of `g` shares no byte with that of `f`, if `f` is another function and has one.
 fn is_clear_of_header(g: Function, f: Function, width: usize, other: bool) -> bool
     requires { ⌜ WordSized g × WordSized f × (width ≤ 20) ⌝ }
@@ -159,7 +167,7 @@ fn is_header_clear(image: &[u8], layout: Layout, n: usize, j: usize) -> bool
     let mut i = 0;
     while i < n {
         let f = function_table::function_at(image, layout, i);
-        if !is_clear_of(g, f, width, i != j) {
+        if !is_clear_of(g, f, width, are_two(i, j)) {
             return false;
         }
         i += 1;

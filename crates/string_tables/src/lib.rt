@@ -55,8 +55,8 @@ fn covered_by(image: &[u8], at: usize, n: usize) -> Covered
     let mut k = 0;
     while k < n {
         let word = bits::word(image, sections::entry_at(at, k, format::KIND_ENTRY));
-        strings += format::value(word, format::KIND_RUN);
-        identifiers += identifier_run(word);
+        strings = strings + format::value(word, format::KIND_RUN);
+        identifiers = identifiers + identifier_run(word);
         k += 1;
     }
     Covered {

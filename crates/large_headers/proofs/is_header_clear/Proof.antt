@@ -29,19 +29,21 @@ function-at-requires-2 : tie.Need-function-at-requires-2 Inv-loop μ-loop
 function-at-requires-2 c κs = (c .before .before .before .before .before .before .before .pre .0, omega arith)
 
 is-clear-of-requires : tie.Need-is-clear-of-requires Inv-loop μ-loop
-is-clear-of-requires c κs = (c .before .before .before .before .before .before .function-at .ensures .1, c .function-at2 .ensures .1, omega arith)
+is-clear-of-requires c κs = (c .before .before .before .before .before .before .before .function-at .ensures .1, c .before .function-at2 .ensures .1, omega arith)
 
 returns-2 : tie.Need-returns-2 Inv-loop μ-loop
 returns-2 c =
-    let l = c .before .before .before .before .loop in
-    let g = c .before .before .before .before .before .before .before .before .function-at .ensures .0 in
-    header-not-clear _ _ _ _ g (c .before .before .before .before .before .before .if1 .left) _ (c .before .before .before .before .before .before .before .before .before .before .pre .1 .0) (l .i) _ (omega arith)
-    (clear-at _ _ _ (l .i) _ _ _ _ (c .before .before .before .before .before .large-width .ensures .0) g (c .before .before .function-at2 .ensures .0) (c .before .is-clear-of .ensures)) (c .if2 .taken)
+    let l = c .before .before .before .before .before .loop in
+    let g = c .before .before .before .before .before .before .before .before .before .function-at .ensures .0 in
+    header-not-clear _ _ _ _ g (c .before .before .before .before .before .before .before .if1 .left) _ (c .before .before .before .before .before .before .before .before .before .before .before .pre .1 .0) (l .i) _ (omega arith)
+    (clear-at _ _ _ (l .i) _ _ _ _ _ (c .before .before .before .before .before .before .large-width .ensures .0) g (c .before .before .before .function-at2 .ensures .0) (c .before .before .are-two .ensures) (c .before .is-clear-of .ensures))
+    (c .if2 .taken)
 
 loop-again : tie.Need-loop-again Inv-loop μ-loop
 loop-again c =
-    let l = c .before .before .before .before .loop in
-    (omega arith, pass-next _ (l .i) _ (clear-at _ _ _ (l .i) _ _ _ _ (c .before .before .before .before .before .large-width .ensures .0) (c .before .before .before .before .before .before .before .before .function-at .ensures .0) (c .before .before .function-at2 .ensures .0) (c .before .is-clear-of .ensures)) (c .if2 .left) (l .inv .1))
+    let l = c .before .before .before .before .before .loop in
+    let h = clear-at _ _ _ (l .i) _ _ _ _ _ (c .before .before .before .before .before .before .large-width .ensures .0) (c .before .before .before .before .before .before .before .before .before .function-at .ensures .0) (c .before .before .before .function-at2 .ensures .0) (c .before .before .are-two .ensures) (c .before .is-clear-of .ensures) in
+    (omega arith, pass-next _ (l .i) _ h (c .if2 .left) (l .inv .1))
 
 returns-3 : tie.Need-returns-3 Inv-loop μ-loop
 returns-3 c = let l = c .before .loop in header-clear _ _ _ _ (c .before .before .before .before .before .function-at .ensures .0) (c .before .before .before .if1 .left) _ (c .before .before .before .before .before .before .before .pre .1 .0) (l .i) (omega arith) (l .inv .1)
@@ -49,4 +51,4 @@ returns-3 c = let l = c .before .loop in header-clear _ _ _ _ (c .before .before
 pub is-header-clear-spec : {M : Type 1} → statement M
 is-header-clear-spec =
     tie.close
-    (tie.spec Inv-loop μ-loop function-at-requires returns (λ c κs. search needs) loop-holds function-at-requires-2 is-clear-of-requires returns-2 (λ c. search needs) (λ c. search needs) loop-again returns-3)
+    (tie.spec Inv-loop μ-loop function-at-requires returns (λ c κs. search needs) loop-holds function-at-requires-2 (λ c κs. search needs) is-clear-of-requires returns-2 (λ c. search needs) (λ c. search needs) loop-again returns-3)

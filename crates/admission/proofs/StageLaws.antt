@@ -1,0 +1,246 @@
+-- The stages of admission: one law for each way out, and all of them together are the definition.
+use mathlib.Core.Path.{_≡_, refl, sym, _∙_, ap, subst, subst⁻¹}
+use mathlib.Core.Bool.{Bool, true, false, not}
+use mathlib.Core.List.{List}
+use Prim.Native.Nat.{ℕ, _+_, _-_, _≤_, _<_}
+use native.Mathlib.Omega.{arith}
+use lib.Dec.{ltb, eqb}
+use lib.ListN.{length, take, drop}
+use borrow.Author.Tests.{lt-ltb, le-ltb, ltb-false, eq-eqb, ne-eqb, eqb-true, eqb-false, not-true, not-false}
+use Rattle.bits.specs.Choice.{pick, both, judge}
+use Rattle.bits.specs.Bytes.{numberAt}
+use Rattle.bits.proofs.TestLaws.{both-0}
+use Rattle.format.specs.declared.Field.{Field}
+use Rattle.format.specs.declared.Layout.{Layout}
+use Rattle.format.specs.Table as table
+use Rattle.footer.specs.Footer.{footerLength}
+use Rattle.footer.specs.Finalize.{sizeLimit}
+use Rattle.image.specs.Sections.{kindsIn, identifiersIn, stringsIn, tailAt}
+use Rattle.image.specs.Kinds.{kindIn, covered, identified}
+use Rattle.image.specs.Admission.{overflowsCounted, overflowsNumbered, stringsStored, stringsNarrow, headersIn, bodiesIn, infosIn, debugInTail, headersApart, bodiesApart, checks, refusal}
+use Rattle.sections.specs.declared.Places.{Places}
+use Rattle.sections.specs.Places.{placesOf, Fits, Placed}
+use Rattle.sections.proofs.SectionLaws.{record-start}
+use Rattle.string_tables.specs.Kinds.{kindsGood}
+use Rattle.string_tables.specs.Strings.{stringsGood}
+use Rattle.function_table.specs.Functions.{functionsInTail}
+use Rattle.large_headers.specs.Clear.{allApart}
+use Rattle.admission.specs.declared.Admission.{Admission}
+use Rattle.admission.specs.declared.Admission.the-variants.{Laid, Refused}
+use Rattle.admission.specs.Admission.{answerFor, admission, laidOut, stringsJudged, functionsGood, functionsJudged}
+
+-- ---- size, magic, sections
+
+module _ (l : Layout) (s : List ℕ) (f : Field) (e : f ≡ table.recordRow l) where
+  least : f .at + footerLength ≡ table.recordRow l .at + footerLength
+  least = ap (λ (x : Field). x .at + footerLength) e
+
+  pub start-is : f .at ≡ 128
+  start-is = ap (λ (x : Field). x .at) e ∙ record-start l
+
+  pub too-short : length s < f .at + footerLength → Refused 1 ≡ laidOut l s
+  unfolding laidOut checks judge
+  too-short h = rw (← least, lt-ltb (length s) (f .at + footerLength) h)
+
+  module _ (h₁ : f .at + footerLength ≤ length s) where
+    pub too-long : sizeLimit < length s → Refused 1 ≡ laidOut l s
+    unfolding laidOut checks judge
+    too-long h = rw (← least, le-ltb (length s) (f .at + footerLength) h₁, lt-ltb sizeLimit (length s) h)
+
+    module _ (h₂ : length s ≤ sizeLimit) (m : ℕ) (g : m ≡ numberAt s (table.magic .at) (table.magic .width)) where
+      pub no-magic : (m ≡ table.magicNumber → ⊥) → Refused 2 ≡ laidOut l s
+      unfolding laidOut checks judge
+      no-magic h = rw (← least, le-ltb (length s) (f .at + footerLength) h₁, le-ltb sizeLimit (length s) h₂, ← g, ne-eqb m table.magicNumber h)
+
+      module _ (h₃ : m ≡ table.magicNumber) (p : Places) (k : p ≡ placesOf l s) where
+        ends : (p .tail ≡ tailAt l s) × (p .footer ≡ length s - footerLength)
+        unfolding placesOf
+        ends = (ap (λ (x : Places). x .tail) k, ap (λ (x : Places). x .footer) k)
+
+        pub no-room : p .footer < p .tail → Refused 3 ≡ laidOut l s
+        unfolding laidOut checks judge
+        no-room h =
+            let r : length s < tailAt l s + footerLength = omega (arith, ends, start-is) in
+            rw (← least, le-ltb (length s) (f .at + footerLength) h₁, le-ltb sizeLimit (length s) h₂, ← g, eq-eqb m table.magicNumber h₃, lt-ltb (length s) (tailAt l s + footerLength) r)
+
+        pub all-laid : p .tail ≤ p .footer → Laid p ≡ laidOut l s
+        unfolding laidOut checks judge
+        all-laid h =
+            let r : tailAt l s + footerLength ≤ length s = omega (arith, ends, start-is) in
+            rw (← least, le-ltb (length s) (f .at + footerLength) h₁, le-ltb sizeLimit (length s) h₂, ← g, eq-eqb m table.magicNumber h₃, le-ltb (length s) (tailAt l s + footerLength) r) (ap Laid k)
+
+-- ---- strings and functions
+
+module _ (p : Places) (s : List ℕ) where
+  module _ (a : Bool) (e : a ≡ kindsGood (p .layout) s) where
+    pub bad-kinds : not a ≡ true → Refused 4 ≡ stringsJudged p s
+    unfolding stringsJudged
+    bad-kinds t = rw (← e, not-true a t)
+
+    module _ (t : not a ≡ false) (b : Bool) (g : b ≡ stringsGood (p .layout) s) where
+      pub bad-strings : not b ≡ true → Refused 5 ≡ stringsJudged p s
+      unfolding stringsJudged
+      bad-strings u = rw (← e, not-false a t, ← g, not-true b u)
+
+      pub good-strings : not b ≡ false → Laid p ≡ stringsJudged p s
+      unfolding stringsJudged
+      good-strings u = rw (← e, not-false a t, ← g, not-false b u)
+
+  module _ (a : Bool) (e : a ≡ functionsInTail (p .layout) s) where
+    pub not-in-tail : not a ≡ true → Refused 6 ≡ functionsJudged p s
+    unfolding functionsJudged functionsGood
+    not-in-tail t = rw (← e, not-true a t)
+
+    module _ (t : not a ≡ false) where
+      pub headers-are-in : headersIn (p .layout) s ≡ true
+      unfolding functionsInTail
+      headers-are-in = both-0 (headersIn (p .layout) s) (both (bodiesIn (p .layout) s) (infosIn (p .layout) s)) (sym e ∙ not-false a t)
+
+      module _ (b : Bool) (g : b ≡ debugInTail (p .layout) s) where
+        pub bad-debug : not b ≡ true → Refused 6 ≡ functionsJudged p s
+        unfolding functionsJudged functionsGood
+        bad-debug u = rw (← e, not-false a t, ← g, not-true b u)
+
+        module _ (u : not b ≡ false) (c : Bool) (h : c ≡ allApart (p .layout) s) where
+          pub not-apart : not c ≡ true → Refused 6 ≡ functionsJudged p s
+          unfolding functionsJudged functionsGood
+          not-apart v = rw (← e, not-false a t, ← g, not-false b u, ← h, not-true c v)
+
+          pub good-functions : not c ≡ false → Laid p ≡ functionsJudged p s
+          unfolding functionsJudged functionsGood
+          good-functions v = rw (← e, not-false a t, ← g, not-false b u, ← h, not-false c v)
+
+-- ---- all stages: the checks of one number as one test
+
+two : (a b : Bool) (n r : ℕ) → pick (not a) n (pick (not b) n r) ≡ pick (both a b) r n
+two true true n r = refl
+two true false n r = refl
+two false b n r = refl
+
+four : (a b c d : Bool) (n r : ℕ) → pick (not a) n (pick (not b) n (pick (not c) n (pick (not d) n r))) ≡ pick (both a (both b (both c d))) r n
+four true true c d n r = two c d n r
+four true false c d n r = refl
+four false b c d n r = refl
+
+six : (a b c d e f : Bool) (n r : ℕ)
+    → pick (not a) n (pick (not b) n (pick (not c) n (pick (not d) n (pick (not e) n (pick (not f) n r))))) ≡ pick (both (both a (both b c)) (both d (both e f))) r n
+six true true true d e f n r = four true d e f n r
+six true true false d e f n r = refl
+six true false c d e f n r = refl
+six false b c d e f n r = refl
+
+-- the first four, and the rest where they pass
+first-four : (a b c d : Bool) (r : ℕ)
+    → pick a 1 (pick b 1 (pick c 2 (pick d 3 r))) ≡ pick (eqb (pick a 1 (pick b 1 (pick c 2 (pick d 3 0)))) 0) r (pick a 1 (pick b 1 (pick c 2 (pick d 3 0))))
+first-four true b c d r = refl
+first-four false true c d r = refl
+first-four false false true d r = refl
+first-four false false false true r = refl
+first-four false false false false r = refl
+
+module _ (l : Layout) (s : List ℕ) where
+  -- the number that the first stage gives
+  abbrev stage : ℕ
+  stage = judge (take 4 (checks l s))
+
+  -- the checks from a place on
+  abbrev from : ℕ → ℕ
+  from k = judge (drop k (checks l s))
+
+  kinds-stage : from 4 ≡ pick (kindsGood l s) (from 6) 4
+  unfolding checks judge kindsGood
+  kinds-stage = two (eqb (covered (kindIn l s) (kindsIn s)) (stringsIn s)) (eqb (identified (kindIn l s) (kindsIn s)) (identifiersIn s)) 4 (from 6)
+
+  strings-stage : from 6 ≡ pick (stringsGood l s) (from 10) 5
+  unfolding checks judge stringsGood
+  strings-stage = four (overflowsCounted l s) (overflowsNumbered l s) (stringsStored l s) (stringsNarrow l s) 5 (from 10)
+
+  functions-stage : from 10 ≡ pick (functionsGood l s) 0 6
+  unfolding checks judge functionsGood functionsInTail allApart
+  functions-stage = six (headersIn l s) (bodiesIn l s) (infosIn l s) (debugInTail l s) (headersApart l s) (bodiesApart l s) 6 0
+
+  first-stage : refusal l s ≡ pick (eqb stage 0) (from 4) stage
+  unfolding refusal checks judge
+  first-stage =
+      first-four (ltb (length s) (table.recordRow l .at + footerLength)) (ltb sizeLimit (length s))
+      (not (eqb (numberAt s (table.magic .at) (table.magic .width)) table.magicNumber)) (ltb (length s) (tailAt l s + footerLength)) (from 4)
+
+  -- ---- the ways out of admission
+
+  module _ (r : Admission) (e : r ≡ laidOut l s) where
+    pub refused-first : (k : ℕ) → r ≡ Refused k → r ≡ admission l s
+    unfolding laidOut admission
+    refused-first k f = e ∙ go (eqb stage 0) refl (sym e ∙ f)
+      where
+        go : (b : Bool) → eqb stage 0 ≡ b → answerFor l s stage ≡ Refused k → answerFor l s stage ≡ answerFor l s (refusal l s)
+        go true h q = let z : _≡_ {A = ℕ} 0 1 = cc (rw h at q) in absurd (omega arith)
+        go false h q = let k : refusal l s ≡ stage = first-stage ∙ rw h in ap (λ (n : ℕ). answerFor l s n) (sym k)
+
+    module _ (p : Places) (f : r ≡ Laid p) where
+      passed : (eqb stage 0 ≡ true) × (p ≡ placesOf l s)
+      unfolding laidOut
+      passed = go (eqb stage 0) (sym e ∙ f)
+        where
+          go : (b : Bool) → pick b (Laid (placesOf l s)) (Refused stage) ≡ Laid p → (b ≡ true) × (p ≡ placesOf l s)
+          go true q = (refl, cc)
+          go false q = let z : _≡_ {A = ℕ} 0 1 = cc in absurd (omega arith)
+
+      fits : Fits l s
+      unfolding checks judge
+      fits =
+          go (ltb (length s) (table.recordRow l .at + footerLength)) (ltb sizeLimit (length s))
+          (not (eqb (numberAt s (table.magic .at) (table.magic .width)) table.magicNumber)) (ltb (length s) (tailAt l s + footerLength)) refl refl (passed .0)
+        where
+          go : (a b c d : Bool) → ltb sizeLimit (length s) ≡ b → ltb (length s) (tailAt l s + footerLength) ≡ d
+              → eqb (pick a 1 (pick b 1 (pick c 2 (pick d 3 0)))) 0 ≡ true → Fits l s
+          go false false false false h g q = record { most = ltb-false sizeLimit (length s) h; room = ltb-false (length s) (tailAt l s + footerLength) g }
+          go true b c d h g q = let z : _≡_ {A = ℕ} 0 1 = cc in absurd (omega arith)
+          go false true c d h g q = let z : _≡_ {A = ℕ} 0 1 = cc in absurd (omega arith)
+          go false false true d h g q = let z : _≡_ {A = ℕ} 0 1 = cc in absurd (omega arith)
+          go false false false true h g q = let z : _≡_ {A = ℕ} 0 1 = cc in absurd (omega arith)
+
+      own-layout : p .layout ≡ l
+      unfolding placesOf
+      own-layout = ap (λ (x : Places). x .layout) (passed .1)
+
+      pub placed : Placed p s
+      placed = record { is = passed .1 ∙ ap (λ (x : Layout). placesOf x s) (sym own-layout); fits = subst⁻¹ (λ (x : Layout). Fits x s) own-layout fits }
+
+      -- what is left of the definition
+      rest : refusal l s ≡ from 4
+      rest = first-stage ∙ rw (passed .0)
+
+      strings-are : stringsJudged p s ≡ pick (kindsGood l s) (pick (stringsGood l s) (Laid p) (Refused 5)) (Refused 4)
+      unfolding stringsJudged
+      strings-are = ap (λ (x : Layout). pick (kindsGood x s) (pick (stringsGood x s) (Laid p) (Refused 5)) (Refused 4)) own-layout
+
+      functions-are : functionsJudged p s ≡ pick (functionsGood l s) (Laid p) (Refused 6)
+      unfolding functionsJudged
+      functions-are = ap (λ (x : Layout). pick (functionsGood x s) (Laid p) (Refused 6)) own-layout
+
+      module _ (j : Admission) (g : j ≡ stringsJudged p s) where
+        pub refused-second : (k : ℕ) → j ≡ Refused k → j ≡ admission l s
+        unfolding admission
+        refused-second k h =
+            let n : refusal l s ≡ pick (kindsGood l s) (pick (stringsGood l s) (from 10) 5) 4 = rest ∙ rw (kinds-stage, strings-stage) in
+            g ∙ strings-are ∙ go (kindsGood l s) (stringsGood l s) (sym strings-are ∙ sym g ∙ h) ∙ ap (λ (m : ℕ). answerFor l s m) (sym n)
+          where
+            go : (a b : Bool) → pick a (pick b (Laid p) (Refused 5)) (Refused 4) ≡ Refused k
+                → pick a (pick b (Laid p) (Refused 5)) (Refused 4) ≡ answerFor l s (pick a (pick b (from 10) 5) 4)
+            go true true q = let z : _≡_ {A = ℕ} 0 1 = cc in absurd (omega arith)
+            go true false q = refl
+            go false b q = refl
+
+        pub judged-last : (q : Places) → j ≡ Laid q → (r : Admission) → r ≡ functionsJudged p s → r ≡ admission l s
+        unfolding admission
+        judged-last q h r d =
+            let n : refusal l s ≡ pick (kindsGood l s) (pick (stringsGood l s) (pick (functionsGood l s) 0 6) 5) 4
+            = rest ∙ rw (kinds-stage, strings-stage, functions-stage) in
+            d ∙ functions-are ∙ go (kindsGood l s) (stringsGood l s) (functionsGood l s) (sym strings-are ∙ sym g ∙ h) ∙ ap (λ (m : ℕ). answerFor l s m) (sym n)
+          where
+            go : (a b c : Bool) → pick a (pick b (Laid p) (Refused 5)) (Refused 4) ≡ Laid q
+                → pick c (Laid p) (Refused 6) ≡ answerFor l s (pick a (pick b (pick c 0 6) 5) 4)
+            go true true true x = ap Laid (passed .1)
+            go true true false x = refl
+            go true false c x = let z : _≡_ {A = ℕ} 0 1 = cc in absurd (omega arith)
+            go false b c x = let z : _≡_ {A = ℕ} 0 1 = cc in absurd (omega arith)
