@@ -128,3 +128,11 @@ records-fit l s i h k =
     let a : recordAt l i + table.recordRow l .width ≤ kindsAt l s = before-kinds l s i k in
     let b : Sectioned (placesOf l s) s = of-places l s h in
     omega arith
+
+-- so that there are few
+pub records-few : (l : Layout) (s : List ℕ) (i : ℕ) → Fits l s → i < functionsIn s → i < 67108864
+records-few l s i h k = few l (records-fit l s i h k) (h .most)
+  where
+    few : (l : Layout) → recordAt l i + table.recordRow l .width ≤ length s → length s ≤ sizeLimit → i < 67108864
+    few Modern a b = omega arith
+    few (Legacy big sources) a b = omega arith
