@@ -1,1 +1,5 @@
 pub mod SlotLaws
+pub mod FunctionLaws
+pub mod EditedLaws
+pub mod DebugLaws
+pub mod FitLaws

@@ -161,3 +161,141 @@ pub fn put_record(image: &[u8], layout: Layout, every: bool, i: usize, f: Functi
     let end = at + format::record_row(layout).width;
     store_record(&mut out[at..end], layout, words);
 }
+
+// ---- large headers
+
+// A word of the large header at `ptr`, by the name of its row.
+fn put_large_word(ptr: usize, k: usize, x: usize, out: &mut [u8])
+    requires { ⌜ k < rowCount ⌝ }
+    requires { ⌜ ptr + rowOf k .at + 4 ≤ length (now out) ⌝ }
+    ensures { λ _. ⌜ now (out .exit) ≡ sets (now (out .entry)) (ptr + rowOf k .at) (bytesOf 4 x) ⌝ }
+{
+    bits::put_word(out, ptr + format::at(k), x as u64);
+}
+
+// The words of a function's large header, at its pointer.
+pub fn put_large(layout: Layout, f: Function, out: &mut [u8])
+    requires { ⌜ f .ptr + largeRow layout .width ≤ length (now out) ⌝ }
+    ensures { λ _. ⌜ now (out .exit) ≡ writeAll (putHeader layout (asFunc f)) (now (out .entry)) ⌝ }
+{
+    put_large_word(f.ptr, format::LARGE_OFFSET, f.begin, out);
+    match layout {
+        Layout::Modern => put_large_word(f.ptr, format::MODERN_LARGE_SIZE, f.size, out),
+        Layout::Legacy {
+            big_integers: _,
+            function_sources: _,
+        } => {
+            put_large_word(f.ptr, format::LEGACY_LARGE_SIZE, f.size, out);
+            put_large_word(f.ptr, format::LEGACY_LARGE_INFO, f.info, out);
+        }
+    }
+}
+
+// ---- functions
+
+// Function `i` at its new places: its record, and the words of its large header.
+fn put_function(image: &[u8], layout: Layout, m: Change, i: usize, out: &mut [u8])
+    requires { ⌜ Relocates layout (now image) m (length (now out)) ⌝ }
+    requires { ⌜ i < functionsIn (now image) ⌝ }
+    ensures { λ _. ⌜ now (out .exit) ≡ writeAll (headerGroup layout (relocated layout (now (image .entry)) m) i) (writeAll (recordGroup layout (m .every) (now (image .entry)) (relocated layout (now (image .entry)) m) i) (now (out .entry))) ⌝ }
+{
+    let f = move_function(function_table::function_at(image, layout, i), m, i);
+    put_record(image, layout, m.every, i, f, out);
+    if f.large {
+        put_large(layout, f, out);
+    }
+}
+
+// All functions at their new places.
+pub fn relocate(image: &[u8], p: Places, m: Change, out: &mut [u8])
+    requires { ⌜ Placed p (now image) ⌝ }
+    requires { ⌜ Relocates (p .layout) (now image) m (length (now out)) ⌝ }
+    ensures { λ _. ⌜ now (out .exit) ≡ writeAll (groups (functionsIn (now (image .entry))) (headerGroup (p .layout) (relocated (p .layout) (now (image .entry)) m))) (writeAll (groups (functionsIn (now (image .entry))) (recordGroup (p .layout) (m .every) (now (image .entry)) (relocated (p .layout) (now (image .entry)) m))) (now (out .entry))) ⌝ }
+{
+    let layout = p.layout;
+    let mut i = 0;
+    while i < p.functions {
+        put_function(image, layout, m, i, out);
+        i += 1;
+    }
+}
+
+// ---- bytes around those that are replaced
+
+// The bytes before `a`, and those from `b` on, which go to `to`.
+pub fn copy_around(image: &[u8], a: usize, b: usize, to: usize, out: &mut [u8])
+    requires { ⌜ (a ≤ length (now image)) × (b ≤ length (now image)) ⌝ }
+    requires { ⌜ (a ≤ length (now out)) × (to + (length (now image) - b) ≤ length (now out)) ⌝ }
+    ensures { λ _. ⌜ now (out .exit) ≡ sets (sets (now (out .entry)) 0 (take a (now (image .entry)))) to (drop b (now (image .entry))) ⌝ }
+{
+    bits::put_bytes(out, 0, &image[..a]);
+    bits::put_bytes(out, to, &image[b..]);
+}
+
+// The debug offset at its new place.
+pub fn put_debug(image: &[u8], p: Places, from: usize, to: usize, out: &mut [u8])
+    requires { ⌜ Placed p (now image) ⌝ }
+    requires { ⌜ (to < 4294967296) × (128 ≤ length (now out)) ⌝ }
+    ensures { λ _. ⌜ now (out .exit) ≡ sets (now (out .entry)) (placeIn (p .layout) (debugRow (p .layout))) (bytesOf 4 (moved from to (debugIn (p .layout) (now (image .entry))))) ⌝ }
+{
+    let layout = p.layout;
+    let at = format::place(format::debug_row(layout), layout);
+    let debug = bits::word(image, at) as usize;
+    bits::put_word(out, at, move_place(debug, from, to) as u64);
+}
+
+// ---- refusal 12
+
+// Whether a field has too few bits for a number.
+pub fn beyond(k: usize, x: usize) -> bool
+    requires { ⌜ k < rowCount ⌝ }
+    requires { ⌜ rowOf k .width < 64 ⌝ }
+    ensures { λ r. ⌜ r ≡ beyond (rowOf k) x ⌝ }
+{
+    1usize << format::width(k) <= x
+}
+
+// The row of a record's body offset.
+fn offset_row(layout: Layout) -> usize
+    ensures { λ r. ⌜ (r < rowCount) × (rowOf r ≡ offsetRow layout) ⌝ }
+{
+    match layout {
+        Layout::Modern => format::MODERN_OFFSET,
+        Layout::Legacy {
+            big_integers: _,
+            function_sources: _,
+        } => format::LEGACY_OFFSET,
+    }
+}
+
+// Whether a function has no large header and its record cannot hold its moved places.
+fn is_beyond(layout: Layout, f: Function, from: usize, to: usize) -> bool
+    requires { ⌜ WordSized f × (to < 4294967296) ⌝ }
+    ensures { λ r. ⌜ r ≡ isBeyond layout (moved from to) (asFunc f) ⌝ }
+{
+    if f.large {
+        return false;
+    }
+    if beyond(offset_row(layout), move_place(f.begin, from, to)) {
+        return true;
+    }
+    beyond(format::LEGACY_INFO, move_place(f.info, from, to))
+}
+
+// Whether the records hold all places after a move.
+pub fn fields_fit(image: &[u8], p: Places, from: usize, to: usize) -> bool
+    requires { ⌜ Placed p (now image) × (headersIn (p .layout) (now image) ≡ true) ⌝ }
+    requires { ⌜ to < 4294967296 ⌝ }
+    ensures { λ r. ⌜ r ≡ fieldsFit (p .layout) (now (image .entry)) (moved from to) ⌝ }
+{
+    let layout = p.layout;
+    let mut i = 0;
+    while i < p.functions {
+        let f = function_table::function_at(image, layout, i);
+        if is_beyond(layout, f, from, to) {
+            return false;
+        }
+        i += 1;
+    }
+    true
+}
