@@ -3,3 +3,4 @@ pub mod FunctionLaws
 pub mod EditedLaws
 pub mod DebugLaws
 pub mod FitLaws
+pub mod PatchLaws
