@@ -2,13 +2,14 @@
 use mathlib.Core.Path.{_≡_, refl, ap, sym, _∙_}
 use mathlib.Core.List.{List, [], _∷_, _++_, append-assoc, append-nil}
 use Prim.Native.Nat.{ℕ, zero, suc, _+_, _-_, _*_, _/_, _%_, _^_, _≤_, _<_}
-use native.Mathlib.Nat.{add-zero, zero-add, add-suc, suc-add, add-assoc, add-mul, mul-assoc, zero-mul, mul-one, pow-suc, div-div-eq-div-mul, mul-comm, add-comm, mul-add-mod-self-right, mul-add-div-right}
+use native.Mathlib.Nat.{not-suc-le-zero, le-of-suc-le-suc, add-zero, zero-add, add-suc, suc-add, add-assoc, add-mul, mul-assoc, zero-mul, mul-one, pow-suc, div-div-eq-div-mul, mul-comm, add-comm, mul-add-mod-self-right, mul-add-div-right}
 use native.Mathlib.Numerals.{add-one}
 use native.Mathlib.Omega.{arith}
-use lib.ListN.{length, getD, take, drop, length-append}
+use lib.ListN.{length, getD, take, drop, length-append, List·getD-append}
 use lib.Pow.{high}
 use lib.Seq.{drop-cons, take-suc}
 use Rattle.bits.specs.Bytes.{bytesAt, number, bytesOf, numberAt, wordsOf}
+use Rattle.bits.proofs.ListLaws.{getD-past, AllBelow, below-nil, below-append, below-bytesOf}
 
 pub length-bytesOf : (n x : ℕ) → length (bytesOf n x) ≡ n
 unfolding bytesOf
@@ -32,6 +33,13 @@ bytesAt-ext s t (suc n) p q h =
     bytesAt-ext s t n (suc p) (suc q) (λ j k. simp (suc-add, add-suc) (simp (suc-add, add-suc) at (h (suc j) (omega arith)))) in
     rw (a, r)
 
+-- byte j of n bytes
+pub getD-bytesAt : (s : List ℕ) (n p j : ℕ) → j < n → getD (bytesAt s p n) j 0 ≡ getD s (p + j) 0
+unfolding bytesAt
+getD-bytesAt s zero p j h = absurd (not-suc-le-zero h)
+getD-bytesAt s (suc n) p zero h = rw add-zero
+getD-bytesAt s (suc n) p (suc j) h = rw (add-suc, ← suc-add) (getD-bytesAt s n (suc p) j (omega arith))
+
 bytesAt-cons : (x : ℕ) (xs : List ℕ) (n p : ℕ) → bytesAt (x ∷ xs) (suc p) n ≡ bytesAt xs p n
 unfolding bytesAt
 bytesAt-cons x xs zero p = refl
@@ -41,6 +49,10 @@ pub bytesAt-self : (xs : List ℕ) → bytesAt xs 0 (length xs) ≡ xs
 unfolding bytesAt
 bytesAt-self [] = refl
 bytesAt-self (x ∷ xs) = rw (bytesAt-cons x xs (length xs) 0, bytesAt-self xs)
+
+-- and as the same number
+pub numberAt-ext : (s t : List ℕ) (n p q : ℕ) → ((j : ℕ) → j < n → getD s (p + j) 0 ≡ getD t (q + j) 0) → numberAt s p n ≡ numberAt t q n
+numberAt-ext s t n p q h = ap number (bytesAt-ext s t n p q h)
 
 -- n bytes from a place on are a list, if byte by byte they are
 pub bytesAt-is : (s xs : List ℕ) (p n : ℕ) → length xs ≡ n → ((j : ℕ) → j < n → getD s (p + j) 0 ≡ getD xs j 0) → bytesAt s p n ≡ xs
@@ -96,6 +108,21 @@ unfolding number bytesOf
 number-back zero x h = omega arith
 number-back (suc n) x h = rw (number-back n (x / 256) (omega arith)) (omega arith)
 
+-- n bytes hold a number below 256 ^ n
+number-lt : (bs : List ℕ) → AllBelow 256 bs → number bs < 256 ^ length bs
+unfolding number
+number-lt [] h = omega arith
+number-lt (b ∷ bs) h = rw pow-suc (omega (arith, h 0, number-lt bs (λ j. h (suc j))))
+
+pub bytesAt-below : (s : List ℕ) (n p : ℕ) → AllBelow 256 s → AllBelow 256 (bytesAt s p n)
+unfolding bytesAt
+bytesAt-below s zero p h j = omega arith
+bytesAt-below s (suc n) p h zero = h p
+bytesAt-below s (suc n) p h (suc j) = bytesAt-below s n (suc p) h j
+
+pub numberAt-lt : (s : List ℕ) (p n : ℕ) → AllBelow 256 s → numberAt s p n < 256 ^ n
+numberAt-lt s p n h = rw length-bytesAt at (number-lt (bytesAt s p n) (bytesAt-below s n p h))
+
 -- the sum that code forms of 4 bytes
 pub word-sum : (s : List ℕ) (at : ℕ)
     → getD s at 0 + getD s (at + 1) 0 * 256 + getD s (at + 2) 0 * 65536 + getD s (at + 3) 0 * 16777216 ≡ numberAt s at 4
@@ -122,3 +149,23 @@ words-append (w ∷ a) b = rw (words-append a b, append-assoc)
 pub words-next : (ws : List ℕ) (i : ℕ) → i < length ws → wordsOf (take (i + 1) ws) ≡ wordsOf (take i ws) ++ bytesOf 4 (getD ws i 0)
 unfolding wordsOf
 words-next ws i h = rw (add-one, take-suc ws i 0 h, words-append (take i ws), append-nil)
+
+-- word j
+pub words-at : (ws : List ℕ) (j : ℕ) → j < length ws → ((k : ℕ) → k < length ws → getD ws k 0 < 2 ^ 32) → numberAt (wordsOf ws) (j * 4) 4 ≡ getD ws j 0
+unfolding wordsOf
+words-at [] j h f = absurd (not-suc-le-zero h)
+words-at (w ∷ ws) zero h f =
+    ap number (bytesAt-is (bytesOf 4 w ++ wordsOf ws) (bytesOf 4 w) 0 4 (length-bytesOf 4 w)
+    (λ i k. rw zero-add (List·getD-append (bytesOf 4 w) (wordsOf ws) 0 i (rw length-bytesOf k))))
+    ∙ number-back 4 w (f 0 h)
+words-at (w ∷ ws) (suc j) h f =
+    numberAt-ext (bytesOf 4 w ++ wordsOf ws) (wordsOf ws) 4 (suc j * 4) (j * 4)
+    (λ i k.
+    let e : suc j * 4 + i ≡ 4 + (j * 4 + i) = omega arith in
+    rw e (getD-past (bytesOf 4 w) (wordsOf ws) 4 (j * 4 + i) (length-bytesOf 4 w)))
+    ∙ words-at ws j (le-of-suc-le-suc h) (λ k g. f (suc k) (omega arith))
+
+pub words-below : (ws : List ℕ) → AllBelow 256 (wordsOf ws)
+unfolding wordsOf
+words-below [] = below-nil 256 (omega arith)
+words-below (w ∷ ws) = below-append 256 (omega arith) (bytesOf 4 w) (wordsOf ws) (below-bytesOf 4 w) (words-below ws)

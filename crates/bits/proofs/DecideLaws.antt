@@ -1,11 +1,11 @@
 -- A test that decides: what holds of the numbers where it is true, what is wrong with them where it is false, and back from each.
 -- A test that is put together of others decides what they decide.
-use mathlib.Core.Path.{_≡_, refl, sym, _∙_}
+use mathlib.Core.Path.{_≡_, refl}
 use mathlib.Core.Bool.{Bool, true, false, not}
 use mathlib.Core.Logic.{_⊎_, inl, inr, _≢_}
 use Prim.Native.Nat.{ℕ, _≤_, _<_}
 use borrow.Author.Tests.{leb-true, leb-false, le-leb, lt-leb, eqb-true, eqb-false, eq-eqb, ne-eqb, not-true, not-false}
-use lib.Dec.{leb, ltb, eqb}
+use lib.Dec.{leb, eqb}
 use Rattle.bits.specs.Choice.{both, implies, allBelow}
 use Rattle.bits.proofs.TestLaws.{both-0, both-1, both-of, both-false, imp-use, imp-of, imp-false, all-at, all-of, all-fails, all-not}
 

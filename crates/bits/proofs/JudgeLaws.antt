@@ -32,19 +32,20 @@ given n [] = false
 given n (c ∷ cs) = either (both (eqb (c .number) n) (c .met)) (given n cs)
 
 -- each check that is met shows F of its number
-abbrev pub Shows : (ℕ → Type 0) → List Check → Type 0
-Shows F [] = Unit {0}
-Shows F (c ∷ cs) = (c .met ≡ true → F (c .number)) × Shows F cs
+infixr 5 _also_
+pub data Shows (F : ℕ → Type 0) : List Check → Type 0 where
+  nothing : Shows F []
+  _also_ : {c : Check} {cs : List Check} → (c .met ≡ true → F (c .number)) → Shows F cs → Shows F (c ∷ cs)
 
 -- ---- the answer
 
 -- an answer other than 0 shows F
 pub judge-shows : (F : ℕ → Type 0) (cs : List Check) → Shows F cs → 0 < judge cs → F (judge cs)
 unfolding judge
-judge-shows F [] x h = absurd (omega arith)
-judge-shows F (c ∷ cs) x h = go (c .met) (x .0) (λ k. judge-shows F cs (x .1) k) h
+judge-shows F cs nothing h = absurd (omega arith)
+judge-shows F cs (_also_ {c = c} {cs = ds} f x) h = go (c .met) f (λ k. judge-shows F ds x k) h
   where
-    go : (b : Bool) → (b ≡ true → F (c .number)) → (0 < judge cs → F (judge cs)) → 0 < pick b (c .number) (judge cs) → F (pick b (c .number) (judge cs))
+    go : (b : Bool) → (b ≡ true → F (c .number)) → (0 < judge ds → F (judge ds)) → 0 < pick b (c .number) (judge ds) → F (pick b (c .number) (judge ds))
     go true f r h = f refl
     go false f r h = r h
 

@@ -1,10 +1,13 @@
+pub mod ListLaws
 pub mod ByteLaws
 pub mod WriteLaws
 pub mod FieldLaws
 pub mod MaskLaws
 pub mod TestLaws
+pub mod PassLaws
 pub mod DecideLaws
 pub mod JudgeLaws
 pub mod Word32Laws
+pub mod SumLaws
 pub mod OutcomeLaws
 pub mod AsciiLaws

@@ -25,6 +25,16 @@ pub both-false : (a b : Bool) → both a b ≡ false → (a ≡ false) ⊎ (b �
 both-false true b h = inr h
 both-false false b h = inl refl
 
+pub either-not : (a b : Bool) → either a b ≡ false → (a ≡ false) × (b ≡ false)
+either-not true b h = let z : _≡_ {A = ℕ} 0 1 = cc in absurd (omega arith)
+either-not false b h = (refl, h)
+
+pub either-0 : (a b : Bool) → either a b ≡ false → a ≡ false
+either-0 a b h = either-not a b h .0
+
+pub either-1 : (a b : Bool) → either a b ≡ false → b ≡ false
+either-1 a b h = either-not a b h .1
+
 -- one of two tests that holds settles it, whichever it is
 pub either-or : (a b : Bool) → either a b ≡ true → (a ≡ true) ⊎ (b ≡ true)
 either-or true b h = inl refl
@@ -113,6 +123,11 @@ pub sum-le : (f : ℕ → ℕ) (m n : ℕ) → m ≤ n → sumBelow m f ≤ sumB
 sum-le f m n h =
     let e : n ≡ m + (n - m) = omega arith in
     rw (e, sum-split f m (n - m)) (omega arith)
+
+-- and it holds each of its terms beside the sum before it
+pub sum-at : (f : ℕ → ℕ) (i n : ℕ) → i < n → sumBelow i f + f i ≤ sumBelow n f
+unfolding sumBelow
+sum-at f i n h = sum-le f (suc i) n h
 
 -- a sum of equal terms
 pub sum-same : (f : ℕ → ℕ) (c n : ℕ) → ((i : ℕ) → i < n → f i ≡ c) → sumBelow n f ≡ n * c

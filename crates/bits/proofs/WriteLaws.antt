@@ -1,15 +1,19 @@
 -- Writes to a list: one read back, one apart from what is read, one after the other, one within the other, one to a lent part.
 use mathlib.Core.Path.{_≡_, refl, ap, sym, _∙_}
+use mathlib.Core.Logic.{inl, inr}
 use mathlib.Core.List.{List, [], _∷_, _++_, append-assoc, append-nil}
-use Prim.Native.Nat.{ℕ, zero, suc, _+_, _-_, _*_, _≤_, _<_}
+use Prim.Native.Nat.{ℕ, zero, suc, _+_, _-_, _*_, _^_, _≤_, _<_}
 use native.Mathlib.Nat.{add-zero, zero-add, add-suc, suc-add, not-suc-le-zero}
 use native.Mathlib.Omega.{arith}
+use borrow.Author.Tests.{eqb-true, eqb-false}
 use borrow.Rule.Slice.PartMut.{putMid}
+use lib.Dec.{eqb}
 use lib.ListN.{length, getD, set, take, drop, length-set, length-drop, take-append-drop, drop-of-length-le, replicate, length-replicate, getD-replicate}
 use native.Mathlib.Numerals.{add-one}
-use lib.Seq.{paste, paste-suc, take-all, sets, sets-eq, length-sets, set-append-left, length-take-le, getD-set-same, getD-set-other, set-getD}
+use lib.Seq.{paste, paste-suc, take-all, sets, sets-eq, length-sets, set-append-left, length-take-le, getD-set-same, getD-set-other, set-getD, set-out}
 use Rattle.bits.specs.Bytes.{bytesAt, number, numberAt, bytesOf, wordsOf}
-use Rattle.bits.proofs.ByteLaws.{bytesAt-ext, bytesAt-is, length-words, words-next}
+use Rattle.bits.proofs.TestLaws.{which, below-or}
+use Rattle.bits.proofs.ByteLaws.{bytesAt-ext, bytesAt-is, length-bytesOf, number-back, length-words, words-next}
 
 -- the code's places i + 1, i + 2, i + 3 as `sets` goes through them
 pub next1 : (i : ℕ) → i + 1 ≡ suc i
@@ -45,6 +49,16 @@ bytesAt-off vs s at p n o = bytesAt-ext (sets s at vs) s n p p (λ j h. sets-off
 -- the bytes that were written are read back
 pub bytesAt-back : (vs s : List ℕ) (at : ℕ) → at + length vs ≤ length s → bytesAt (sets s at vs) at (length vs) ≡ vs
 bytesAt-back vs s at h = bytesAt-is (sets s at vs) vs at (length vs) refl (λ j k. sets-in vs s at j h k)
+
+-- a number of n bytes that was written is read back
+pub numberAt-back : (s : List ℕ) (at n x : ℕ) → at + n ≤ length s → x < 256 ^ n → numberAt (sets s at (bytesOf n x)) at n ≡ x
+numberAt-back s at n x h k =
+    let l : length (bytesOf n x) ≡ n = length-bytesOf n x in
+    ap number (bytesAt-is (sets s at (bytesOf n x)) (bytesOf n x) at n l (λ j g. sets-in (bytesOf n x) s at j (omega arith) (omega arith))) ∙ number-back n x k
+
+-- a number of m bytes apart from the n bytes that are written is as it was
+pub numberAt-off : (s : List ℕ) (at n x p m : ℕ) → (at < p + m → at + n ≤ p) → numberAt (sets s at (bytesOf n x)) p m ≡ numberAt s p m
+numberAt-off s at n x p m o = ap number (bytesAt-off (bytesOf n x) s at p m (λ h. omega (arith, o h, length-bytesOf n x)))
 
 -- ---- two writes
 
@@ -93,6 +107,23 @@ module _ (d s out : List ℕ) (at i : ℕ) (e : out ≡ paste d at s i) where
 
   pub copied-all : at + length s ≤ length d → i ≡ length s → out ≡ sets d at s
   copied-all h k = rw (sets-eq s d at h) (e ∙ rw (k, take-all (length s) s (omega arith)))
+
+-- ---- a byte after a write hangs only on that byte before
+
+set-byte : (s t : List ℕ) (at p v : ℕ) → length s ≡ length t → getD s p 0 ≡ getD t p 0 → getD (set s at v) p 0 ≡ getD (set t at v) p 0
+set-byte s t at p v l e =
+    elim (which (eqb p at)) [
+      | inl q ↦ rw (eqb-true p at q)
+          (elim (below-or at (length s)) [
+            | inl h ↦ getD-set-same s at v 0 h ∙ sym (getD-set-same t at v 0 (omega arith))
+            | inr h ↦ rw (set-out s at v h, set-out t at v (omega arith), ← eqb-true p at q) e
+          ])
+      | inr q ↦ getD-set-other s at p v 0 (eqb-false p at q) ∙ e ∙ sym (getD-set-other t at p v 0 (eqb-false p at q))
+    ]
+
+pub sets-byte : (vs s t : List ℕ) (at p : ℕ) → length s ≡ length t → getD s p 0 ≡ getD t p 0 → getD (sets s at vs) p 0 ≡ getD (sets t at vs) p 0
+sets-byte [] s t at p l e = e
+sets-byte (v ∷ vs) s t at p l e = sets-byte vs (set s at v) (set t at v) (suc at) p (simp length-set l) (set-byte s t at p v l e)
 
 -- words, one by one
 pub words-more : (ws d out out′ : List ℕ) (at i : ℕ) → out ≡ sets d at (wordsOf (take i ws)) → i < length ws → out′ ≡ sets out (at + i * 4) (bytesOf 4 (getD ws i 0))

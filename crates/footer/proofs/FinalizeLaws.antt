@@ -12,6 +12,7 @@ use Rattle.bits.specs.Choice.{pick, either}
 use Rattle.bits.specs.Bytes.{bytesOf}
 use Rattle.bits.specs.Outcome.{refused, made}
 use Rattle.bits.proofs.ByteLaws.{length-bytesOf}
+use Rattle.bits.proofs.TestLaws.{either-not}
 use Rattle.bits.proofs.WriteLaws.{sets-off, sets-twice, take-sets}
 use Rattle.format.specs.Table.{fileLength}
 use Rattle.sha1.specs.Sha1.{digest}
@@ -102,10 +103,6 @@ pub finalized-over : (a x y : List ℕ) → length x ≡ footerLength → length
 finalized-over a x y h k = over a x h ∙ sym (over a y k)
 
 -- ---- what an accepted image is, and what finalize keeps of it
-
-either-not : (a b : Bool) → either a b ≡ false → (a ≡ false) × (b ≡ false)
-either-not true b e = absurd (let z : _≡_ {A = ℕ} 0 1 = cc in omega arith)
-either-not false b e = (refl, e)
 
 module _ (s t : List ℕ) (e : finalizeOf s ≡ made t) where
   accepted : (leastLength ≤ length s) × (length s ≤ sizeLimit) × (t ≡ sealed (lengthed s))

@@ -1,7 +1,8 @@
 // The layouts of an image, and the one table of the places and widths of its fields.
 ghost use mathlib.Core.Path.{_≡_};
-ghost use Prim.Native.Nat.{_+_, _<_, _≤_};
-ghost use Rattle.format.specs.Table.{rowOf, rowCount, placeIn, ifSet, recordRow};
+ghost use Prim.Native.Nat.{_+_, _<_, _≤_, _^_};
+ghost use Rattle.format.specs.Table.{rowOf, rowCount, placeIn, ifSet, recordRow, largeRow, debugRow};
+ghost use Rattle.format.specs.Record.{valueOf};
 
 // The layout of an image, as its caller states it.
 pub enum Layout {
@@ -283,6 +284,16 @@ pub fn at(k: usize) -> usize
     get(k).at
 }
 
+// What a field of a 32-bit word holds, by the name of its row.
+pub fn value(word: u64, k: usize) -> u64
+    requires { ⌜ k < rowCount ⌝ }
+    requires { ⌜ rowOf k .at + rowOf k .width ≤ 32 ⌝ }
+    ensures { λ r. ⌜ (r ≡ valueOf (rowOf k) word) × (r < 2 ^ (rowOf k .width)) ⌝ }
+{
+    let f = get(k);
+    bits::field(word, f.at, f.width)
+}
+
 // `n` where the fact holds, else 0.
 pub fn if_set(fact: bool, n: usize) -> usize
     ensures { λ r. ⌜ (r ≡ ifSet fact n) × (r ≤ n) ⌝ }
@@ -314,5 +325,31 @@ pub fn record_row(layout: Layout) -> Field
             big_integers: _,
             function_sources: _,
         } => get(LEGACY_RECORD),
+    }
+}
+
+// The words of a large header.
+pub fn large_row(layout: Layout) -> Field
+    ensures { λ r. ⌜ r ≡ largeRow layout ⌝ }
+{
+    match layout {
+        Layout::Modern => get(MODERN_LARGE),
+        Layout::Legacy {
+            big_integers: _,
+            function_sources: _,
+        } => get(LEGACY_LARGE),
+    }
+}
+
+// The debug offset's field of the header.
+pub fn debug_row(layout: Layout) -> Field
+    ensures { λ r. ⌜ r ≡ debugRow layout ⌝ }
+{
+    match layout {
+        Layout::Modern => get(MODERN_DEBUG),
+        Layout::Legacy {
+            big_integers: _,
+            function_sources: _,
+        } => get(LEGACY_DEBUG),
     }
 }

@@ -4,5 +4,7 @@ pub mod Kinds
 pub mod Functions
 pub mod Admission
 pub mod Admitted
+pub mod Faults
 pub mod Edit
 pub mod Rebuild
+pub mod Fit

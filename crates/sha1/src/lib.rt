@@ -12,7 +12,7 @@ ghost use lib.Seq.{sets};
 ghost use Rattle.bits.specs.Word32.{rotl32, xor32};
 ghost use Rattle.sha1.specs.BigEndian.{bigAt, bigBytes};
 ghost use Rattle.sha1.specs.Functions.{ch, parity, maj, fIn, kIn};
-ghost use Rattle.sha1.specs.Sha1.{padding, words, extended, schedule, turned, rounds, summed, hashed, hashes, digestBytes, digest};
+ghost use Rattle.sha1.specs.Sha1.{padding, words, extended, turned, rounds, summed, hashed, hashes, digestBytes, digest};
 
 // 5.3.1: the initial hash value.
 const INITIAL: [u32; 5] = [0x67452301, 0xefcdab89, 0x98badcfe, 0x10325476, 0xc3d2e1f0];
@@ -70,8 +70,8 @@ fn turn(v: [u32; 5], f: u32, k: u32, w: u32) -> [u32; 5]
     [t, v[0], rotl(30, v[1]), v[2], v[3]]
 }
 
-// A quarter of the rounds. The function and the constant hang on the quarter alone, so that no
-// round has a test.
+// A quarter of the rounds. The function and the constant hang on the quarter alone, so that the
+// compiler takes the choice of them out of the loop.
 fn quarter_rounds(quarter: usize, h: [u32; 5], w: [u32; 80]) -> [u32; 5]
     requires { ⌜ quarter < 4 ⌝ }
     ensures { λ r. ⌜ r ≡ rounds (quarter * 20) 20 h w ⌝ }
@@ -242,4 +242,13 @@ pub fn sha1(s: &[u8]) -> [u8; 20]
     let h = hash_blocks(INITIAL, s, full);
     let last = last_blocks(&s[begin..], n);
     digest_bytes(hash_blocks(h, &last, last_count(n)))
+}
+
+// SHA-1 for callers in C and in Rust: the digest of a slice, stored in `out`.
+#[no_mangle]
+pub extern "C" fn nepuladrim_sha1(s: &[u8], out: &mut [u8; 20])
+    ensures { λ _. ⌜ now (out .exit) ≡ digest (now (s .entry)) ⌝ }
+{
+    let d = sha1(s);
+    *out = d;
 }

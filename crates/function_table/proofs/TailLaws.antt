@@ -1,0 +1,206 @@
+-- What one function has in the tail, and the pass over all functions.
+use mathlib.Core.Path.{_≡_, refl, sym, _∙_, ap, subst}
+use mathlib.Core.Bool.{Bool, true, false, not}
+use mathlib.Core.List.{List}
+use Prim.Native.Nat.{ℕ, _+_, _≤_, _<_, _^_}
+use native.Mathlib.Omega.{arith}
+use lib.Dec.{leb, eqb}
+use lib.ListN.{length}
+use borrow.Author.Tests.{le-leb, lt-leb, leb-true, eq-eqb, ne-eqb, not-true, not-false}
+use Rattle.bits.specs.Choice.{pick, both, implies, allBelow}
+use Rattle.bits.specs.Bytes.{wordAt}
+use Rattle.bits.proofs.TestLaws.{both-0, both-1}
+use Rattle.bits.proofs.PassLaws.{all-both, pass-stop, pass-end}
+use Rattle.format.specs.declared.Field.{Field}
+use Rattle.format.specs.declared.Layout.{Layout}
+use Rattle.format.specs.declared.Layout.the-variants.{Modern, Legacy}
+use Rattle.format.specs.Table as table
+use Rattle.format.specs.Record.{isLarge, pointer}
+use Rattle.header_write.specs.declared.Pointer.{Pointer}
+use Rattle.header_write.specs.declared.Pointer.the-variants as answer
+use Rattle.footer.specs.Footer.{footerLength}
+use Rattle.image.specs.Sections.{functionsIn, debugIn, tailAt}
+use Rattle.image.specs.Functions.{Func, small, header, recordIn, funcOf}
+use Rattle.image.specs.Admission.{inTail, placeInTail, headersIn, bodiesIn, infosIn, debugInTail}
+use Rattle.sections.specs.declared.Places.{Places}
+use Rattle.sections.specs.Places.{Placed}
+use Rattle.sections.proofs.SectionLaws.{Sectioned, sectioned}
+use Rattle.function_table.specs.declared.Function.{Function}
+use Rattle.function_table.specs.declared.FunctionRead.{FunctionRead}
+use Rattle.function_table.specs.declared.FunctionRead.the-variants.{Found, Refused}
+use Rattle.function_table.specs.Functions.{asFunc, asFunction, WordSized, FoundSized, pointerJudged, headerIn, functionRead, within, functionIn, functionsInTail}
+use Rattle.function_table.proofs.ReadLaws.{small-is, header-is, is-large, points-to, is-small}
+
+-- ---- bytes and places in the tail
+
+module _ (tail len at : ℕ) where
+  pub before-tail : (n : ℕ) → at < tail → false ≡ within tail len at n
+  before-tail n h = rw (lt-leb tail at h)
+
+  pub from-tail : (n : ℕ) → tail ≤ at → leb (at + n + footerLength) len ≡ within tail len at n
+  from-tail n h = rw (le-leb tail at h)
+
+  pub no-place : at ≡ 0 → true ≡ implies (not (eqb at 0)) (within tail len at 0)
+  no-place h = rw (eq-eqb at 0 h)
+
+  pub some-place : (at ≡ 0 → ⊥) → (r : Bool) → r ≡ within tail len at 0 → r ≡ implies (not (eqb at 0)) (within tail len at 0)
+  some-place h r e = rw (ne-eqb at 0 h, e)
+
+within-end : (tail len at n : ℕ) → within tail len at n ≡ true → at + n + footerLength ≤ len
+within-end tail len at n h = leb-true (at + n + footerLength) len (both-1 (leb tail at) (leb (at + n + footerLength) len) h)
+
+-- the words of a large header are few
+large-width : (l : Layout) → table.largeRow l .width ≤ 20
+large-width Modern = omega arith
+large-width (Legacy big sources) = omega arith
+
+pub large-width-of : (l : Layout) (f : Field) → f ≡ table.largeRow l → f .width ≤ 20
+large-width-of l f e = rw e (large-width l)
+
+-- ---- a pointer that was judged
+
+module _ (p : Places) (s : List ℕ) (h : Placed p s) where
+  in-tail : (at n : ℕ) → within (p .tail) (length s) at n ≡ inTail (p .layout) s at n
+  in-tail at n = ap (λ (t : ℕ). within t (length s) at n) (sectioned p s h .tailFrom)
+
+  pub tail-is : (at n : ℕ) (r : Bool) → r ≡ within (p .tail) (length s) at n → r ≡ inTail (p .layout) s at n
+  tail-is at n r e = e ∙ in-tail at n
+
+  pub place-is : (at : ℕ) (r : Bool) → r ≡ implies (not (eqb at 0)) (within (p .tail) (length s) at 0) → r ≡ placeInTail (p .layout) s at
+  place-is at r e = e ∙ ap (λ (b : Bool). implies (not (eqb at 0)) b) (in-tail at 0)
+
+  module _ (n ptr : ℕ) (f : Field) (r : Bool) (e : ptr ≡ pointer (p .layout) n) (g : f ≡ table.largeRow (p .layout))
+      (d : r ≡ within (p .tail) (length s) ptr (f .width)) where
+    judges : inTail (p .layout) s (pointer (p .layout) n) (table.largeRow (p .layout) .width) ≡ r
+    judges = rw (← e, ← g) (sym (d ∙ in-tail ptr (f .width)))
+
+    pub pointer-out : not r ≡ true → answer.Refused 6 ≡ pointerJudged (p .layout) s n
+    unfolding pointerJudged
+    pointer-out z = rw (judges, not-true r z)
+
+    pub pointer-in : not r ≡ false → answer.At ptr ≡ pointerJudged (p .layout) s n
+    unfolding pointerJudged
+    pointer-in z = rw (judges, not-false r z, e)
+
+    pub pointer-fits : not r ≡ false → ptr < 4294967296
+    pointer-fits z =
+        let y : Sectioned p s = sectioned p s h in
+        omega (arith, within-end (p .tail) (length s) ptr (f .width) (sym d ∙ not-false r z))
+
+module _ (l : Layout) (s : List ℕ) (n : ℕ) (j : Pointer) (e : j ≡ pointerJudged l s n) where
+  judged-out : (k : ℕ) → j ≡ answer.Refused k → inTail l s (pointer l n) (table.largeRow l .width) ≡ false
+  unfolding pointerJudged
+  judged-out k f = go (inTail l s (pointer l n) (table.largeRow l .width)) (sym e ∙ f)
+    where
+      go : (b : Bool) → pick b (answer.At (pointer l n)) (answer.Refused 6) ≡ answer.Refused k → b ≡ false
+      go true q = let z : _≡_ {A = ℕ} 0 1 = cc in absurd (omega arith)
+      go false q = refl
+
+  pub judged-in : (ptr : ℕ) → j ≡ answer.At ptr → (inTail l s (pointer l n) (table.largeRow l .width) ≡ true) × (ptr ≡ pointer l n)
+  unfolding pointerJudged
+  judged-in ptr f = go (inTail l s (pointer l n) (table.largeRow l .width)) (sym e ∙ f)
+    where
+      go : (b : Bool) → pick b (answer.At (pointer l n)) (answer.Refused 6) ≡ answer.At ptr → (b ≡ true) × (ptr ≡ pointer l n)
+      go true q = (refl, cc)
+      go false q = let z : _≡_ {A = ℕ} 0 1 = cc in absurd (omega arith)
+
+-- ---- a function that was read
+
+module _ (l : Layout) (s : List ℕ) (i : ℕ) where
+  found : (f : Function) → asFunc f ≡ funcOf l s i → headerIn l s (funcOf l s i) ≡ true → Found f ≡ functionRead l s i
+  unfolding functionRead
+  found f e h = rw h (ap (λ (g : Func). Found (asFunction g)) e)
+
+  not-found : headerIn l s (funcOf l s i) ≡ false → Refused 6 ≡ functionRead l s i
+  unfolding functionRead
+  not-found h = rw h
+
+  module _ (n : ℕ) (e : n ≡ recordIn l s i) (b : Bool) (g : b ≡ isLarge l n) where
+    pub small-found : not b ≡ true → (f : Function) → asFunc f ≡ small l n → Found f ≡ functionRead l s i
+    small-found t f h = found f (small-is l s i n e b g (not-true b t) (asFunc f) h) (rw (is-small l s i n e b g (not-true b t)))
+
+    module _ (t : not b ≡ false) (j : Pointer) (d : j ≡ pointerJudged l s n) where
+      header-in : (ptr : ℕ) → ptr ≡ pointer l n → headerIn l s (funcOf l s i) ≡ inTail l s (pointer l n) (table.largeRow l .width)
+      header-in ptr q = rw (is-large l s i n e b g (not-false b t) ptr q, points-to l s i n e b g (not-false b t) ptr q, q)
+
+      pub pointer-refused : (k : ℕ) → j ≡ answer.Refused k → Refused 6 ≡ functionRead l s i
+      pointer-refused k f = not-found (header-in (pointer l n) refl ∙ judged-out l s n j d k f)
+
+      module _ (ptr : ℕ) (q : j ≡ answer.At ptr) where
+        pub header-found : (f : Function) → asFunc f ≡ header l ptr s → Found f ≡ functionRead l s i
+        header-found f h =
+            let y : (inTail l s (pointer l n) (table.largeRow l .width) ≡ true) × (ptr ≡ pointer l n) = judged-in l s n j d ptr q in
+            found f (header-is l s i n e b g (not-false b t) ptr (y .1) (asFunc f) h) (header-in ptr (y .1) ∙ y .0)
+
+        pub header-there : ptr + table.largeRow l .width ≤ length s
+        header-there =
+            let y : (inTail l s (pointer l n) (table.largeRow l .width) ≡ true) × (ptr ≡ pointer l n) = judged-in l s n j d ptr q in
+            omega (arith, within-end (tailAt l s) (length s) (pointer l n) (table.largeRow l .width) (y .0), y .1)
+
+-- ---- what one function has in the tail
+
+module _ (l : Layout) (s : List ℕ) (i : ℕ) (r : FunctionRead) (e : r ≡ functionRead l s i) where
+  pub refused-out : (k : ℕ) → r ≡ Refused k → false ≡ functionIn l s (funcOf l s i)
+  unfolding functionRead functionIn
+  refused-out k f = go (headerIn l s (funcOf l s i)) (sym e ∙ f)
+    where
+      go : (b : Bool) → pick b (Found (asFunction (funcOf l s i))) (Refused 6) ≡ Refused k
+          → false ≡ both b (both (inTail l s (funcOf l s i .begin) (funcOf l s i .size)) (placeInTail l s (funcOf l s i .info)))
+      go true q = let z : _≡_ {A = ℕ} 0 1 = cc in absurd (omega arith)
+      go false q = refl
+
+  module _ (f : Function) (g : r ≡ Found f) where
+    found-is : (headerIn l s (funcOf l s i) ≡ true) × (funcOf l s i ≡ asFunc f)
+    unfolding functionRead
+    found-is = go (headerIn l s (funcOf l s i)) (sym e ∙ g)
+      where
+        go : (b : Bool) → pick b (Found (asFunction (funcOf l s i))) (Refused 6) ≡ Found f → (b ≡ true) × (funcOf l s i ≡ asFunc f)
+        go true q = let z : asFunction (funcOf l s i) ≡ f = cc in (refl, ap asFunc z)
+        go false q = let z : _≡_ {A = ℕ} 0 1 = cc in absurd (omega arith)
+
+    pub found-sized : FoundSized r → WordSized f
+    found-sized h = subst FoundSized g h
+
+    rest-is : functionIn l s (funcOf l s i) ≡ both (inTail l s (f .begin) (f .size)) (placeInTail l s (f .info))
+    unfolding functionIn
+    rest-is =
+        rw (found-is .0)
+        (ap (λ (x : Func). both (inTail l s (x .begin) (x .size)) (placeInTail l s (x .info))) (found-is .1))
+
+    module _ (a : Bool) (d : a ≡ inTail l s (f .begin) (f .size)) where
+      pub body-out : not a ≡ true → false ≡ functionIn l s (funcOf l s i)
+      body-out t = rw (rest-is, ← d, not-true a t)
+
+      pub body-in : not a ≡ false → (b : Bool) → b ≡ placeInTail l s (f .info) → b ≡ functionIn l s (funcOf l s i)
+      body-in t b k = rw (rest-is, ← d, not-false a t, k)
+
+-- ---- all functions
+
+module _ (l : Layout) (s : List ℕ) where
+  all-functions : allBelow (functionsIn s) (λ i. functionIn l s (funcOf l s i)) ≡ functionsInTail l s
+  unfolding functionsInTail functionIn headersIn bodiesIn infosIn
+  all-functions =
+      all-both _ _ (functionsIn s) ∙ ap (λ (b : Bool). both (headersIn l s) b) (all-both _ _ (functionsIn s))
+
+  pub function-fails : (i n : ℕ) (r : Bool) → n ≡ functionsIn s → i < n → r ≡ functionIn l s (funcOf l s i) → not r ≡ true → false ≡ functionsInTail l s
+  function-fails i n r c k e h = pass-stop _ (functionsIn s) i r (rw c at k) e h ∙ all-functions
+
+  pub functions-end : (i n : ℕ) → n ≡ functionsIn s → i ≡ n → allBelow i (λ j. functionIn l s (funcOf l s j)) ≡ true → true ≡ functionsInTail l s
+  functions-end i n c e h = pass-end _ (functionsIn s) i (e ∙ c) h ∙ all-functions
+
+-- ---- the debug place
+
+pub debug-fits : (l : Layout) (f : Field) → f ≡ table.debugRow l → (f .at + f .big + f .sources ≤ 128) × (table.placeIn l f ≤ 108)
+debug-fits l f e = rw e (go l)
+  where
+    go : (l : Layout) → (table.debugRow l .at + table.debugRow l .big + table.debugRow l .sources ≤ 128) × (table.placeIn l (table.debugRow l) ≤ 108)
+    go Modern = (omega arith, omega arith)
+    go (Legacy true true) = (omega arith, omega arith)
+    go (Legacy true false) = (omega arith, omega arith)
+    go (Legacy false true) = (omega arith, omega arith)
+    go (Legacy false false) = (omega arith, omega arith)
+
+pub debug-in : (p : Places) (s : List ℕ) → Placed p s → (f : Field) (at x : ℕ) (r : Bool) → f ≡ table.debugRow (p .layout) → at ≡ table.placeIn (p .layout) f
+    → x ≡ wordAt s at → r ≡ implies (not (eqb x 0)) (within (p .tail) (length s) x 0) → r ≡ debugInTail (p .layout) s
+unfolding debugInTail
+debug-in p s h f at x r e g d k = rw (k, d, g, e, sectioned p s h .tailFrom)

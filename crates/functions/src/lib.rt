@@ -1,0 +1,1 @@
+// Body patches. The definitions stand in specs/.

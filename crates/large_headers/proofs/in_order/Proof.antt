@@ -1,0 +1,57 @@
+use Prim.Native.Nat.{_≤_, _-_}
+use mathlib.Core.Path.{_≡_}
+use mathlib.Core.Bool.{true}
+use native.Mathlib.Omega.{arith}
+use Rattle.bits.specs.Choice.{allBelow}
+use Rattle.bits.proofs.PassLaws.{pass-none}
+use Rattle.image.specs.Functions.{funcOf}
+use Rattle.large_headers.specs.Order.{headersEnd, headersStart, bodiesEnd, ascendsAt}
+use Rattle.large_headers.proofs.OrderLaws.{order-none, end-next, first-next, bodies-next, ascends-next, not-behind, order-end, image-order}
+use borrow.Author.Needs.{needs}
+use Rattle.large_headers.proofs.in_order.Statement.{statement}
+use Rattle.large_headers.proofs.in_order.Tie as tie
+
+abbrev Inv-loop : tie.InvT-loop
+Inv-loop image layout n width end₀ first₀ bodies₀ i₀ end first bodies i =
+    (i ≤ n) × (end ≡ headersEnd width (funcOf layout image) i) × (first ≡ headersStart (funcOf layout image) i)
+    × (bodies ≡ bodiesEnd (funcOf layout image) i) × (allBelow i (ascendsAt width (funcOf layout image)) ≡ true)
+
+abbrev μ-loop : tie.MeasureT-loop
+μ-loop image layout n width end₀ first₀ bodies₀ i₀ end first bodies i = n - i
+
+loop-holds : tie.Need-loop-holds Inv-loop μ-loop
+loop-holds c = let z = order-none (c .large-width .result) (funcOf (c .before .before .args .layout) (c .before .before .args .image .now)) in (omega arith, z .0, z .1, z .2, pass-none _)
+
+function-at-requires : tie.Need-function-at-requires Inv-loop μ-loop
+function-at-requires c κs = (c .before .before .before .before .pre .0, omega arith)
+
+returns : tie.Need-returns Inv-loop μ-loop
+returns c =
+    let l = c .before .before .before .before .loop in
+    image-order _ _ _ _ _ (c .before .before .before .before .before .large-width .ensures .0) (c .before .before .before .before .before .before .before .pre .1)
+    (not-behind _ _ (l .i) _ (c .before .before .function-at .ensures .0) (l .end) (l .inv .1) _ (c .before .is-behind .ensures) _ (c .if1 .taken) (omega arith))
+
+end-with-requires : tie.Need-end-with-requires Inv-loop μ-loop
+end-with-requires c κs = (c .before .before .function-at .ensures .1, omega arith)
+
+loop-again : tie.Need-loop-again Inv-loop μ-loop
+loop-again c =
+    let l = c .before .before .before .before .before .before .before .loop in
+    let f = c .before .before .before .before .before .function-at .ensures .0 in (
+      omega arith,
+      end-next _ _ (l .i) _ f (l .end) _ (l .inv .1) (c .before .before .end-with .ensures),
+      first-next _ (l .i) _ f (l .first) _ (l .inv .2) (c .before .first-with .ensures),
+      bodies-next _ (l .i) _ f (l .bodies) _ (l .inv .3) (c .bodies-with .ensures),
+      ascends-next _ _ (l .i) _ f (l .end) (l .inv .1) _ (c .before .before .before .before .is-behind .ensures) (c .before .before .before .if1 .left) (l .inv .4),
+    )
+
+returns-2 : tie.Need-returns-2 Inv-loop μ-loop
+returns-2 c =
+    let l = c .before .loop in
+    image-order _ _ _ _ _ (c .before .before .large-width .ensures .0) (c .before .before .before .before .pre .1)
+    (order-end _ _ _ (l .i) (l .bodies) (l .first) (omega arith) (l .inv .3) (l .inv .2) (l .inv .4))
+
+pub in-order-spec : {M : Type 1} → statement M
+in-order-spec =
+    tie.close
+    (tie.spec Inv-loop μ-loop (λ c κs. search needs) loop-holds function-at-requires (λ c κs. search needs) returns end-with-requires (λ c κs. search needs) (λ c κs. search needs) (λ c. search needs) (λ c. search needs) loop-again returns-2)

@@ -1,0 +1,144 @@
+-- The places that code derives are the definitions', and sections that fit lie one behind the other before the tail.
+use mathlib.Core.Path.{_≡_, refl, subst⁻¹}
+use mathlib.Core.List.{List}
+use Prim.Native.Nat.{ℕ, _+_, _-_, _*_, _≤_, _<_}
+use native.Mathlib.Nat.{mul-le-mul-left}
+use native.Mathlib.Omega.{arith}
+use lib.ListN.{length}
+use Rattle.bits.specs.Bytes.{up4, wordAt}
+use Rattle.format.specs.declared.Field.{Field}
+use Rattle.format.specs.declared.Layout.{Layout}
+use Rattle.format.specs.declared.Layout.the-variants.{Modern, Legacy}
+use Rattle.format.specs.Table as table
+use Rattle.footer.specs.Footer.{footerLength}
+use Rattle.footer.specs.Finalize.{sizeLimit}
+use Rattle.image.specs.Sections.{functionsIn, kindsIn, identifiersIn, stringsIn, overflowsIn, storageIn, recordAt, kindsAt, hashesAt, smallAt, overAt, storageAt, tailAt}
+use Rattle.sections.specs.declared.Places.{Places}
+use Rattle.sections.specs.Places.{placesOf, Fits, Placed}
+
+-- ---- the code's sums
+
+-- items of at most 16 bytes
+pub nth-within : (at i size : ℕ) → size ≤ 16 → at + i * size ≤ at + i * 16
+nth-within at i size h = omega (arith, mul-le-mul-left i h)
+
+-- the records start at one place in every layout, and none is larger than 16 bytes
+pub record-start : (l : Layout) → table.recordRow l .at ≡ 128
+record-start Modern = refl
+record-start (Legacy big sources) = refl
+
+pub record-size : (l : Layout) → table.recordRow l .width ≤ 16
+record-size Modern = omega arith
+record-size (Legacy big sources) = omega arith
+
+pub row-size : (l : Layout) (f : Field) → f ≡ table.recordRow l → (f .at ≡ 128) × (f .width ≤ 16)
+row-size l f e = rw e (record-start l, record-size l)
+
+pub record-end : (l : Layout) (i r : ℕ) (f : Field) → f ≡ table.recordRow l → r ≡ f .at + i * f .width → r ≡ recordAt l i
+record-end l i r f e h = rw e at h
+
+-- what code derives, step by step
+pub derived : (l : Layout) (s : List ℕ) (f k i n o z ka ha sa oa st t : ℕ)
+    → f ≡ functionsIn s → k ≡ kindsIn s → i ≡ identifiersIn s → n ≡ stringsIn s → o ≡ overflowsIn s → z ≡ storageIn s
+    → ka ≡ recordAt l f → ha ≡ ka + k * table.kindEntry .width → sa ≡ ha + i * table.hashEntry .width
+    → oa ≡ sa + n * table.smallEntry .width → st ≡ oa + o * table.overflowEntry .width → t ≡ up4 (st + z)
+    → record {
+      layout = l;
+      functions = f;
+      kinds = k;
+      identifiers = i;
+      strings = n;
+      overflows = o;
+      «storage_size» = z;
+      «kinds_at» = ka;
+      «hashes_at» = ha;
+      «small_at» = sa;
+      «over_at» = oa;
+      «storage_at» = st;
+      tail = t;
+      footer = length s - footerLength;
+    } ≡ placesOf l s
+unfolding placesOf kindsAt hashesAt smallAt overAt storageAt tailAt
+derived l s f k i n o z ka ha sa oa st t hf hk hi hn ho hz hka hha hsa hoa hst ht =
+    rw (ht, hst, hoa, hsa, hha, hka, hf, hk, hi, hn, ho, hz)
+
+-- ---- sections that fit
+
+-- what the places of such an image are, in the form that arithmetic reads
+pub record Sectioned (p : Places) (s : List ℕ) : Type 0 where
+  pub functions : p .functions ≡ functionsIn s
+  pub kinds : p .kinds ≡ kindsIn s
+  pub identifiers : p .identifiers ≡ identifiersIn s
+  pub strings : p .strings ≡ stringsIn s
+  pub overflows : p .overflows ≡ overflowsIn s
+  pub storage : p .«storage_size» ≡ storageIn s
+  pub kindsFrom : p .«kinds_at» ≡ kindsAt (p .layout) s
+  pub smallFrom : p .«small_at» ≡ smallAt (p .layout) s
+  pub overFrom : p .«over_at» ≡ overAt (p .layout) s
+  pub storageFrom : p .«storage_at» ≡ storageAt (p .layout) s
+  pub tailFrom : p .tail ≡ tailAt (p .layout) s
+  pub kindsNext : 128 ≤ p .«kinds_at»
+  pub hashesNext : p .«hashes_at» ≡ p .«kinds_at» + p .kinds * 4
+  pub smallNext : p .«small_at» ≡ p .«hashes_at» + p .identifiers * 4
+  pub overNext : p .«over_at» ≡ p .«small_at» + p .strings * 4
+  pub storageNext : p .«storage_at» ≡ p .«over_at» + p .overflows * 8
+  pub tailNext : p .«storage_at» + p .«storage_size» ≤ p .tail
+  pub footerNext : p .tail + 20 ≤ length s
+  pub most : length s ≤ 67108864
+
+tail-past : (l : Layout) (s : List ℕ) → storageAt l s + storageIn s ≤ tailAt l s
+unfolding tailAt
+tail-past l s = omega arith
+
+records-past : (l : Layout) (s : List ℕ) → 128 ≤ kindsAt l s
+unfolding kindsAt
+records-past l s = omega (arith, record-start l)
+
+of-places : (l : Layout) (s : List ℕ) → Fits l s → Sectioned (placesOf l s) s
+unfolding placesOf hashesAt smallAt overAt storageAt
+of-places l s h =
+    record {
+      functions = refl;
+      kinds = refl;
+      identifiers = refl;
+      strings = refl;
+      overflows = refl;
+      storage = refl;
+      kindsFrom = refl;
+      smallFrom = refl;
+      overFrom = refl;
+      storageFrom = refl;
+      tailFrom = refl;
+      kindsNext = records-past l s;
+      hashesNext = refl;
+      smallNext = refl;
+      overNext = refl;
+      storageNext = refl;
+      tailNext = tail-past l s;
+      footerNext = h .room;
+      most = h .most;
+    }
+
+pub sectioned : (p : Places) (s : List ℕ) → Placed p s → Sectioned p s
+sectioned p s h = subst⁻¹ (λ (q : Places). Sectioned q s) (h .is) (of-places (p .layout) s (h .fits))
+
+-- each record lies in the image
+before-kinds : (l : Layout) (s : List ℕ) (i : ℕ) → i < functionsIn s → recordAt l i + table.recordRow l .width ≤ kindsAt l s
+unfolding kindsAt
+before-kinds Modern s i k = omega arith
+before-kinds (Legacy big sources) s i k = omega arith
+
+pub records-fit : (l : Layout) (s : List ℕ) (i : ℕ) → Fits l s → i < functionsIn s → recordAt l i + table.recordRow l .width ≤ length s
+unfolding placesOf
+records-fit l s i h k =
+    let a : recordAt l i + table.recordRow l .width ≤ kindsAt l s = before-kinds l s i k in
+    let b : Sectioned (placesOf l s) s = of-places l s h in
+    omega arith
+
+-- so that there are few
+pub records-few : (l : Layout) (s : List ℕ) (i : ℕ) → Fits l s → i < functionsIn s → i < 67108864
+records-few l s i h k = few l (records-fit l s i h k) (h .most)
+  where
+    few : (l : Layout) → recordAt l i + table.recordRow l .width ≤ length s → length s ≤ sizeLimit → i < 67108864
+    few Modern a b = omega arith
+    few (Legacy big sources) a b = omega arith

@@ -1,0 +1,16 @@
+use Prim.Native.Nat.{_≤_, _-_}
+use mathlib.Core.Path.{refl}
+use native.Mathlib.Omega.{arith}
+use Rattle.sha1_vectors.proofs.print_digest.Statement.{statement}
+use Rattle.sha1_vectors.proofs.print_digest.Tie as tie
+
+abbrev Inv-loop : tie.InvT-loop
+Inv-loop digest i₀ t4 i = i ≤ 20
+
+abbrev μ-loop : tie.MeasureT-loop
+μ-loop digest i₀ t4 i = 20 - i
+
+pub print-digest-spec : {M : Type 1} → statement M
+print-digest-spec =
+    tie.close
+    (tie.spec Inv-loop μ-loop (λ c. omega arith) (λ c. omega arith) (λ c κs. tt) (λ c κs. tt) (λ c. omega arith) (λ c. omega arith) (λ c. omega arith) (λ c. omega arith) (λ c κs. tt) (λ c. tt))

@@ -1,0 +1,1 @@
+// String patches. The definitions stand in specs/.

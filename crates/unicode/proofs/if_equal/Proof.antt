@@ -1,0 +1,12 @@
+use borrow.Author.Tests.{eq-eqb, ne-eqb}
+use Rattle.unicode.proofs.if_equal.Statement.{statement}
+use Rattle.unicode.proofs.if_equal.Tie as tie
+
+returns : tie.Need-returns
+returns c = rw (eq-eqb _ _ (c .if1 .taken))
+
+returns-2 : tie.Need-returns-2
+returns-2 c = rw (ne-eqb _ _ (c .if1 .left))
+
+pub if-equal-spec : {M : Type 1} → statement M
+if-equal-spec = tie.close (tie.spec returns returns-2)
