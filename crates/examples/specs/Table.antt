@@ -1,17 +1,25 @@
--- The marked examples of 01, rows a to i: one table, one claim.
+-- The marked examples of 01, rows a to j: one table, one claim.
 use mathlib.Core.Bool.{Bool, true, false}
 use mathlib.Core.List.{List, [], _∷_}
-use Prim.Native.Nat.{ℕ}
+use Prim.Native.Nat.{ℕ, _+_}
 use lib.Dec.{T, eqb}
+use lib.ListN.{length}
 use Rattle.bits.specs.Choice.{both}
+use Rattle.bits.specs.Bytes.{bytesAt, number, bytesOf, numberAt, wordAt, wordsOf}
 use Rattle.bits.specs.Fields.{fieldOf, withField}
 use Rattle.bits.specs.Word32.{add32, xorN}
 use Rattle.format.specs.declared.Layout.the-variants.{Modern, Legacy}
-use Rattle.format.specs.Table.{modernPointerLow, modernPointerHigh, legacyPointerLow, legacyInfo, placeIn, debugRow}
-use Rattle.format.specs.Record.{withValue, pointer}
+use Rattle.format.specs.Table.{modernPointerLow, modernPointerHigh, legacyPointerLow, legacyInfo, placeIn, debugRow, modernRecord, largeOffset, modernLargeSize}
+use Rattle.format.specs.Record.{withValue, pointer, putPointer}
 use Rattle.format.specs.Entry.{Place, bit, isOver, entry, smallWord}
 use Rattle.format.specs.Hash.{mixed, hashStep, hashFrom, hashOf}
 use Rattle.format.specs.Move.{moved}
+use Rattle.header_write.specs.Headers.{putAll, identity, modernHeader}
+use Rattle.sha1.specs.BigEndian.{bigBytes}
+use Rattle.sha1.specs.Sha1.{digestBytes, digest}
+use Rattle.footer.specs.Footer.{footed}
+use Rattle.footer.specs.Finalize.{lengthed, sealed}
+use Rattle.serialize.specs.Parts.{startOf, storageOf, headerOf, recordOf, smallTable, sections, largeHeader, tailOf, laid, minimal}
 
 -- what a definition gives, and what 01 says
 pub record Row : Type 0 where
@@ -28,6 +36,10 @@ at wide offset count = record { wide = wide; at = offset; count = count }
 -- the debug offset's position in a layout
 abbrev pub debug : Rattle.format.specs.declared.Layout.Layout → ℕ
 debug l = placeIn l (debugRow l)
+
+-- what a definition makes of the strings "a" and "bc" and a 4-byte body
+abbrev pub ofJ : (ℕ → List ℕ → List ℕ → List ℕ → List ℕ) → List ℕ
+ofJ image = let ends : List ℕ = 1 ∷ 3 ∷ [] in image 97 (storageOf (0x61 ∷ 0x62 ∷ 0x63 ∷ []) ends) ends (1 ∷ 2 ∷ 3 ∷ 4 ∷ [])
 
 unfoldable pub rows : List Row
 rows =
@@ -60,6 +72,14 @@ rows =
     ∷ row (debug (Legacy true false)) 100
     ∷ row (debug (Legacy true true)) 104
     ∷ row (debug Modern) 108
+    -- j. builder, "a", "bc", 4-byte body: small words, body at 156, large header at 160, length 220
+    ∷ row (wordAt (ofJ laid) 144) 0x01000000
+    ∷ row (wordAt (ofJ laid) 148) 0x02000002
+    ∷ row (wordAt (ofJ laid) 156) 0x04030201
+    ∷ row (pointer Modern (numberAt (ofJ laid) (modernRecord .at) (modernRecord .width))) 160
+    ∷ row (wordAt (ofJ laid) (160 + largeOffset .at)) 156
+    ∷ row (wordAt (ofJ laid) (160 + modernLargeSize .at)) 4
+    ∷ row (length (ofJ minimal)) 220
     ∷ []
 
 -- every row gives what is marked
@@ -69,5 +89,5 @@ allMarked (r ∷ rs) = both (eqb (r .given) (r .marked)) (allMarked rs)
 
 -- the claim
 pub marked : T (allMarked rows)
-unfolding rows allMarked smallWord entry withField fieldOf pointer moved hashOf hashFrom hashStep mixed add32 xorN
+unfolding rows allMarked smallWord entry withField fieldOf pointer moved hashOf hashFrom hashStep mixed add32 xorN laid sections headerOf modernHeader identity putAll recordOf putPointer smallTable startOf tailOf largeHeader wordsOf bytesOf bytesAt number minimal sealed lengthed footed digest digestBytes bigBytes
 marked = tt

@@ -43,7 +43,7 @@ own-off (Legacy big sources) f p k = (
   ((λ q. omega (arith, k (omega arith), length-bytesOf 4 (f .size))), ((λ q. omega (arith, k (omega arith), length-bytesOf 4 (f .info))), tt)),
 )
 
-header-off : (l : Layout) (fs : ℕ → Func) (j p : ℕ) → (fs j .large ≡ true → fs j .ptr ≤ p → fs j .ptr + table.largeRow l .width ≤ p) → Outside p (headerGroup l fs j)
+pub header-off : (l : Layout) (fs : ℕ → Func) (j p : ℕ) → (fs j .large ≡ true → fs j .ptr ≤ p → fs j .ptr + table.largeRow l .width ≤ p) → Outside p (headerGroup l fs j)
 unfolding headerGroup
 header-off l fs j p h = go (fs j .large) h
   where
@@ -51,7 +51,7 @@ header-off l fs j p h = go (fs j .large) h
     go true k = own-off l (fs j) p (k refl)
     go false k = tt
 
-record-off : (l : Layout) (whole : Bool) (s : List ℕ) (fs : ℕ → Func) (j p : ℕ) → (recordAt l j ≤ p → recordAt l j + table.recordRow l .width ≤ p)
+pub record-off : (l : Layout) (whole : Bool) (s : List ℕ) (fs : ℕ → Func) (j p : ℕ) → (recordAt l j ≤ p → recordAt l j + table.recordRow l .width ≤ p)
     → Outside p (recordGroup l whole s fs j)
 unfolding recordGroup
 record-off l whole s fs j p h = ((λ q. rw length-bytesOf (h q)), tt)

@@ -41,7 +41,7 @@ writes-off [] s p o = refl
 writes-off (w ∷ ws) s p o = writes-off ws (sets s (w .place) (w .bytes)) p (o .1) ∙ sets-off (w .bytes) s (w .place) p (o .0)
 
 -- a byte after the writes hangs only on that byte before
-writes-byte : (ws : List Write) (s t : List ℕ) (p : ℕ) → length s ≡ length t → getD s p 0 ≡ getD t p 0 → getD (writeAll ws s) p 0 ≡ getD (writeAll ws t) p 0
+pub writes-byte : (ws : List Write) (s t : List ℕ) (p : ℕ) → length s ≡ length t → getD s p 0 ≡ getD t p 0 → getD (writeAll ws s) p 0 ≡ getD (writeAll ws t) p 0
 unfolding writeAll
 writes-byte [] s t p l e = e
 writes-byte (w ∷ ws) s t p l e =

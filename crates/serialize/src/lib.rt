@@ -14,6 +14,7 @@ ghost use lib.Seq.{sets};
 ghost use Rattle.bits.specs.Bytes.{bytesOf, up4};
 ghost use Rattle.bits.specs.Words.{whole};
 ghost use Rattle.bits.specs.Outcome.{Answers, answered, made, roomed};
+ghost use Rattle.format.specs.Table.{modernRecord};
 ghost use Rattle.format.specs.Entry.{entry};
 ghost use Rattle.footer.specs.Finalize.{sizeLimit};
 ghost use Rattle.serialize.specs.Parts.{startOf, kindsAt, smallAt, storageAt, bodyAt, largeAt, lengthOf, headerOf, recordOf, smallTable, sections, largeLength, largeHeader, tailOf, minimal};
@@ -32,6 +33,7 @@ const LARGE_LEN: usize = 40;
 
 // ---- Places.
 
+// Rounded up to 4.
 fn up4(n: usize) -> usize
     requires { ⌜ n < 2 ^ 40 ⌝ }
     ensures { λ r. ⌜ r ≡ up4 n ⌝ }
@@ -39,12 +41,14 @@ fn up4(n: usize) -> usize
     (n + 3) / 4 * 4
 }
 
+// The place of the kinds, behind the one function record.
 fn kinds_at() -> usize
     ensures { λ r. ⌜ r ≡ kindsAt ⌝ }
 {
     format::at(format::MODERN_RECORD) + format::width(format::MODERN_RECORD)
 }
 
+// The place of the small entries, behind the one kind.
 fn small_at() -> usize
     ensures { λ r. ⌜ r ≡ smallAt ⌝ }
 {
@@ -69,6 +73,7 @@ fn body_at(strings: usize, size: usize) -> usize
 
 // ---- Strings.
 
+// A cast in a call of its own, which needs no proof that an element of a slice fits.
 fn wide(x: u32) -> usize
     ensures { λ r. ⌜ (r ≡ x) × (r < 2 ^ 32) ⌝ }
 {
@@ -169,7 +174,7 @@ fn measure(version: u32, text: &[u8], ends: &[u32], body: &[u8]) -> Answer
 
 // The file header. Its 128 bytes are enough, so that it is never refused.
 fn put_header(image: &mut [u8], version: u32, strings: u32, size: u32)
-    requires { ⌜ 128 ≤ length (now image) ⌝ }
+    requires { ⌜ modernRecord .at ≤ length (now image) ⌝ }
     ensures { λ _. ⌜ now (image .exit) ≡ sets (now (image .entry)) 0 (headerOf version strings size) ⌝ }
 {
     let mut header = [0u8; 128];
@@ -188,9 +193,10 @@ fn pointing_record(large_at: usize) -> Words
     records::with_modern_pointer(flagged, large_at as u64)
 }
 
+// That record in its slot.
 fn put_record(image: &mut [u8], large_at: usize)
-    requires { ⌜ 140 ≤ length (now image) ⌝ }
-    ensures { λ _. ⌜ now (image .exit) ≡ sets (now (image .entry)) 128 (bytesOf 12 (recordOf «large_at»)) ⌝ }
+    requires { ⌜ kindsAt ≤ length (now image) ⌝ }
+    ensures { λ _. ⌜ now (image .exit) ≡ sets (now (image .entry)) (modernRecord .at) (bytesOf (modernRecord .width) (recordOf «large_at»)) ⌝ }
 {
     let at = format::at(format::MODERN_RECORD);
     let end = kinds_at();
@@ -207,6 +213,7 @@ fn small_entry(offset: u64, len: u64) -> u64
     bits::with_field(placed, len_at, format::width(format::ENTRY_LENGTH), len)
 }
 
+// The small entries of all strings.
 fn put_small_table(image: &mut [u8], ends: &[u32])
     requires { ⌜ storageAt (length (now ends)) ≤ length (now image) ⌝ }
     requires { ⌜ length (now image) ≤ sizeLimit ⌝ }
@@ -240,13 +247,13 @@ fn put_sections(image: &mut [u8], version: u32, storage: &[u8], ends: &[u32], la
     bits::put_zeros(image, end, up4(end) - end);
 }
 
-// The large header of a body. Behind its 8 words there are four bytes of caches, and the flags: 2, a
-// function that may be called with and without `new`.
+// The large header of a body: body offset, parameters (`this`), loop depth, body size; name, number
+// registers, other registers, frame size; four bytes of caches; the flags byte, 2 for a function that
+// may be called with and without `new`, and three zeros.
 fn put_large_header(image: &mut [u8], at: usize, begin: u32, size: u32)
     requires { ⌜ at + largeLength ≤ length (now image) ⌝ }
     ensures { λ _. ⌜ now (image .exit) ≡ sets (now (image .entry)) at (largeHeader begin size) ⌝ }
 {
-    // Parameters, loop depth; name, number registers, other registers, frame size.
     let words = [begin, 1, 0, size, 0, 0, 1, 1, 0, 2];
     bits::put_words(image, at, &words);
 }
