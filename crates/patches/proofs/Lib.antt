@@ -1,1 +1,2 @@
 pub mod CalmLaws
+pub mod ValueLaws
