@@ -149,6 +149,7 @@ module _ (l : Layout) (s : List ℕ) (ad : Admitted l s) where
       List·getD-append (take (length (lengthed s) - footerLength) (lengthed s)) (digest (take (length (lengthed s) - footerLength) (lengthed s))) 0 p
       (rw (length-take-le (length (lengthed s) - footerLength) (lengthed s) (omega arith)) (omega arith))
       ∙ getD-take (length (lengthed s) - footerLength) (lengthed s) p 0 (omega arith)
+
   length-written : wordAt t (table.fileLength .at) ≡ length s
   unfolding lengthed
   length-written =

@@ -1,2 +1,3 @@
 pub mod CalmLaws
 pub mod ValueLaws
+pub mod StringLaws
