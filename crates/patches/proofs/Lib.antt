@@ -1,3 +1,4 @@
 pub mod CalmLaws
 pub mod ValueLaws
 pub mod StringLaws
+pub mod BodyLaws
