@@ -2,3 +2,4 @@ pub mod CalmLaws
 pub mod ValueLaws
 pub mod StringLaws
 pub mod BodyLaws
+pub mod StepLaws
