@@ -3,3 +3,4 @@ pub mod ValueLaws
 pub mod StringLaws
 pub mod BodyLaws
 pub mod StepLaws
+pub mod ListLaws

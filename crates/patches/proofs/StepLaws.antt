@@ -24,6 +24,7 @@ use Rattle.strings.specs.Patch as strings
 use Rattle.functions.specs.Patch as functions
 use Rattle.patches.specs.Patches.{Patch, byId, byValue, toBody, outcomeOf, Step, stepOf, Target, aString, aBody, targetOf}
 use Rattle.patches.specs.Promise.{Promise}
+use Rattle.patches.specs.Lists.{InBytes}
 use Rattle.patches.proofs.StringLaws.{string-promise}
 use Rattle.patches.proofs.BodyLaws.{body-promise}
 
@@ -53,12 +54,6 @@ later l s ys e = go (eqb (judge (checks l s)) 0) refl (sym (judge-append 1 6 (ch
     go : (b : Bool) → eqb (judge (checks l s)) 0 ≡ b → pick b (judge ys) (judge (checks l s)) ≡ 0 → judge ys ≡ 0
     go true h e = e
     go false h e = absurd (let z : eqb (judge (checks l s)) 0 ≡ true = rw e in let y : _≡_ {A = ℕ} 0 1 = cc in omega arith)
-
--- the bytes of a patch are bytes
-abbrev pub InBytes : Patch → Type 0
-InBytes (byId id value) = AllBelow 256 value
-InBytes (byValue old new) = AllBelow 256 new
-InBytes (toBody id body) = AllBelow 256 body
 
 module _ (l : Layout) (s : List ℕ) (ad : Admitted l s) where
   result : (id : ℕ) (value : List ℕ) → id < stringsIn s → AllBelow 256 value → judge (strings.resultChecks l s id value) ≡ 0

@@ -1,2 +1,3 @@
 pub mod Patches
 pub mod Promise
+pub mod Lists
