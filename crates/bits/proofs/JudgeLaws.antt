@@ -5,10 +5,10 @@ use mathlib.Core.Logic.{_⊎_, inl, inr, _↔_}
 use mathlib.Core.List.{List, [], _∷_, _++_}
 use Prim.Native.Nat.{ℕ, _≤_, _<_}
 use native.Mathlib.Omega.{arith}
-use borrow.Author.Tests.{leb-true, le-leb, eqb-true, ne-eqb}
-use lib.Dec.{leb, eqb}
+use borrow.Author.Tests.{leb-true, le-leb, ltb-true, eqb-true, ne-eqb}
+use lib.Dec.{leb, ltb, eqb}
 use Rattle.bits.specs.Choice.{pick, both, either, Check, judge}
-use Rattle.bits.proofs.TestLaws.{both-0, both-1, both-of, either-or, either-true, below-or}
+use Rattle.bits.proofs.TestLaws.{both-0, both-1, either-or, either-true, below-or}
 
 -- a check that is passed over
 pub judge-pass : (c : Check) (cs : List Check) → 0 < c .number → judge (c ∷ cs) ≡ 0 → (c .met ≡ false) × (judge cs ≡ 0)
@@ -102,26 +102,23 @@ module _ (m : ℕ) where
 
 -- ---- checks behind others
 
+-- no check has the number 0
+abbrev pub numbered : List Check → Bool
+numbered [] = true
+numbered (c ∷ cs) = both (ltb 0 (c .number)) (numbered cs)
+
 -- the later ones are judged where none of the first is met
-pub judge-append : (k m : ℕ) (xs ys : List Check) → 0 < k → rising k m xs ≡ true → judge (xs ++ ys) ≡ pick (eqb (judge xs) 0) (judge ys) (judge xs)
+pub judge-append : (xs ys : List Check) → numbered xs ≡ true → judge (xs ++ ys) ≡ pick (eqb (judge xs) 0) (judge ys) (judge xs)
 unfolding judge
-judge-append k m [] ys h t = refl
-judge-append k m (c ∷ cs) ys h t =
-    let l : k ≤ c .number = from m k c cs t in
-    go (c .met) (ne-eqb (c .number) 0 (λ e. omega arith)) (judge-append (c .number) m cs ys (omega arith) (rest m k c cs t))
+judge-append [] ys t = refl
+judge-append (c ∷ cs) ys t =
+    let h : 0 < c .number = ltb-true 0 (c .number) (both-0 (ltb 0 (c .number)) (numbered cs) t) in
+    go (c .met) (ne-eqb (c .number) 0 (λ e. omega arith)) (judge-append cs ys (both-1 (ltb 0 (c .number)) (numbered cs) t))
   where
     go : (b : Bool) → eqb (c .number) 0 ≡ false → judge (cs ++ ys) ≡ pick (eqb (judge cs) 0) (judge ys) (judge cs)
         → pick b (c .number) (judge (cs ++ ys)) ≡ pick (eqb (pick b (c .number) (judge cs)) 0) (judge ys) (pick b (c .number) (judge cs))
     go true e r = rw e
     go false e r = r
-
-pub rising-append : (k m n : ℕ) (xs ys : List Check) → rising k m xs ≡ true → rising m n ys ≡ true → rising k n (xs ++ ys) ≡ true
-rising-append k m n [] ys t u = rising-down ys (leb-true k m t) u
-  where
-    rising-down : (ys : List Check) → k ≤ m → rising m n ys ≡ true → rising k n ys ≡ true
-    rising-down [] h u = le-leb k n (omega (arith, leb-true m n u))
-    rising-down (c ∷ cs) h u = both-of (leb k (c .number)) (rising (c .number) n cs) (le-leb k (c .number) (omega (arith, from n m c cs u))) (rest n m c cs u)
-rising-append k m n (c ∷ cs) ys t u = both-of (leb k (c .number)) (rising (c .number) n (cs ++ ys)) (le-leb k (c .number) (from m k c cs t)) (rising-append (c .number) m n cs ys (rest m k c cs t) u)
 
 pub given-first : (n : ℕ) (xs ys : List Check) → given n xs ≡ true → given n (xs ++ ys) ≡ true
 given-first n [] ys g = absurd (let z : _≡_ {A = ℕ} 0 1 = cc in omega arith)

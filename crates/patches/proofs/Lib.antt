@@ -4,3 +4,6 @@ pub mod StringLaws
 pub mod BodyLaws
 pub mod StepLaws
 pub mod ListLaws
+pub mod OrderLaws
+pub mod FindLaws
+pub mod RefusalLaws

@@ -10,7 +10,7 @@ use lib.ListN.{length}
 use Rattle.bits.specs.Choice.{pick, both, Check, judge}
 use Rattle.bits.specs.Outcome.{Outcome, refused, made, roomed}
 use Rattle.bits.proofs.TestLaws.{which}
-use Rattle.bits.proofs.JudgeLaws.{rising, judge-pass, judge-append}
+use Rattle.bits.proofs.JudgeLaws.{judge-pass, judge-append}
 use Rattle.bits.proofs.ListLaws.{AllBelow}
 use Rattle.format.specs.declared.Layout.{Layout}
 use Rattle.footer.specs.Finalize.{sizeLimit}
@@ -49,7 +49,7 @@ roomed-made room (made x) t e = go (ltb room (length x)) e
 -- where nothing is judged wrong, the later checks are passed
 later : (l : Layout) (s : List ℕ) (ys : List Check) → judge (checks l s ++ ys) ≡ 0 → judge ys ≡ 0
 unfolding checks
-later l s ys e = go (eqb (judge (checks l s)) 0) refl (sym (judge-append 1 6 (checks l s) ys (omega arith) refl) ∙ e)
+later l s ys e = go (eqb (judge (checks l s)) 0) refl (sym (judge-append (checks l s) ys refl) ∙ e)
   where
     go : (b : Bool) → eqb (judge (checks l s)) 0 ≡ b → pick b (judge ys) (judge (checks l s)) ≡ 0 → judge ys ≡ 0
     go true h e = e
