@@ -3,7 +3,8 @@ pub mod ValueLaws
 pub mod StringLaws
 pub mod BodyLaws
 pub mod StepLaws
-pub mod ListLaws
 pub mod OrderLaws
 pub mod FindLaws
 pub mod RefusalLaws
+pub mod ExactLaws
+pub mod ListLaws

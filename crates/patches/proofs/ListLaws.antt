@@ -10,6 +10,7 @@ use Rattle.patches.specs.Patches.{Step, stepOf, imageAfter, run, targetO
 use Rattle.patches.specs.Promise.{Promise, Sealed}
 use Rattle.patches.specs.Lists.{AllInBytes, Promised}
 use Rattle.patches.proofs.StepLaws.{step-promise}
+use Rattle.patches.proofs.ExactLaws.{refused-exactly}
 
 either-way : (o : Outcome) → ((n : ℕ) × (o ≡ refused n)) ⊎ ((t : List ℕ) × (o ≡ made t))
 either-way (refused n) = inl (n, refl)
@@ -45,7 +46,7 @@ promised l (p ∷ ps) s ad b = elim (either-way (stepOf l s p)) [
         flag = λ i. rw e (r .flag i);
         hash = λ j h. rw e (r .hash j h);
         sealed = rw e (r .sealed);
-        steps = (λ t f. step-promise l s ad p t (b .0) f, rw e (r .steps));
+        steps = (λ t f. step-promise l s ad p t (b .0) f, refused-exactly l s (ad .bytes) p (b .0), rw e (r .steps));
       }
   | inr (u, e) ↦
       let m : Promise l s u (targetOf l s (p .patch)) = step-promise l s ad p u (b .0) e in
@@ -62,6 +63,6 @@ promised l (p ∷ ps) s ad b = elim (either-way (stepOf l s p)) [
         flag = λ i. rw e (r .flag i ∙ k .flag i);
         hash = λ j h. rw (e, ← m .hash j h) (r .hash j (rw (k .identifiers) h));
         sealed = rw e (elim (r .sealed) [ inl q ↦ inr (rw q (m .sealed)) | inr q ↦ inr q ]);
-        steps = (λ t f. step-promise l s ad p t (b .0) f, rw e (r .steps));
+        steps = (λ t f. step-promise l s ad p t (b .0) f, refused-exactly l s (ad .bytes) p (b .0), rw e (r .steps));
       }
 ]

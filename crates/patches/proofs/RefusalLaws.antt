@@ -144,7 +144,7 @@ module _ (l : Layout) (s : List ℕ) (id : ℕ) (value : List ℕ) where
   abbrev goes : ℕ → ℕ
   goes = placeAfter l s (aString id value)
 
-  new-length : newLength l s id value ≡ goes (length s)
+  pub new-length : newLength l s id value ≡ goes (length s)
   unfolding newLength
   new-length = go (fitsInPlace l s id value)
     where
@@ -153,7 +153,7 @@ module _ (l : Layout) (s : List ℕ) (id : ℕ) (value : List ℕ) where
       go true = sym (moved-still (tailAt l s) (length s))
       go false = refl
 
-  patch-wrong : patchFits l s id value ≡ false → Beyond l s goes
+  pub patch-wrong : patchFits l s id value ≡ false → Beyond l s goes
   unfolding patchFits
   patch-wrong e =
       let mv : ℕ → ℕ = moved (tailAt l s) (newTail l (stringsWith l s id (asString value)) s) in
@@ -161,7 +161,7 @@ module _ (l : Layout) (s : List ℕ) (id : ℕ) (value : List ℕ) where
       rw no (fields-wrong l s mv (either-1 (fitsInPlace l s id value) (fieldsFit l s mv) e))
 
   -- what does not move fits already
-  patch-failed : Beyond l s goes → patchFits l s id value ≡ false
+  pub patch-failed : Beyond l s goes → patchFits l s id value ≡ false
   unfolding patchFits
   patch-failed x = go (fitsInPlace l s id value) x
     where
@@ -172,3 +172,18 @@ module _ (l : Layout) (s : List ℕ) (id : ℕ) (value : List ℕ) where
           let (a, b) = small-most l s j t in
           absurd (elim w [ inl g ↦ omega (arith, moved-still (tailAt l s) (f .begin)) | inr g ↦ omega (arith, moved-still (tailAt l s) (f .info)) ])
       go false x = fields-failed l s (moved (tailAt l s) (newTail l (stringsWith l s id (asString value)) s)) x
+
+-- ---- bodies: the new size
+
+module _ (l : Layout) (s : List ℕ) (id : ℕ) (body : List ℕ) where
+  pub size-wrong : sizeFits l s id body ≡ false → (funcOf l s id .large ≡ false) × (sizeMost l < length body)
+  unfolding sizeFits
+  size-wrong e =
+      let b : Bool = beyond (sizeRow l) (length body) in (
+        either-0 (funcOf l s id .large) (not b) e,
+        omega (arith, leb-true (2 ^ sizeRow l .width) (length body) (not-false b (either-1 (funcOf l s id .large) (not b) e)), size-bits l),
+      )
+
+  pub size-failed : funcOf l s id .large ≡ false → sizeMost l < length body → sizeFits l s id body ≡ false
+  unfolding sizeFits
+  size-failed t h = rw (t, le-leb (2 ^ sizeRow l .width) (length body) (omega (arith, size-bits l)))

@@ -1,4 +1,4 @@
 pub mod Patches
 pub mod Promise
-pub mod Lists
 pub mod Faults
+pub mod Lists

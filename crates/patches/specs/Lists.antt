@@ -1,10 +1,10 @@
 -- What is promised of a list of patches.
 use mathlib.Core.Path.{_≡_}
-use mathlib.Core.Logic.{_⊎_}
+use mathlib.Core.Logic.{_⊎_, _↔_}
 use mathlib.Core.List.{List, [], _∷_}
 use Prim.Native.Nat.{ℕ, _<_}
 use lib.ListN.{getD}
-use Rattle.bits.specs.Outcome.{made}
+use Rattle.bits.specs.Outcome.{refused, made}
 use Rattle.format.specs.declared.Layout.{Layout}
 use Rattle.image.specs.Sections.{functionsIn, kindsIn, identifiersIn, stringsIn}
 use Rattle.image.specs.Strings.{stringOf}
@@ -12,6 +12,7 @@ use Rattle.image.specs.Kinds.{isIdentifier, hashIn}
 use Rattle.image.specs.Functions.{bodyOf}
 use Rattle.image.specs.Admitted.{Admitted}
 use Rattle.patches.specs.Patches.{Patch, byId, byValue, toBody, Step, stepOf, imageAfter, targetOf, carried}
+use Rattle.patches.specs.Faults.{turnOf, PatchFault}
 use Rattle.patches.specs.Promise.{stringAfter, bodyAfter, hashAfter, Promise, Sealed}
 
 -- the bytes of a patch are bytes
@@ -24,10 +25,20 @@ abbrev pub AllInBytes : List Step → Type 0
 AllInBytes [] = Unit {0}
 AllInBytes (p ∷ ps) = InBytes (p .patch) × AllInBytes ps
 
--- each step that is accepted keeps its promise, from the image before it to the image after it
+-- a step that is accepted keeps its promise, from the image before it to the image after it
+abbrev pub KeepsPromise : Layout → List ℕ → Step → Type 0
+KeepsPromise l s p = (t : List ℕ) → stepOf l s p ≡ made t → Promise l s t (targetOf l s (p .patch))
+
+-- it is refused with n exactly where fault n is there, and none whose turn comes before
+abbrev pub RefusedExactly : Layout → List ℕ → Step → Type 0
+RefusedExactly l s p =
+    (n : ℕ) → 0 < n
+    → stepOf l s p ≡ refused n ↔ (PatchFault l s (p .room) (p .patch) n × ((k : ℕ) → turnOf k < turnOf n → PatchFault l s (p .room) (p .patch) k → ⊥))
+
+-- both hold of each step of a list
 abbrev pub EachStep : Layout → List Step → List ℕ → Type 0
 EachStep l [] s = Unit {0}
-EachStep l (p ∷ ps) s = ((t : List ℕ) → stepOf l s p ≡ made t → Promise l s t (targetOf l s (p .patch))) × EachStep l ps (imageAfter (stepOf l s p) s)
+EachStep l (p ∷ ps) s = KeepsPromise l s p × RefusedExactly l s p × EachStep l ps (imageAfter (stepOf l s p) s)
 
 -- the end image t of a list of patches on s
 pub record Promised (l : Layout) (ps : List Step) (s t : List ℕ) : Type 0 where
