@@ -1,5 +1,6 @@
 pub mod CalmLaws
 pub mod ValueLaws
+pub mod UnitLaws
 pub mod StringLaws
 pub mod BodyLaws
 pub mod StepLaws
