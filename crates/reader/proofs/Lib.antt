@@ -1,1 +1,3 @@
 pub mod PassLaws
+pub mod ReadingLaws
+pub mod PartLaws
