@@ -2,21 +2,19 @@
 use mathlib.Core.Path.{_≡_, refl, sym, _∙_, ap, subst⁻¹}
 use mathlib.Core.Bool.{Bool, true, false}
 use mathlib.Core.List.{List, []}
-use Prim.Native.Nat.{ℕ, zero, suc, _+_, _-_, _*_, _/_, _≤_, _<_}
+use Prim.Native.Nat.{ℕ, _+_, _-_, _*_, _/_, _≤_, _<_}
 use native.Mathlib.Nat.{zero-add, add-sub-cancel-left}
 use native.Mathlib.Omega.{arith}
-use lib.Dec.{ltb, eqb}
+use lib.Dec.{eqb}
 use lib.ListN.{length, getD, take, drop}
 use borrow.Author.Tests.{eqb-true, lt-ltb, le-ltb}
 use Rattle.bits.specs.Choice.{pick}
 use Rattle.bits.specs.Bytes.{bytesAt}
 use Rattle.bits.proofs.ByteLaws.{bytesAt-take}
 use Rattle.format.specs.declared.Layout.{Layout}
-use Rattle.footer.specs.Footer.{footerLength}
 use Rattle.image.specs.Sections.{functionsIn, stringsIn}
-use Rattle.image.specs.Strings.{unitSize, Str, stringOf, pairsOf, unitsOf}
-use Rattle.image.specs.Functions.{Func, funcOf, bodyOf}
-use Rattle.image.specs.Admission.{refusal}
+use Rattle.image.specs.Strings.{unitSize, Str, stringOf, unitsOf}
+use Rattle.image.specs.Functions.{funcOf, bodyOf}
 use Rattle.image.specs.Admitted.{Admitted}
 use Rattle.image.proofs.AdmitLaws.{admitted}
 use Rattle.image.proofs.PlaceLaws.{string-in}
@@ -29,7 +27,6 @@ use Rattle.walk.proofs.UnitLaws.{length-pairs, pair-at, wide-unit, narrow-unit}
 use Rattle.reader.specs.declared.StringPlace.{StringPlace}
 use Rattle.reader.specs.declared.StringRead.{StringRead}
 use Rattle.reader.specs.declared.StringRead.the-variants as string-is
-use Rattle.reader.specs.declared.UnitRead.{UnitRead}
 use Rattle.reader.specs.declared.UnitRead.the-variants as unit-is
 use Rattle.reader.specs.Reading.{idRefusal, stringPlace, stringRead, stringBytes, unitRead, bodyRead, bodyBytes}
 use Rattle.reader.proofs.ReadingLaws.{read-is}

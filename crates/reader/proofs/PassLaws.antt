@@ -1,5 +1,5 @@
 -- A pass over the strings: what is read of each is what the definitions say, and the next is reached.
-use mathlib.Core.Path.{_≡_, refl, sym, _∙_, ap, subst⁻¹}
+use mathlib.Core.Path.{_≡_, _∙_, ap, subst⁻¹}
 use mathlib.Core.Bool.{Bool}
 use mathlib.Core.List.{List}
 use Prim.Native.Nat.{ℕ, _+_, _≤_, _<_}
@@ -8,7 +8,7 @@ use lib.ListN.{length}
 use Rattle.format.specs.Entry as entry
 use Rattle.footer.specs.Footer.{footerLength}
 use Rattle.image.specs.Sections.{storageAt}
-use Rattle.image.specs.Strings.{isFull, overBefore, smallIn, placeAt, sizeOf}
+use Rattle.image.specs.Strings.{sizeOf}
 use Rattle.image.specs.Kinds.{isIdentifier}
 use Rattle.image.specs.Functions.{Func, funcOf}
 use Rattle.image.specs.Admitted.{Admitted}

@@ -14,7 +14,6 @@ use Rattle.image.specs.Admission.{checks, refusal}
 use Rattle.sections.specs.declared.Places.{Places}
 use Rattle.sections.specs.Places.{placesOf}
 use Rattle.function_table.specs.declared.Function.{Function}
-use Rattle.function_table.specs.declared.FunctionRead.{FunctionRead}
 use Rattle.function_table.specs.declared.FunctionRead.the-variants as function-is
 use Rattle.function_table.specs.Functions.{asFunc, asFunction}
 use Rattle.admission.specs.declared.Admission.{Admission}
@@ -22,9 +21,7 @@ use Rattle.admission.specs.declared.Admission.the-variants.{Laid, Refused}
 use Rattle.admission.specs.Admission.{admission, numberOf}
 use Rattle.admission.proofs.AnswerLaws.{judged-then, refused-is, refused-then, laid-is, laid-then, laid-layout}
 use Rattle.reader.specs.declared.StringPlace.{StringPlace}
-use Rattle.reader.specs.declared.StringRead.{StringRead}
 use Rattle.reader.specs.declared.StringRead.the-variants as string-is
-use Rattle.reader.specs.declared.DebugRead.{DebugRead}
 use Rattle.reader.specs.declared.DebugRead.the-variants as debug-is
 use Rattle.reader.specs.Reading.{idRefusal, stringPlace, stringRead, bodyRead, debugRead, ReadAs}
 

@@ -20,7 +20,6 @@ ghost use Rattle.image.specs.Admitted.{Admitted};
 ghost use Rattle.sections.specs.declared.Places.{Places};
 ghost use Rattle.sections.specs.Places.{Placed};
 ghost use Rattle.function_table.specs.Functions.{asFunc, WordSized};
-ghost use Rattle.walk.specs.Places.{Stands};
 ghost use Rattle.reader.specs.Reading.{stringRead, stringBytes, unitRead, bodyRead, bodyBytes, debugRead, imagePlace, ReadAs, CursorOf};
 
 // Where a string stands in the image: its count is of 16-bit units where it is wide, else of bytes, as
