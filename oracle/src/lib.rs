@@ -3,6 +3,7 @@
 
 pub mod builder;
 pub mod family;
+pub mod image;
 pub mod leaves;
 pub mod random;
 pub mod stream;
