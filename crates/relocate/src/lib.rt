@@ -3,20 +3,28 @@
 use bits::Words;
 use format::Layout;
 use function_table::Function;
+use sections::Places;
 ghost use mathlib.Core.Path.{_≡_};
-ghost use Prim.Native.Nat.{_+_, _≤_, _<_};
+ghost use mathlib.Core.Bool.{true, not};
+ghost use mathlib.Core.List.{[], _∷_};
+ghost use Prim.Native.Nat.{_+_, _-_, _≤_, _<_};
 ghost use lib.ListN.{length};
 ghost use lib.Seq.{sets};
+ghost use Rattle.bits.specs.Choice.{both, either};
 ghost use Rattle.bits.specs.Words.{whole};
 ghost use Rattle.bits.specs.Bytes.{bytesOf};
-ghost use Rattle.format.specs.Table.{rowOf, rowCount, recordRow, largeRow};
+ghost use Rattle.format.specs.Table.{rowOf, rowCount, recordRow, largeRow, overflowCount, storageSize, legacyInfo};
 ghost use Rattle.format.specs.Record.{pointer, putPointer};
 ghost use Rattle.format.specs.Move.{moved};
+ghost use Rattle.records.specs.Records.{isRecordRow};
 ghost use Rattle.footer.specs.Finalize.{sizeLimit};
-ghost use Rattle.image.specs.Sections.{recordAt};
-ghost use Rattle.image.specs.Edit.{writeAll, putSmall, pointed, putHeader, moveFunc};
+ghost use Rattle.image.specs.Sections.{functionsIn, recordAt};
+ghost use Rattle.image.specs.Admission.{headersIn};
+ghost use Rattle.image.specs.Edit.{splice, word, writeAll, groups, putSmall, pointed, putHeader, moveFunc};
+ghost use Rattle.image.specs.Fit.{beyond, offsetRow, fieldsFit};
+ghost use Rattle.sections.specs.Places.{Placed};
 ghost use Rattle.function_table.specs.Functions.{asFunc, WordSized};
-ghost use Rattle.relocate.specs.Relocate.{placeAfter, writesAll, funcFor};
+ghost use Rattle.relocate.specs.Relocate.{placeAfter, writesAll, funcFor, debugWord, functionGroup, relocated, around, Movable};
 
 // Which patch moves the places: a rebuild of the strings, or that of a body to another size.
 pub enum Patch {
@@ -81,9 +89,10 @@ fn function_after(f: Function, m: Move, i: usize) -> Function
 }
 
 // Whether every large pointer is written whole: a body patch writes only those that move.
-fn writes_all(patch: Patch) -> bool
-    ensures { λ r. ⌜ r ≡ writesAll patch ⌝ }
+fn writes_all(m: Move) -> bool
+    ensures { λ r. ⌜ r ≡ writesAll (m .patch) ⌝ }
 {
+    let patch = m.patch;
     match patch {
         Patch::Strings => true,
         Patch::Body { id: _, size: _ } => false,
@@ -193,4 +202,145 @@ fn put_header(out: &mut [u8], layout: Layout, f: Function)
             put_large_word(out, ptr, format::LEGACY_LARGE_INFO, f.info);
         }
     }
+}
+
+// Function `i`: its record, and where it has one its large header.
+fn relocate_function(out: &mut [u8], image: &[u8], layout: Layout, m: Move, i: usize)
+    requires { ⌜ Movable layout (now image) m (length (now out)) ⌝ }
+    requires { ⌜ i < functionsIn (now image) ⌝ }
+    ensures { λ _. ⌜ now (out .exit) ≡ writeAll (functionGroup layout (now (image .entry)) m i) (now (out .entry)) ⌝ }
+{
+    let words = function_table::record_of(image, layout, i);
+    if !function_table::is_large(words, layout) {
+        let f = function_after(function_table::small_function(words, layout), m, i);
+        put_record(out, layout, i, small_record(words, layout, f));
+        return;
+    }
+    let ptr = function_table::pointer_of(words, layout);
+    let old = function_table::large_function(image, layout, ptr as usize);
+    let f = function_after(old, m, i);
+    let record = large_record(words, layout, writes_all(m), ptr, f.ptr as u64);
+    put_record(out, layout, i, record);
+    put_header(out, layout, f);
+}
+
+// All functions, each read once.
+fn relocate_functions(out: &mut [u8], image: &[u8], layout: Layout, m: Move, n: usize)
+    requires { ⌜ Movable layout (now image) m (length (now out)) ⌝ }
+    requires { ⌜ n ≡ functionsIn (now image) ⌝ }
+    ensures { λ _. ⌜ now (out .exit) ≡ writeAll (groups n (functionGroup layout (now (image .entry)) m)) (now (out .entry)) ⌝ }
+{
+    let mut i = 0;
+    while i < n {
+        relocate_function(out, image, layout, m, i);
+        i += 1;
+    }
+}
+
+// ---- the header
+
+// The counts of the header that a rebuild changes.
+pub fn put_counts(out: &mut [u8], overflows: usize, storage: usize)
+    requires { ⌜ 128 ≤ length (now out) ⌝ }
+    ensures { λ _. ⌜ now (out .exit) ≡ writeAll (word (overflowCount .at) overflows ∷ word (storageSize .at) storage ∷ []) (now (out .entry)) ⌝ }
+{
+    bits::put_word(out, format::at(format::OVERFLOW_COUNT), overflows as u64);
+    bits::put_word(out, format::at(format::STORAGE_SIZE), storage as u64);
+}
+
+// The debug offset, moved.
+fn put_debug(out: &mut [u8], image: &[u8], layout: Layout, m: Move)
+    requires { ⌜ (128 ≤ length (now image)) × (128 ≤ length (now out)) × (m .to ≤ sizeLimit) ⌝ }
+    ensures { λ _. ⌜ now (out .exit) ≡ writeAll (debugWord layout (now (image .entry)) m ∷ []) (now (out .entry)) ⌝ }
+{
+    let at = format::place(format::debug_row(layout), layout);
+    let debug = move_place(m.from, m.to, bits::word(image, at) as usize);
+    bits::put_word(out, at, debug as u64);
+}
+
+// The debug offset, every record and the words of every large header, as they are after the patch.
+pub fn relocate(out: &mut [u8], image: &[u8], layout: Layout, m: Move)
+    requires { ⌜ Movable layout (now image) m (length (now out)) ⌝ }
+    ensures { λ _. ⌜ now (out .exit) ≡ relocated layout (now (image .entry)) m (now (out .entry)) ⌝ }
+{
+    let n = sections::header_word(image, format::FUNCTION_COUNT);
+    put_debug(out, image, layout, m);
+    relocate_functions(out, image, layout, m, n);
+}
+
+// ---- the bytes
+
+// The bytes before `a` at the front of `out`, those from `b` on at `to`.
+pub fn copy_around(out: &mut [u8], image: &[u8], a: usize, b: usize, to: usize)
+    requires { ⌜ (a ≤ length (now image)) × (a ≤ length (now out)) × (b ≤ length (now image)) × (to + (length (now image) - b) ≤ length (now out)) ⌝ }
+    ensures { λ _. ⌜ now (out .exit) ≡ around a b to (now (image .entry)) (now (out .entry)) ⌝ }
+{
+    let end = image.len();
+    bits::put_bytes(out, 0, &image[0..a]);
+    bits::put_bytes(out, to, &image[b..end]);
+}
+
+// The image with new bytes for those from `a` to `b`, in a buffer of its new length.
+pub fn put_spliced(out: &mut [u8], image: &[u8], a: usize, b: usize, new: &[u8])
+    requires { ⌜ (a ≤ b) × (b ≤ length (now image)) × (length (now out) ≡ length (now image) - b + (a + length (now new))) ⌝ }
+    ensures { λ _. ⌜ now (out .exit) ≡ splice a b (now (new .entry)) (now (image .entry)) ⌝ }
+{
+    copy_around(out, image, a, b, a + new.len());
+    bits::put_bytes(out, a, new);
+}
+
+// ---- refusal 12
+
+// Whether a field of a record has too few bits for a number.
+pub fn is_beyond(k: usize, x: usize) -> bool
+    requires { ⌜ isRecordRow k ≡ true ⌝ }
+    ensures { λ r. ⌜ r ≡ beyond (rowOf k) x ⌝ }
+{
+    1usize << format::width(k) <= x
+}
+
+// The offset field of a record, by the name of its row.
+fn offset_field(layout: Layout) -> usize
+    ensures { λ r. ⌜ (rowOf r ≡ offsetRow layout) × (isRecordRow r ≡ true) ⌝ }
+{
+    match layout {
+        Layout::Modern => format::MODERN_OFFSET,
+        Layout::Legacy {
+            big_integers: _,
+            function_sources: _,
+        } => format::LEGACY_OFFSET,
+    }
+}
+
+// Whether a record without a large header could hold a function's moved places.
+fn does_fit(f: Function, offset: usize, from: usize, to: usize) -> bool
+    requires { ⌜ WordSized f × (to < 4294967296) × (isRecordRow offset ≡ true) ⌝ }
+    ensures { λ r. ⌜ r ≡ not (both (not (f .large)) (either (beyond (rowOf offset) (moved from to (f .begin))) (beyond legacyInfo (moved from to (f .info))))) ⌝ }
+{
+    if f.large {
+        return true;
+    }
+    if is_beyond(offset, move_place(from, to, f.begin)) {
+        return false;
+    }
+    !is_beyond(format::LEGACY_INFO, move_place(from, to, f.info))
+}
+
+// Whether every record without a large header can hold its moved places.
+pub fn fields_fit(image: &[u8], p: Places, from: usize, to: usize) -> bool
+    requires { ⌜ Placed p (now image) × (headersIn (p .layout) (now image) ≡ true) ⌝ }
+    requires { ⌜ to < 4294967296 ⌝ }
+    ensures { λ r. ⌜ r ≡ fieldsFit (p .layout) (now (image .entry)) (moved from to) ⌝ }
+{
+    let layout = p.layout;
+    let offset = offset_field(layout);
+    let mut i = 0;
+    while i < p.functions {
+        let f = function_table::function_at(image, layout, i);
+        if !does_fit(f, offset, from, to) {
+            return false;
+        }
+        i += 1;
+    }
+    true
 }
