@@ -1,18 +1,17 @@
 -- The relocation is the end of every edit: the header words, the bytes around those that are replaced, the rebuild and the resize.
-use mathlib.Core.Path.{_≡_, refl, ap, sym, _∙_}
-use mathlib.Core.Bool.{Bool, true, false}
-use mathlib.Core.List.{List, [], _∷_, _++_, append-nil, append-assoc}
-use Prim.Native.Nat.{ℕ, _+_, _-_, _≤_, _<_}
+use mathlib.Core.Path.{_≡_, refl, sym, _∙_}
+use mathlib.Core.List.{List, [], _∷_, _++_, append-assoc}
+use Prim.Native.Nat.{ℕ, _+_, _-_, _≤_}
 use native.Mathlib.Nat.{zero-add}
 use native.Mathlib.Omega.{arith}
 use lib.ListN.{length, take, drop, length-drop, length-append}
-use lib.Seq.{sets, length-sets, length-take-le, take-all}
+use lib.Seq.{sets, length-take-le, take-all}
 use Rattle.bits.specs.Bytes.{bytesOf, wordAt}
 use Rattle.bits.proofs.WriteLaws.{sets-append, sets-all}
 use Rattle.format.specs.declared.Field.{Field}
 use Rattle.format.specs.declared.Layout.{Layout}
 use Rattle.format.specs.Table as table
-use Rattle.image.specs.Sections.{functionsIn, debugIn, kindsAt, smallAt, tailAt}
+use Rattle.image.specs.Sections.{functionsIn, smallAt, tailAt}
 use Rattle.image.specs.Strings.{Str}
 use Rattle.image.specs.Functions.{funcOf}
 use Rattle.image.specs.Edit.{splice, word, writeAll, groups, edit}

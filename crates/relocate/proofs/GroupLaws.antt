@@ -22,12 +22,12 @@ use Rattle.format.specs.Move.{moved}
 use Rattle.format.proofs.MoveLaws.{moved-low, moved-high}
 use Rattle.image.specs.Sections.{functionsIn, recordAt, kindsAt, tailAt}
 use Rattle.image.specs.Functions.{Func, small, header, recordIn, funcOf}
-use Rattle.image.specs.Edit.{Write, writeAll, groups, putSmall, pointed, putRecord, putHeader, recordGroup, headerGroup, moveFunc}
+use Rattle.image.specs.Edit.{Write, writeAll, groups, putSmall, pointed, putHeader, recordGroup, headerGroup, moveFunc}
 use Rattle.image.specs.Rebuild.{resized}
 use Rattle.image.proofs.WriteLaws.{writes-append}
 use Rattle.image.proofs.PlaceLaws.{ordered, record-in}
 use Rattle.image.proofs.CheckLaws.{headers-in}
-use Rattle.function_table.proofs.ReadLaws.{small-is, is-small, header-is, is-large, points-to}
+use Rattle.function_table.proofs.ReadLaws.{small-is, is-small, header-is, is-large}
 use Rattle.relocate.specs.declared.Patch.{Patch}
 use Rattle.relocate.specs.declared.Patch.the-variants.{Strings, Body}
 use Rattle.relocate.specs.declared.Move.{Move}

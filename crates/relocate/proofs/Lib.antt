@@ -1,5 +1,4 @@
 pub mod FunctionLaws
 pub mod GroupLaws
 pub mod EditLaws
-pub mod FitLaws
 pub mod MovableLaws

@@ -10,9 +10,8 @@ use Rattle.bits.proofs.TestLaws.{below-or}
 use Rattle.format.specs.declared.Layout.{Layout}
 use Rattle.format.specs.Table as table
 use Rattle.format.proofs.MoveLaws.{moved-low, moved-high}
-use Rattle.footer.specs.Footer.{footerLength}
 use Rattle.footer.specs.Finalize.{sizeLimit}
-use Rattle.image.specs.Sections.{functionsIn, kindsAt, smallAt, tailAt}
+use Rattle.image.specs.Sections.{functionsIn, tailAt}
 use Rattle.image.specs.Strings.{Str}
 use Rattle.image.specs.Functions.{funcOf}
 use Rattle.image.specs.Admission.{headersIn, bodiesIn, bodiesApart}
@@ -20,7 +19,7 @@ use Rattle.image.proofs.PlaceLaws.{ordered}
 use Rattle.image.proofs.CheckLaws.{headers-in, bodies-in, bodies-apart}
 use Rattle.sections.specs.Places.{Fits}
 use Rattle.relocate.specs.declared.Move.{Move}
-use Rattle.relocate.specs.Relocate.{placeAfter, Movable}
+use Rattle.relocate.specs.Relocate.{Movable}
 use Rattle.relocate.proofs.EditLaws.{rebuilding, resizing}
 
 module _ (l : Layout) (s : List ℕ) (fits : Fits l s) (headers : headersIn l s ≡ true) (room : ℕ) (limit : room ≤ sizeLimit) where

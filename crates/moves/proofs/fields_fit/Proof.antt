@@ -1,5 +1,5 @@
-use Rattle.relocate.proofs.fields_fit.Statement.{statement}
-use Rattle.relocate.proofs.fields_fit.Tie as tie
+use Rattle.moves.proofs.fields_fit.Statement.{statement}
+use Rattle.moves.proofs.fields_fit.Tie as tie
 use Prim.Native.Nat.{_≤_, _-_}
 use mathlib.Core.Path.{_≡_}
 use mathlib.Core.Bool.{true}
@@ -9,7 +9,7 @@ use Rattle.bits.specs.Choice.{allBelow}
 use Rattle.bits.proofs.PassLaws.{pass-none, pass-next}
 use Rattle.format.specs.Move.{moved}
 use Rattle.sections.proofs.SectionLaws.{sectioned}
-use Rattle.relocate.proofs.FitLaws.{fitsAt, fit-is, fields-stop, fields-end}
+use Rattle.moves.proofs.FitLaws.{fitsAt, fit-is, fields-stop, fields-end}
 
 abbrev Inv-loop : tie.InvT-loop
 Inv-loop image p from to layout offset i₀ i = (i ≤ p .functions) × (allBelow i (fitsAt (p .layout) image (moved from to)) ≡ true)

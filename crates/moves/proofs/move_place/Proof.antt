@@ -1,6 +1,6 @@
 use borrow.Author.Needs.{needs}
-use Rattle.relocate.proofs.move_place.Statement.{statement}
-use Rattle.relocate.proofs.move_place.Tie as tie
+use Rattle.moves.proofs.move_place.Statement.{statement}
+use Rattle.moves.proofs.move_place.Tie as tie
 use mathlib.Core.Path.{refl}
 use native.Mathlib.Omega.{arith}
 use Rattle.format.proofs.MoveLaws.{moved-low, moved-high}

@@ -1,12 +1,11 @@
 -- Refusal 12, record by record.
-use mathlib.Core.Path.{_≡_, refl, ap, sym, _∙_}
+use mathlib.Core.Path.{_≡_, ap, _∙_}
 use mathlib.Core.Bool.{Bool, true, false, not}
 use mathlib.Core.List.{List}
-use Prim.Native.Nat.{ℕ, _+_, _^_, _<_, _≤_}
-use native.Mathlib.Omega.{arith}
+use Prim.Native.Nat.{ℕ, _<_, _≤_}
 use borrow.Author.Tests.{ltb-true, leb-true}
 use lib.Dec.{ltb, leb}
-use Rattle.bits.specs.Choice.{pick, both, either, allBelow}
+use Rattle.bits.specs.Choice.{both, either, allBelow}
 use Rattle.bits.proofs.TestLaws.{both-0, both-1}
 use Rattle.bits.proofs.PassLaws.{pass-stop, pass-end}
 use Rattle.format.specs.declared.Field.{Field}

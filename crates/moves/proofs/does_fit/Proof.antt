@@ -1,9 +1,9 @@
 use borrow.Author.Needs.{needs}
-use Rattle.relocate.proofs.does_fit.Statement.{statement}
-use Rattle.relocate.proofs.does_fit.Tie as tie
+use Rattle.moves.proofs.does_fit.Statement.{statement}
+use Rattle.moves.proofs.does_fit.Tie as tie
 use Rattle.function_table.specs.Functions.{asFunc}
 use Rattle.format.specs.Move.{moved}
-use Rattle.relocate.proofs.FitLaws.{fit-not, fit-info}
+use Rattle.moves.proofs.FitLaws.{fit-not, fit-info}
 
 returns-2 : tie.Need-returns-2
 returns-2 c = let a = c .before .before .before .before .args in fit-not (moved (a .from) (a .to)) (asFunc (a .f)) (a .offset) _ 0 (c .before .before .move-place .ensures .0) (c .before .before .before .if1 .left) _ (c .before .is-beyond .ensures) (c .if2 .taken)

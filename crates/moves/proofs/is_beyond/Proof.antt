@@ -1,7 +1,7 @@
-use Rattle.relocate.proofs.is_beyond.Statement.{statement}
-use Rattle.relocate.proofs.is_beyond.Tie as tie
+use Rattle.moves.proofs.is_beyond.Statement.{statement}
+use Rattle.moves.proofs.is_beyond.Tie as tie
 use native.Mathlib.Omega.{arith}
-use Rattle.relocate.proofs.FitLaws.{field-row}
+use Rattle.moves.proofs.FitLaws.{field-row}
 use mathlib.Core.Path.{ap, _∙_}
 use Rattle.bits.proofs.MaskLaws.{bit}
 use lib.Dec.{leb}
