@@ -13,7 +13,13 @@ ghost use Rattle.format.specs.Table.{rowOf, rowCount};
 ghost use Rattle.format.specs.Record.{withValue};
 ghost use Rattle.format.specs.Entry.{entry, bit, isOver};
 ghost use Rattle.string_tables.specs.Strings.{asPlace};
-ghost use Rattle.region_write.specs.Region.{putEntry, sourceOf, storedBytes};
+ghost use Rattle.footer.specs.Finalize.{sizeLimit};
+ghost use Rattle.image.specs.Admitted.{Admitted};
+ghost use Rattle.image.specs.Rebuild.{region, padded};
+ghost use Rattle.sections.specs.Places.{Placed};
+ghost use Rattle.string_region.specs.Strings.{asString, stringWith, stringsWith, Shaped, Sums};
+ghost use Rattle.string_region.specs.Pass.{Reached};
+ghost use Rattle.region_write.specs.Region.{putEntry, putString, laid, Roomy, sourceOf, storedBytes};
 
 // Where the new tables and the new storage start.
 pub struct Target {
@@ -107,4 +113,64 @@ fn put_stored<'a>(
         return;
     }
     bits::put_bytes(out, to, source(image, value, is_new, at, n));
+}
+
+// The string at the cursor: its entry and its bytes. Answers the cursor behind it.
+fn put_string<'a>(
+    out: &mut [u8],
+    image: &'a [u8],
+    value: &'a [u8],
+    p: Places,
+    to: Target,
+    id: usize,
+    new: Shape,
+    c: Cursor,
+) -> Cursor
+    requires { ⌜ Placed p (now image) × Admitted (p .layout) (now image) × (c .string < p .strings) ⌝ }
+    requires { ⌜ Reached (p .layout) (now image) id new c × (new .count ≤ sizeLimit) × Shaped new (asString (now value)) ⌝ }
+    requires { ⌜ Roomy to (stringsWith (p .layout) (now image) id (asString (now value))) (length (now out)) ⌝ }
+    ensures { λ r. ⌜ (r .string ≡ c .string + 1) × Reached (p .layout) (now (image .entry)) id new r ⌝ }
+    ensures { λ _. ⌜ now (out .exit) ≡ putString to (c .string) (c .over) (c .at) (stringWith (p .layout) (now (image .entry)) id (asString (now (value .entry))) (c .string)) (now (out .entry)) ⌝ }
+{
+    let t = string_region::take_turn(image, p, id, new, c);
+    let old = t.old;
+    let size = string_tables::size_of(old);
+    put_entry(out, to, c.string, c.over, t.new);
+    put_stored(
+        out,
+        to.storage_at + c.at,
+        image,
+        value,
+        c.string == id,
+        new.wide,
+        p.storage_at + old.at,
+        size,
+    );
+    t.next
+}
+
+// All strings in order: one pass, with a place that goes on in each of the three parts.
+fn put_strings<'a>(
+    out: &mut [u8],
+    image: &'a [u8],
+    value: &'a [u8],
+    p: Places,
+    to: Target,
+    id: usize,
+    new: Shape,
+)
+    requires { ⌜ Placed p (now image) × Admitted (p .layout) (now image) ⌝ }
+    requires { ⌜ (new .count ≤ sizeLimit) × Shaped new (asString (now value)) ⌝ }
+    requires { ⌜ Roomy to (stringsWith (p .layout) (now image) id (asString (now value))) (length (now out)) ⌝ }
+    ensures { λ _. ⌜ now (out .exit) ≡ laid to (stringsWith (p .layout) (now (image .entry)) id (asString (now (value .entry)))) (now (out .entry)) ⌝ }
+{
+    let mut c = Cursor {
+        string: 0,
+        full: 0,
+        over: 0,
+        at: 0,
+    };
+    while c.string < p.strings {
+        c = put_string(out, image, value, p, to, id, new, c);
+    }
 }
