@@ -1,16 +1,19 @@
 -- A turn of the pass over the strings.
 use mathlib.Core.Path.{_≡_, refl, ap, sym, _∙_, subst, subst⁻¹}
 use mathlib.Core.Bool.{Bool, true, false}
-use mathlib.Core.List.{List}
-use Prim.Native.Nat.{ℕ, _+_, _*_, _≤_, _<_}
+use mathlib.Core.List.{List, _++_}
+use Prim.Native.Nat.{ℕ, _+_, _-_, _*_, _≤_, _<_}
 use native.Mathlib.Omega.{arith}
 use lib.Dec.{eqb}
-use lib.ListN.{length}
+use lib.ListN.{length, length-append, length-replicate}
 use Rattle.bits.specs.Choice.{pick}
+use Rattle.bits.specs.Bytes.{up4, zerosTo4}
 use Rattle.format.specs.Table.{ifSet}
 use Rattle.format.specs.Entry as entry
 use Rattle.footer.specs.Finalize.{sizeLimit}
-use Rattle.image.specs.Strings.{isFull, overBefore, smallIn, sizeOf}
+use Rattle.image.specs.Sections.{stringsIn, smallAt}
+use Rattle.image.specs.Strings.{Str, isFull, overBefore, smallIn, sizeOf}
+use Rattle.image.specs.Rebuild.{layFrom, storeOf, overs, region, padded}
 use Rattle.sections.specs.declared.Places.{Places}
 use Rattle.sections.specs.Places.{Placed}
 use Rattle.sections.proofs.SectionLaws.{Sectioned, sectioned}
@@ -21,8 +24,10 @@ use Rattle.walk.proofs.WalkLaws.{over-none, over-most, over-next}
 use Rattle.string_region.specs.declared.Shape.{Shape}
 use Rattle.string_region.specs.declared.Cursor.{Cursor}
 use Rattle.string_region.specs.declared.Turn.{Turn}
-use Rattle.string_region.specs.Strings.{placeWith}
-use Rattle.string_region.specs.Pass.{Reached, Turned}
+use Rattle.string_region.specs.Strings.{Shaped, tabulate, stringWith, stringsWith, newTail, placeWith}
+use Rattle.string_region.specs.declared.Sizes.{Sizes}
+use Rattle.string_region.specs.Pass.{Reached, Turned, Measured}
+use Rattle.string_region.proofs.ListLaws.{size-smalls, size-pairs}
 use Rattle.string_region.proofs.ShapeLaws.{sums-none, sums-next}
 
 set-bit : (b : Bool) → ifSet b 1 ≡ entry.bit b
@@ -75,3 +80,33 @@ module _ (p : Places) (s : List ℕ) (pl : Placed p s) (id : ℕ) (x : Shape) (c
             low = omega arith;
           };
         }
+
+-- behind the last string
+pub measured : (p : Places) (s : List ℕ) (id : ℕ) (x : Shape) (c : Cursor) → c .string ≡ p .strings → Reached (p .layout) s id x c
+    → Measured p s id x (record { storage = c .at; overflows = c .over })
+measured p s id x c e rc = record { sums = rw e at (rc .sums); few = omega (arith, rc .few); low = rw e at (rc .low) }
+
+-- ---- the tail behind them
+
+module _ (p : Places) (s : List ℕ) (pl : Placed p s) (id : ℕ) (x : Shape) (z : Sizes) (m : Measured p s id x z) (t : Str) (sh : Shaped x t) where
+  pub storage-is : z .storage ≡ length (storeOf (stringsWith (p .layout) s id t))
+  unfolding stringsWith
+  storage-is = rw (sectioned p s pl .strings) at (m .sums t sh .0)
+
+  pub overflows-are : z .overflows ≡ overs (layFrom 0 (stringsWith (p .layout) s id t))
+  unfolding stringsWith
+  overflows-are = rw (sectioned p s pl .strings) at (m .sums t sh .1)
+
+  pub length-region : p .«small_at» + length (region (stringsWith (p .layout) s id t)) ≡ p .«over_at» + z .overflows * 8 + z .storage
+  unfolding region stringsWith
+  length-region =
+      let sc : Sectioned p s = sectioned p s pl in
+      let f : ℕ → Str = stringWith (p .layout) s id t in
+      rw (length-append, length-append, size-smalls f (stringsIn s), size-pairs f (stringsIn s), ← overflows-are, ← storage-is) (omega arith)
+
+  pub tail-is : up4 (p .«over_at» + z .overflows * 8 + z .storage) ≡ newTail (p .layout) (stringsWith (p .layout) s id t) s
+  unfolding newTail padded
+  tail-is =
+      let n : ℕ = p .«over_at» + z .overflows * 8 + z .storage in
+      let e : smallAt (p .layout) s + length (region (stringsWith (p .layout) s id t)) ≡ n = ap (λ (a : ℕ). a + length (region (stringsWith (p .layout) s id t))) (sym (sectioned p s pl .smallFrom)) ∙ length-region in
+      rw (length-append, e, length-replicate) (omega (arith, e))

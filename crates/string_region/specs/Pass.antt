@@ -13,6 +13,7 @@ use Rattle.walk.specs.Places.{Stands}
 use Rattle.string_region.specs.declared.Shape.{Shape}
 use Rattle.string_region.specs.declared.Cursor.{Cursor}
 use Rattle.string_region.specs.declared.Turn.{Turn}
+use Rattle.string_region.specs.declared.Sizes.{Sizes}
 use Rattle.string_region.specs.Strings.{placeWith, Sums}
 
 -- a cursor stands behind the strings before it: the overflow entries that they had, those that they get, and their bytes
@@ -32,3 +33,9 @@ pub record Turned (p : Places) (s : List ℕ) (id : ℕ) (x : Shape) (c : Cursor
   pub over : r .next .over ≡ c .over + bit (isOver (asPlace (r .new)))
   pub at : r .next .at ≡ c .at + sizeOf (asPlace (r .new))
   pub reached : Reached (p .layout) s id x (r .next)
+
+-- the sizes of all strings, and that their sums stay small
+pub record Measured (p : Places) (s : List ℕ) (id : ℕ) (x : Shape) (z : Sizes) : Type 0 where
+  pub sums : Sums (p .layout) s id x (p .strings) (z .storage) (z .overflows)
+  pub few : z .overflows ≤ p .strings
+  pub low : z .storage ≤ p .strings * (sizeLimit * 2)

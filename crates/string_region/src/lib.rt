@@ -4,13 +4,14 @@ use string_tables::Place;
 ghost use mathlib.Core.Path.{_≡_};
 ghost use Prim.Native.Nat.{_+_, _*_, _≤_, _<_};
 ghost use lib.ListN.{length};
+ghost use Rattle.bits.specs.Bytes.{up4};
 ghost use Rattle.format.specs.Entry.{isOver};
 ghost use Rattle.footer.specs.Finalize.{sizeLimit};
 ghost use Rattle.image.specs.Admitted.{Admitted};
 ghost use Rattle.sections.specs.Places.{Placed};
 ghost use Rattle.string_tables.specs.Strings.{asPlace};
-ghost use Rattle.string_region.specs.Strings.{asString, Shaped, placeWith, Sums};
-ghost use Rattle.string_region.specs.Pass.{Reached, Turned};
+ghost use Rattle.string_region.specs.Strings.{asString, Shaped, placeWith};
+ghost use Rattle.string_region.specs.Pass.{Reached, Turned, Measured};
 
 // What is known of a string without its bytes. The count is of bytes for a narrow string, of 16-bit
 // units for a wide one.
@@ -116,7 +117,7 @@ pub fn take_turn(image: &[u8], p: Places, id: usize, new: Shape, c: Cursor) -> T
 pub fn measure(image: &[u8], p: Places, id: usize, new: Shape) -> Sizes
     requires { ⌜ Placed p (now image) × Admitted (p .layout) (now image) ⌝ }
     requires { ⌜ new .count ≤ sizeLimit ⌝ }
-    ensures { λ r. ⌜ Sums (p .layout) (now (image .entry)) id new (p .strings) (r .storage) (r .overflows) ⌝ }
+    ensures { λ r. ⌜ Measured p (now (image .entry)) id new r ⌝ }
 {
     let mut c = Cursor {
         string: 0,
@@ -132,4 +133,13 @@ pub fn measure(image: &[u8], p: Places, id: usize, new: Shape) -> Sizes
         storage: c.at,
         overflows: c.over,
     }
+}
+
+// Where the tail starts behind tables and storage of these sizes; the small table stays as it is.
+pub fn new_tail(p: Places, sizes: Sizes) -> usize
+    requires { ⌜ (p .«over_at» ≤ sizeLimit) × (sizes .overflows ≤ sizeLimit) × (sizes .storage ≤ sizeLimit * (sizeLimit * 2)) ⌝ }
+    ensures { λ r. ⌜ r ≡ up4 (p .«over_at» + sizes .overflows * 8 + sizes .storage) ⌝ }
+{
+    let storage_at = sections::entry_at(p.over_at, sizes.overflows, format::OVERFLOW_ENTRY);
+    sections::round_up(storage_at + sizes.storage)
 }

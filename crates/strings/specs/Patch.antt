@@ -15,14 +15,14 @@ use Rattle.format.specs.Hash.{hashOf}
 use Rattle.format.specs.Move.{moved}
 use Rattle.footer.specs.Footer.{same}
 use Rattle.footer.specs.Finalize.{sizeLimit, lengthed, sealed}
-use Rattle.image.specs.Sections.{stringsIn, hashesAt, smallAt, storageAt, tailAt}
+use Rattle.image.specs.Sections.{stringsIn, hashesAt, storageAt, tailAt}
 use Rattle.image.specs.Strings.{Str, sizeOf, placeAt, stringOf, unitsOf}
 use Rattle.image.specs.Kinds.{isIdentifier, rankOf}
 use Rattle.image.specs.Admission.{checks}
-use Rattle.image.specs.Rebuild.{region, padded, rebuild}
+use Rattle.image.specs.Rebuild.{rebuild}
 use Rattle.image.specs.Fit.{fieldsFit}
 use Rattle.unicode.specs.Utf8.{isUtf8, utf16}
-use Rattle.string_region.specs.Strings.{asString, stringsWith}
+use Rattle.string_region.specs.Strings.{asString, stringsWith, newTail}
 
 -- ---- in place: "entry narrow, value ASCII, byte lengths equal, and no other entry overlaps"
 
@@ -55,10 +55,6 @@ patched l s id value =
     sealed (lengthed (rehashed l s id (utf16 value) (pick (fitsInPlace l s id value) (inPlace l s id value) (rebuild l (stringsWith l s id (asString value)) s))))
 
 -- ---- refusals
-
--- the tail's new start after a rebuild with some strings
-unfoldable pub newTail : Layout → List Str → List ℕ → ℕ
-newTail l ts s = smallAt l s + length (padded (smallAt l s) (region ts))
 
 -- the length of the result
 unfoldable pub newLength : Layout → List ℕ → ℕ → List ℕ → ℕ

@@ -4,7 +4,7 @@ use mathlib.Core.Path.{_≡_}
 use Prim.Native.Nat.{_≤_, _-_}
 use native.Mathlib.Omega.{arith}
 use Rattle.string_region.specs.Pass.{Reached}
-use Rattle.string_region.proofs.PassLaws.{reached-none}
+use Rattle.string_region.proofs.PassLaws.{reached-none, measured}
 
 abbrev Inv-loop : tie.InvT-loop
 Inv-loop image p id new c₀ c = (c .string ≤ p .strings) × Reached (p .layout) image id new c
@@ -25,7 +25,7 @@ loop-again : tie.Need-loop-again Inv-loop μ-loop
 loop-again c = (omega (arith, c .before .take-turn .ensures .string), c .before .take-turn .ensures .reached)
 
 returns : tie.Need-returns Inv-loop μ-loop
-returns c = let l = c .before .before .before .loop in let e : l .c .string ≡ c .before .before .before .before .before .args .p .strings = omega arith in rw e at (l .inv .1 .sums)
+returns c = let a = c .before .before .before .before .before .args in let l = c .before .before .before .loop in measured (a .p) (a .image .now) (a .id) (a .new) (l .c) (omega arith) (l .inv .1)
 
 pub measure-spec : {M : Type 1} → statement M
 measure-spec =
