@@ -2,19 +2,20 @@
 use mathlib.Core.Path.{_≡_, refl, ap, sym, _∙_, subst⁻¹}
 use mathlib.Core.Bool.{Bool, true, false}
 use mathlib.Core.List.{List}
-use Prim.Native.Nat.{ℕ, suc, _+_, _*_, _≤_, _<_}
+use Prim.Native.Nat.{ℕ, suc, _+_, _-_, _*_, _≤_, _<_}
 use native.Mathlib.Numerals.{add-one}
 use native.Mathlib.Omega.{arith}
 use lib.Dec.{eqb}
-use lib.ListN.{length}
+use lib.ListN.{length, replicate}
 use lib.Seq.{sets}
 use Rattle.bits.specs.Choice.{pick, both}
-use Rattle.bits.specs.Bytes.{bytesAt, ascii}
+use Rattle.bits.specs.Bytes.{bytesAt, ascii, up4}
 use Rattle.format.specs.Entry as entry
 use Rattle.unicode.specs.Utf8.{utf16, unitBytes}
+use Rattle.footer.specs.Finalize.{sizeLimit}
 use Rattle.image.specs.Sections.{stringsIn, storageAt}
 use Rattle.image.specs.Strings.{Str, sizeOf, placeAt, stringOf}
-use Rattle.image.specs.Rebuild.{layFrom, storeOf, overs}
+use Rattle.image.specs.Rebuild.{layFrom, storeOf, overs, region, padded}
 use Rattle.sections.specs.declared.Places.{Places}
 use Rattle.sections.specs.Places.{Placed}
 use Rattle.sections.proofs.SectionLaws.{Sectioned, sectioned}
@@ -25,12 +26,14 @@ use Rattle.string_region.specs.declared.Shape.{Shape}
 use Rattle.string_region.specs.declared.Cursor.{Cursor}
 use Rattle.string_region.specs.declared.Turn.{Turn}
 use Rattle.string_region.specs.Strings.{asString, tabulate, stringWith, stringsWith, placed, Shaped}
-use Rattle.string_region.specs.Pass.{Reached, Turned}
+use Rattle.string_region.specs.declared.Sizes.{Sizes}
+use Rattle.string_region.specs.Pass.{Reached, Turned, Measured}
 use Rattle.string_region.proofs.ListLaws.{length-tab, overs-next, size-room, overs-room}
 use Rattle.string_region.proofs.ShapeLaws.{place-is}
+use Rattle.string_region.proofs.PassLaws.{storage-is, overflows-are}
 use Rattle.region_write.specs.declared.Target.{Target}
 use Rattle.region_write.specs.Region.{putEntry, putString, laid, Roomy, sourceOf, storedBytes}
-use Rattle.region_write.proofs.RegionLaws.{laid-next}
+use Rattle.region_write.proofs.RegionLaws.{laid-next, region-padded}
 
 -- the bytes of a value, by its width
 value-bytes : (value : List ℕ) (b : Bool) → asString value .wide ≡ b → pick b (unitBytes (utf16 value)) value ≡ asString value .bytes
@@ -140,3 +143,32 @@ pub all-strings : (p : Places) (s : List ℕ) → Placed p s → (id : ℕ) (t :
     → o1 ≡ laid to (tabulate i (stringWith (p .layout) s id t)) out → o1 ≡ laid to (stringsWith (p .layout) s id t) out
 unfolding stringsWith
 all-strings p s pl id t i e to out o1 h = let n : i ≡ stringsIn s = e ∙ sectioned p s pl .strings in rw n at h
+
+-- the region of strings that were measured
+module _ (p : Places) (s value : List ℕ) (pl : Placed p s) (id : ℕ) (x : Shape) (sh : Shaped x (asString value)) (z : Sizes) (m : Measured p s id x z)
+    (storage : ℕ) (e : storage ≡ p .«over_at» + z .overflows * 8) where
+  abbrev target : Target
+  target = record { «small_at» = p .«small_at»; «over_at» = p .«over_at»; «storage_at» = storage }
+
+  abbrev every : List Str
+  every = stringsWith (p .layout) s id (asString value)
+
+  length-every : length every ≡ p .strings
+  unfolding stringsWith
+  length-every = length-tab (stringsIn s) (stringWith (p .layout) s id (asString value)) ∙ sym (sectioned p s pl .strings)
+
+  pub roomy : (room : ℕ) → up4 (p .«over_at» + z .overflows * 8 + z .storage) ≤ room → p .«over_at» + z .overflows * 8 + z .storage ≤ sizeLimit → Roomy target every room
+  roomy room h k =
+      let sc : Sectioned p s = sectioned p s pl in
+      let a : z .storage ≡ length (storeOf every) = storage-is p s pl id x z m (asString value) sh in
+      let b : z .overflows ≡ overs (layFrom 0 every) = overflows-are p s pl id x z m (asString value) sh in
+      record { smalls = omega (arith, length-every); pairs = omega arith; store = omega arith; limit = omega arith }
+
+  pub region-put : (end up : ℕ) (out o1 o2 : List ℕ) → end ≡ storage + z .storage → up ≡ up4 end → o1 ≡ laid target every out → o2 ≡ sets o1 end (replicate (up - end) 0)
+      → o2 ≡ sets out (p .«small_at») (padded (p .«small_at») (region every))
+  unfolding stringsWith
+  region-put end up out o1 o2 d u f g =
+      let sc : Sectioned p s = sectioned p s pl in
+      let a : z .storage ≡ length (storeOf every) = storage-is p s pl id x z m (asString value) sh in
+      let b : z .overflows ≡ overs (layFrom 0 every) = overflows-are p s pl id x z m (asString value) sh in
+      region-padded target (stringWith (p .layout) s id (asString value)) (stringsIn s) (omega arith) (omega arith) end out o1 o2 (omega arith) f (rw u at g)

@@ -3,12 +3,14 @@
 use sections::Places;
 use string_region::Cursor;
 use string_region::Shape;
+use string_region::Sizes;
 use string_tables::Place;
 ghost use mathlib.Core.Path.{_≡_};
 ghost use Prim.Native.Nat.{_+_, _*_, _≤_, _<_};
 ghost use lib.ListN.{length};
 ghost use lib.Seq.{sets};
 ghost use Rattle.bits.specs.Choice.{both};
+ghost use Rattle.bits.specs.Bytes.{up4};
 ghost use Rattle.format.specs.Table.{rowOf, rowCount};
 ghost use Rattle.format.specs.Record.{withValue};
 ghost use Rattle.format.specs.Entry.{entry, bit, isOver};
@@ -17,8 +19,8 @@ ghost use Rattle.footer.specs.Finalize.{sizeLimit};
 ghost use Rattle.image.specs.Admitted.{Admitted};
 ghost use Rattle.image.specs.Rebuild.{region, padded};
 ghost use Rattle.sections.specs.Places.{Placed};
-ghost use Rattle.string_region.specs.Strings.{asString, stringWith, stringsWith, Shaped, Sums};
-ghost use Rattle.string_region.specs.Pass.{Reached};
+ghost use Rattle.string_region.specs.Strings.{asString, stringWith, stringsWith, Shaped};
+ghost use Rattle.string_region.specs.Pass.{Reached, Measured};
 ghost use Rattle.region_write.specs.Region.{putEntry, putString, laid, Roomy, sourceOf, storedBytes};
 
 // Where the new tables and the new storage start.
@@ -173,4 +175,32 @@ fn put_strings<'a>(
     while c.string < p.strings {
         c = put_string(out, image, value, p, to, id, new, c);
     }
+}
+
+// The small table, the overflow table and the storage of all strings, and zeros to a multiple of 4,
+// from the small table's place on.
+pub fn put_region<'a>(
+    out: &mut [u8],
+    image: &'a [u8],
+    value: &'a [u8],
+    p: Places,
+    id: usize,
+    new: Shape,
+    sizes: Sizes,
+)
+    requires { ⌜ Placed p (now image) × Admitted (p .layout) (now image) ⌝ }
+    requires { ⌜ (new .count ≤ sizeLimit) × Shaped new (asString (now value)) ⌝ }
+    requires { ⌜ Measured p (now image) id new sizes ⌝ }
+    requires { ⌜ (up4 (p .«over_at» + sizes .overflows * 8 + sizes .storage) ≤ length (now out)) × (p .«over_at» + sizes .overflows * 8 + sizes .storage ≤ sizeLimit) ⌝ }
+    ensures { λ _. ⌜ now (out .exit) ≡ sets (now (out .entry)) (p .«small_at») (padded (p .«small_at») (region (stringsWith (p .layout) (now (image .entry)) id (asString (now (value .entry)))))) ⌝ }
+{
+    let storage_at = sections::entry_at(p.over_at, sizes.overflows, format::OVERFLOW_ENTRY);
+    let to = Target {
+        small_at: p.small_at,
+        over_at: p.over_at,
+        storage_at,
+    };
+    put_strings(out, image, value, p, to, id, new);
+    let end = storage_at + sizes.storage;
+    bits::put_zeros(out, end, sections::round_up(end) - end);
 }
