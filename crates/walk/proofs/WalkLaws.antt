@@ -23,7 +23,7 @@ use Rattle.walk.specs.Places.{Stands}
 
 -- ---- the count
 
-bit-most : (b : Bool) → entry.bit b ≤ 1
+pub bit-most : (b : Bool) → entry.bit b ≤ 1
 bit-most true = omega arith
 bit-most false = omega arith
 
