@@ -5,12 +5,11 @@ use Prim.Native.Nat.{ℕ, zero, suc, _+_, _*_}
 use lib.Dec.{leb, ltb, eqb}
 use lib.ListN.{length, getD}
 use lib.Seq.{sets}
-use Rattle.bits.specs.Choice.{pick, both, either, implies, allBelow, Check, check, judge}
+use Rattle.bits.specs.Choice.{pick, both, either, Check, check, judge}
 use Rattle.bits.specs.Bytes.{bytesOf, ascii}
 use Rattle.bits.specs.Outcome.{Outcome, refused, made}
 use Rattle.format.specs.declared.Layout.{Layout}
 use Rattle.format.specs.Table as table
-use Rattle.format.specs.Entry.{Place}
 use Rattle.format.specs.Hash.{hashOf}
 use Rattle.format.specs.Move.{moved}
 use Rattle.footer.specs.Footer.{same}
@@ -22,17 +21,10 @@ use Rattle.image.specs.Admission.{checks}
 use Rattle.image.specs.Rebuild.{rebuild}
 use Rattle.image.specs.Fit.{fieldsFit}
 use Rattle.unicode.specs.Utf8.{isUtf8, utf16}
+use Rattle.overlap.specs.Overlap.{isAlone}
 use Rattle.string_region.specs.Strings.{asString, stringsWith, newTail}
 
 -- ---- in place: "entry narrow, value ASCII, byte lengths equal, and no other entry overlaps"
-
--- "Overlap is start < other end and other start < end"
-abbrev pub overlap : Place → Place → Bool
-overlap p q = both (ltb (p .at) (q .at + sizeOf q)) (ltb (q .at) (p .at + sizeOf p))
-
--- no other entry overlaps that of id
-unfoldable pub isAlone : Layout → List ℕ → ℕ → Bool
-isAlone l s id = allBelow (stringsIn s) (λ j. implies (not (eqb j id)) (not (overlap (placeAt l s id) (placeAt l s j))))
 
 unfoldable pub fitsInPlace : Layout → List ℕ → ℕ → List ℕ → Bool
 fitsInPlace l s id value =
