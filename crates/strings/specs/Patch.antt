@@ -1,7 +1,7 @@
 -- A string patch: by id and by value. 01, Strings and Refusal numbers.
 use mathlib.Core.Bool.{Bool, true, false, not}
 use mathlib.Core.List.{List, [], _∷_, _++_}
-use Prim.Native.Nat.{ℕ, zero, suc, _+_, _*_}
+use Prim.Native.Nat.{ℕ, _+_, _*_}
 use lib.Dec.{leb, ltb, eqb}
 use lib.ListN.{length, getD}
 use lib.Seq.{sets}
@@ -12,15 +12,15 @@ use Rattle.format.specs.declared.Layout.{Layout}
 use Rattle.format.specs.Table as table
 use Rattle.format.specs.Hash.{hashOf}
 use Rattle.format.specs.Move.{moved}
-use Rattle.footer.specs.Footer.{same}
 use Rattle.footer.specs.Finalize.{sizeLimit, lengthed, sealed}
 use Rattle.image.specs.Sections.{stringsIn, hashesAt, storageAt, tailAt}
-use Rattle.image.specs.Strings.{Str, sizeOf, placeAt, stringOf, unitsOf}
+use Rattle.image.specs.Strings.{sizeOf, placeAt}
 use Rattle.image.specs.Kinds.{isIdentifier, rankOf}
 use Rattle.image.specs.Admission.{checks}
 use Rattle.image.specs.Rebuild.{rebuild}
 use Rattle.image.specs.Fit.{fieldsFit}
 use Rattle.unicode.specs.Utf8.{isUtf8, utf16}
+use Rattle.find_string.specs.Find.{findId}
 use Rattle.overlap.specs.Overlap.{isAlone}
 use Rattle.string_region.specs.Strings.{asString, stringsWith, newTail}
 
@@ -72,15 +72,6 @@ unfoldable pub patchById : Layout → List ℕ → ℕ → List ℕ → Outcome
 patchById l s id value = pick (eqb (byIdRefusal l s id value) 0) (made (patched l s id value)) (refused (byIdRefusal l s id value))
 
 -- ---- by value: "no string has the old value's UTF-16 units; else the lowest such id is patched"
-
--- the first of the ids i, i + 1, .. below i + n whose string has these units, else i + n
-unfoldable pub findFrom : Layout → List ℕ → List ℕ → ℕ → ℕ → ℕ
-findFrom l s units i zero = i
-findFrom l s units i (suc n) = pick (same (unitsOf (stringOf l s i)) units) i (findFrom l s units (suc i) n)
-
--- the lowest id with these units, else the string count
-unfoldable pub findId : Layout → List ℕ → List ℕ → ℕ
-findId l s units = findFrom l s units 0 (stringsIn s)
 
 -- "by value 8 (old, new), 14; .. then 11, 12"
 unfoldable pub byValueRefusal : Layout → List ℕ → List ℕ → List ℕ → ℕ
