@@ -29,5 +29,5 @@ pub record Ready (p : Places) (s value : List ℕ) (id : ℕ) (x : Shape) (z : S
   pub shaped : Shaped x (asString value)
   pub measured : Measured p s id x z
   pub tail : to ≡ up4 (p .«over_at» + z .overflows * 8 + z .storage)
-  pub room : room ≡ length s - p .tail + to
+  pub long : room ≡ length s - p .tail + to
   pub limit : room ≤ sizeLimit
