@@ -4,13 +4,15 @@ use sections::Places;
 use string_tables::Place;
 ghost use mathlib.Core.Path.{_≡_};
 ghost use mathlib.Core.Bool.{true};
-ghost use Prim.Native.Nat.{ℕ, _+_, _≤_, _<_};
+ghost use Prim.Native.Nat.{ℕ, _+_, _*_, _≤_, _<_};
+ghost use lib.ListN.{length};
 ghost use Rattle.format.specs.Entry.{bit};
-ghost use Rattle.image.specs.Strings.{isFull, overBefore, smallIn};
+ghost use Rattle.image.specs.Strings.{isFull, overBefore, smallIn, unitSize};
 ghost use Rattle.image.specs.Kinds.{kindIn, isIdentifierRun, isIdentifier, rankOf};
 ghost use Rattle.image.specs.Admitted.{Admitted};
 ghost use Rattle.sections.specs.Places.{Placed};
 ghost use Rattle.walk.specs.Places.{Stands};
+ghost use Rattle.walk.specs.Units.{unitAt};
 ghost use Rattle.walk.specs.Runs.{runAt, RunOf};
 
 // ---- strings
@@ -80,6 +82,18 @@ pub fn locate(image: &[u8], p: Places, id: usize) -> Place
 {
     let k = overflows_before(image, p, id);
     place_at(image, p, id, k)
+}
+
+// Unit `i` of a string whose bytes start at `start`. A narrow byte is a unit.
+pub fn unit_at(image: &[u8], start: usize, wide: bool, i: usize) -> u64
+    requires { ⌜ start + i * unitSize wide + unitSize wide ≤ length (now image) ⌝ }
+    ensures { λ r. ⌜ (r ≡ unitAt (now (image .entry)) start wide i) × (r < 65536) ⌝ }
+{
+    if wide {
+        let at = start + i * 2;
+        return bits::wide(image[at]) + bits::wide(image[at + 1]) * 256;
+    }
+    bits::wide(image[start + i])
 }
 
 // ---- kinds

@@ -1,0 +1,4 @@
+pub mod FunctionLaws
+pub mod GroupLaws
+pub mod EditLaws
+pub mod MovableLaws

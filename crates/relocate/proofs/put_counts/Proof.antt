@@ -1,0 +1,12 @@
+use borrow.Author.Needs.{needs}
+use Rattle.relocate.proofs.put_counts.Statement.{statement}
+use Rattle.relocate.proofs.put_counts.Tie as tie
+use Rattle.relocate.proofs.EditLaws.{counts-put}
+
+returns : tie.Need-returns
+returns c = let a = c .before .before .before .before .before .before .before .before .before .before .before .args in counts-put (a .out .now) _ _ (a .overflows) (a .storage) (rw (c .before .before .before .before .before .before .before .before .at .ensures) at (c .before .before .before .before .before .before .before .put-word .ensures)) (rw (c .before .before .before .at2 .ensures) at (c .before .before .put-word2 .ensures))
+
+pub put-counts-spec : {M : Type 1} → statement M
+put-counts-spec =
+    tie.close
+    (tie.spec (λ c κs. search needs) (λ c κs. search needs) (λ c κs. search needs) (λ c κs. search needs) (λ c. search needs) returns)

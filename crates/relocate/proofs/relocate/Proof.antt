@@ -1,0 +1,22 @@
+use borrow.Author.Needs.{needs}
+use Rattle.relocate.proofs.relocate.Statement.{statement}
+use Rattle.relocate.proofs.relocate.Tie as tie
+use native.Mathlib.Omega.{arith}
+use Rattle.relocate.proofs.EditLaws.{header-there, relocated-is}
+
+header-word-requires : tie.Need-header-word-requires
+header-word-requires c κs = let a = c .before .before .args in (search needs, omega (arith, header-there (a .layout) (a .image .now) (a .m) _ (c .before .before .pre) .0))
+
+put-debug-requires : tie.Need-put-debug-requires
+put-debug-requires c κs = let a = c .before .before .before .before .args in let h = header-there (a .layout) (a .image .now) (a .m) _ (c .before .before .before .before .pre) in (h .0, h .1, c .before .before .before .before .pre .most)
+
+relocate-functions-requires : tie.Need-relocate-functions-requires
+relocate-functions-requires c κs = (rw (c .before .before .before .put-debug .kept .0) (c .before .before .before .before .before .before .before .before .pre), c .before .before .before .before .before .header-word .ensures .0)
+
+returns : tie.Need-returns
+returns c = let a = c .before .before .before .before .before .before .before .before .before .before .before .args in relocated-is (a .layout) (a .image .now) (a .m) _ _ (c .before .before .before .before .before .before .before .before .before .before .before .pre) (c .before .before .before .before .before .before .before .before .header-word .ensures .0) (a .out .now) _ _ (c .before .before .before .before .before .before .put-debug .ensures) (c .before .before .relocate-functions .ensures)
+
+pub relocate-spec : {M : Type 1} → statement M
+relocate-spec =
+    tie.close
+    (tie.spec header-word-requires put-debug-requires relocate-functions-requires (λ c. search needs) returns)
