@@ -1,7 +1,7 @@
 -- What is judged of a body and of what takes its place. 01, Bodies: "9 is given when another body shares a byte with it, an empty one starts strictly within it,
 -- any info place lies from its start to below the threshold, or a nonzero debug offset is below the threshold".
 use mathlib.Core.Path.{_≡_}
-use mathlib.Core.Bool.{Bool, true, false, not}
+use mathlib.Core.Bool.{Bool, not}
 use mathlib.Core.List.{List}
 use Prim.Native.Nat.{ℕ, _+_}
 use lib.Dec.{leb, ltb, eqb}

@@ -4,7 +4,6 @@ use Prim.Native.Nat.{_≤_, _-_}
 use mathlib.Core.Path.{_≡_}
 use mathlib.Core.Bool.{true}
 use native.Mathlib.Omega.{arith}
-use borrow.Author.Needs.{needs}
 use Rattle.bits.specs.Choice.{allBelow}
 use Rattle.bits.proofs.PassLaws.{pass-none, pass-next}
 use Rattle.sections.proofs.SectionLaws.{sectioned}
