@@ -1,8 +1,9 @@
-//! The judge: the Rust's answers to streams of calls, the streams, and the comparison.
+//! The judge: the answers of the Rust, or of a second reading of document 01, to streams of calls; the
+//! streams; and the comparison.
 
-pub mod departures;
-pub mod fixed;
+pub mod builder;
+pub mod family;
+pub mod image;
 pub mod leaves;
 pub mod random;
-pub mod record;
 pub mod stream;

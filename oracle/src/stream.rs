@@ -2,15 +2,14 @@
 
 use std::io::{self, Read, Write};
 
-use crate::leaves::{Leaf, LEAVES};
+use crate::family::{Family, Function};
 
 pub const ARGUMENTS: usize = 32;
 pub const RESULTS: usize = 10;
-pub const LONGEST_BUFFER: usize = 256;
 
 /// A call: its number, the buffer's length, the arguments, the buffer.
 pub struct Call {
-    pub leaf: &'static Leaf,
+    pub function: &'static Function,
     pub arguments: [u32; ARGUMENTS],
     pub buffer: Vec<u8>,
 }
@@ -24,23 +23,23 @@ pub struct Answer {
 }
 
 impl Call {
-    pub fn new(leaf: &'static Leaf, arguments: &[u32], buffer: Vec<u8>) -> Call {
-        Call { leaf, arguments: filled(arguments), buffer }
+    pub fn new(function: &'static Function, arguments: &[u32], buffer: Vec<u8>) -> Call {
+        Call { function, arguments: filled(arguments), buffer }
     }
 
     /// None at the stream's end, and for bytes that are no call: there the answering program stops.
-    pub fn read(from: &mut impl Read) -> Option<Call> {
+    pub fn read(family: &Family, from: &mut impl Read) -> Option<Call> {
         let [number, length] = read_words(from)?;
-        let leaf = LEAVES.iter().find(|leaf| leaf.number == number)?;
-        if length as usize > LONGEST_BUFFER {
+        let function = family.functions.iter().find(|function| function.number == number)?;
+        if length as usize > family.longest_buffer {
             return None;
         }
         let arguments = read_words(from)?;
-        Some(Call { leaf, arguments, buffer: read_bytes(from, length as usize)? })
+        Some(Call { function, arguments, buffer: read_bytes(from, length as usize)? })
     }
 
     pub fn write(&self, to: &mut impl Write) -> io::Result<()> {
-        write_words(to, &[self.leaf.number, self.buffer.len() as u32])?;
+        write_words(to, &[self.function.number, self.buffer.len() as u32])?;
         write_words(to, &self.arguments)?;
         to.write_all(&self.buffer)
     }

@@ -2,13 +2,13 @@
 use mathlib.Core.Path.{_≡_, refl, sym, _∙_}
 use mathlib.Core.Bool.{Bool, true, false}
 use mathlib.Core.Logic.{_⊎_, inl, inr, _↔_}
-use mathlib.Core.List.{List, [], _∷_}
+use mathlib.Core.List.{List, [], _∷_, _++_}
 use Prim.Native.Nat.{ℕ, _≤_, _<_}
 use native.Mathlib.Omega.{arith}
-use borrow.Author.Tests.{leb-true, le-leb, eqb-true}
-use lib.Dec.{leb, eqb}
+use borrow.Author.Tests.{leb-true, le-leb, ltb-true, eqb-true, ne-eqb}
+use lib.Dec.{leb, ltb, eqb}
 use Rattle.bits.specs.Choice.{pick, both, either, Check, judge}
-use Rattle.bits.proofs.TestLaws.{both-0, both-1, either-or, below-or}
+use Rattle.bits.proofs.TestLaws.{both-0, both-1, either-or, either-true, below-or}
 
 -- a check that is passed over
 pub judge-pass : (c : Check) (cs : List Check) → 0 < c .number → judge (c ∷ cs) ≡ 0 → (c .met ≡ false) × (judge cs ≡ 0)
@@ -99,6 +99,47 @@ module _ (m : ℕ) where
       go true e f w l = (l, f)
       go false e f w l =
           elim w [ inl h ↦ let z : _≡_ {A = ℕ} 0 1 = cc (sym e ∙ h) in absurd (omega arith) | inr h ↦ (omega (arith, h .0), h .1) ]
+
+-- ---- checks behind others
+
+-- no check has the number 0
+abbrev pub numbered : List Check → Bool
+numbered [] = true
+numbered (c ∷ cs) = both (ltb 0 (c .number)) (numbered cs)
+
+-- the later ones are judged where none of the first is met
+pub judge-append : (xs ys : List Check) → numbered xs ≡ true → judge (xs ++ ys) ≡ pick (eqb (judge xs) 0) (judge ys) (judge xs)
+unfolding judge
+judge-append [] ys t = refl
+judge-append (c ∷ cs) ys t =
+    let h : 0 < c .number = ltb-true 0 (c .number) (both-0 (ltb 0 (c .number)) (numbered cs) t) in
+    go (c .met) (ne-eqb (c .number) 0 (λ e. omega arith)) (judge-append cs ys (both-1 (ltb 0 (c .number)) (numbered cs) t))
+  where
+    go : (b : Bool) → eqb (c .number) 0 ≡ false → judge (cs ++ ys) ≡ pick (eqb (judge cs) 0) (judge ys) (judge cs)
+        → pick b (c .number) (judge (cs ++ ys)) ≡ pick (eqb (pick b (c .number) (judge cs)) 0) (judge ys) (pick b (c .number) (judge cs))
+    go true e r = rw e
+    go false e r = r
+
+pub given-first : (n : ℕ) (xs ys : List Check) → given n xs ≡ true → given n (xs ++ ys) ≡ true
+given-first n [] ys g = absurd (let z : _≡_ {A = ℕ} 0 1 = cc in omega arith)
+given-first n (c ∷ cs) ys g =
+    elim (either-or (both (eqb (c .number) n) (c .met)) (given n cs) g) [
+      | inl h ↦ rw h refl
+      | inr h ↦ simp (given-first n cs ys h, either-true)
+    ]
+
+pub given-last : (n : ℕ) (xs ys : List Check) → given n ys ≡ true → given n (xs ++ ys) ≡ true
+given-last n [] ys g = g
+given-last n (c ∷ cs) ys g = simp (given-last n cs ys g, either-true)
+
+pub shows-append : (F : ℕ → Type 0) (xs ys : List Check) → Shows F xs → Shows F ys → Shows F (xs ++ ys)
+shows-append F [] ys nothing s = s
+shows-append F (c ∷ cs) ys (f also r) s = f also shows-append F cs ys r s
+
+-- what is shown of checks may be said in other words
+pub shows-map : (F G : ℕ → Type 0) (cs : List Check) → ((n : ℕ) → F n → G n) → Shows F cs → Shows G cs
+shows-map F G [] w nothing = nothing
+shows-map F G (c ∷ cs) w (f also r) = (λ t. w (c .number) (f t)) also shows-map F G cs w r
 
 -- ---- exactly: F names what is wrong, number by number
 

@@ -23,7 +23,7 @@ use Rattle.image.proofs.CheckLaws.{overflows-counted, overflows-numbere
 
 -- ---- a byte in common, and two starts that each lie before the other's end
 
-share : (p m q n : ℕ) → 0 < m → 0 < n → p < q + n → q < p + m → ShareByte p m q n
+pub share : (p m q n : ℕ) → 0 < m → 0 < n → p < q + n → q < p + m → ShareByte p m q n
 share p m q n a b h k =
     elim (below-or p q) [ inl t ↦ (q, (omega arith, omega arith), (omega arith, omega arith)) | inr t ↦ (p, (omega arith, omega arith), (omega arith, omega arith)) ]
 
@@ -34,7 +34,7 @@ some-words (Legacy big sources) = omega arith
 
 module _ (l : Layout) (s : List ℕ) where
   -- a check that is met is a fault of its number
-  shows : Shows (Fault l s) (checks l s)
+  pub shows : Shows (Fault l s) (checks l s)
   unfolding checks
   shows =
       (λ t. short (rw (records-at l) at (ltb-true (length s) (table.recordRow l .at + footerLength) t)))
@@ -58,7 +58,7 @@ module _ (l : Layout) (s : List ℕ) where
       also nothing
 
   -- and a fault's check is met
-  gives : (n : ℕ) → Fault l s n → given n (checks l s) ≡ true
+  pub gives : (n : ℕ) → Fault l s n → given n (checks l s) ≡ true
   unfolding checks
   gives n (short h) = rw (lt-ltb (length s) (table.recordRow l .at + footerLength) (rw (records-at l) h))
   gives n (long h) = simp (lt-ltb 67108864 (length s) h, either-true)

@@ -201,7 +201,7 @@ module _ (l : Layout) (i : ℕ) (body : List ℕ) (s : List ℕ) (ad : Admitted 
   unfolding resize
   resized-middle = floor-agree l s ad c parted
 
-  resized-words : Agree s out (table.functionCount .at) (table.storageSize .at + table.storageSize .width)
+  pub resized-words : Agree s out (table.functionCount .at) (table.storageSize .at + table.storageSize .width)
   resized-words = resized-front 40 64 (omega arith)
 
   resized-kinds : Agree s out (kindsAt l s) (hashesAt l s)

@@ -1,4 +1,4 @@
-// The calls by their numbers, with arguments in the order of the judge's table, oracle/src/leaves.rs.
+// The calls by their numbers, with arguments in the order of the judge's table, oracle/src/leaves.
 use frames::Answer;
 use frames::HEAD;
 use frames::Status;

@@ -7,6 +7,7 @@ use native.Mathlib.Numerals.{add-one}
 use native.Mathlib.Omega.{arith}
 use lib.ListN.{length, set, take, drop, getD, length-drop, length-append, replicate, length-replicate, getD-replicate}
 use lib.Seq.{take-all, take-append-le, drop-append-le, drop-drop, sets, sets-eq, getD-set-other}
+use Rattle.bits.proofs.ListLaws.{AllBelow, below-append}
 use Rattle.bits.proofs.WriteLaws.{sets-append, sets-off, sets-same}
 use Rattle.sha1.specs.BigEndian.{bigBytes}
 use Rattle.sha1.specs.Sha1.{zeros, padding, padded, blockAt, initial, hashed, hashes, digestBytes, digest}
@@ -92,3 +93,21 @@ whole s last h c a p q =
 pub length-digest : (m : List ℕ) → length (digest m) ≡ 20
 unfolding digest
 length-digest m = length-digestBytes (hashes (length (padded m) / 64) initial (padded m))
+
+-- its bytes are bytes
+big-below : (n x : ℕ) → AllBelow 256 (bigBytes n x)
+unfolding bigBytes
+big-below zero x p = omega arith
+big-below (suc n) x zero = omega arith
+big-below (suc n) x (suc p) = big-below n x p
+
+big-before : (n x : ℕ) (ys : List ℕ) → AllBelow 256 ys → AllBelow 256 (bigBytes n x ++ ys)
+big-before n x ys h = below-append 256 (omega arith) (bigBytes n x) ys (big-below n x) h
+
+pub digest-below : (m : List ℕ) → AllBelow 256 (digest m)
+unfolding digest digestBytes
+digest-below m =
+    let h : List ℕ = hashes (length (padded m) / 64) initial (padded m) in
+    let w : ℕ → List ℕ = λ i. bigBytes 4 (getD h i 0) in
+    big-before 4 (getD h 0 0) (w 1 ++ (w 2 ++ (w 3 ++ w 4)))
+    (big-before 4 (getD h 1 0) (w 2 ++ (w 3 ++ w 4)) (big-before 4 (getD h 2 0) (w 3 ++ w 4) (big-before 4 (getD h 3 0) (w 4) (big-below 4 (getD h 4 0)))))

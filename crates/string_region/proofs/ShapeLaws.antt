@@ -23,7 +23,7 @@ use Rattle.string_region.proofs.ListLaws.{size-next, overs-next}
 
 -- ---- a value
 
-length-units : (us : List ℕ) → length (unitBytes us) ≡ length us * 2
+pub length-units : (us : List ℕ) → length (unitBytes us) ≡ length us * 2
 unfolding unitBytes
 length-units [] = refl
 length-units (u ∷ us) = length-append (bytesOf 2 u) (unitBytes us) ∙ rw (length-bytesOf 2 u, length-units us) (omega arith)

@@ -2,6 +2,7 @@
 
 #[derive(Debug)]
 pub enum Error {
+    Io(std::io::Error),
     Write(String),
 }
 

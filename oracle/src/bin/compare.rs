@@ -1,10 +1,10 @@
-//! compare CALLS MINE THEIRS: holds the answers in MINE to the Rust's in THEIRS, frame by frame. Prints
-//! one line with the counts, then the smallest call whose answers differ and that no departure explains.
+//! compare FAMILY CALLS MINE THEIRS: holds the answers in MINE to the judge's in THEIRS, frame by frame.
+//! Prints one line with the counts, then the smallest call whose answers differ and that no departure
+//! explains.
 
 use std::process::ExitCode;
 
-use oracle::departures::LISTED;
-use oracle::leaves::Argument;
+use oracle::family::{Argument, Departure, Family};
 use oracle::stream::{Answer, Call};
 
 /// A call on which the two sides differ. An answer is absent where a file ends before it.
@@ -16,24 +16,27 @@ struct Difference {
 }
 
 fn main() -> ExitCode {
-    let files: Vec<String> = std::env::args().skip(1).collect();
-    let [calls, mine, theirs] = &files[..] else {
-        eprintln!("usage: compare CALLS MINE THEIRS");
+    let given = Family::of_arguments();
+    let Some((family, [calls, mine, theirs])) =
+        given.as_ref().map(|(family, files)| (family, &files[..]))
+    else {
+        eprintln!("usage: compare FAMILY CALLS MINE THEIRS");
         return ExitCode::from(2);
     };
+    let listed = family.departures;
     let bytes = [calls, mine, theirs].map(|file| std::fs::read(file).expect(file));
     let [mut calls, mut mine, mut theirs] = bytes.each_ref().map(|bytes| &bytes[..]);
 
     let (mut count, mut equal) = (0, 0);
-    let mut departed = [0; LISTED.len()];
+    let mut departed = vec![0; listed.len()];
     let mut unexplained = vec![];
-    while let Some(call) = Call::read(&mut calls) {
+    while let Some(call) = Call::read(family, &mut calls) {
         count += 1;
         let length = call.buffer.len();
         let (mine, theirs) = (Answer::read(&mut mine, length), Answer::read(&mut theirs, length));
         if mine.is_some() && mine == theirs {
             equal += 1;
-        } else if let Some(i) = departure(&call, &mine, &theirs) {
+        } else if let Some(i) = departure(listed, &call, &mine, &theirs) {
             departed[i] += 1;
         } else {
             unexplained.push(Difference { place: count, call, mine, theirs });
@@ -41,9 +44,12 @@ fn main() -> ExitCode {
     }
 
     let departures: String =
-        LISTED.iter().zip(departed).map(|(one, times)| format!(", {} {times}", one.name)).collect();
+        listed.iter().zip(departed).map(|(one, times)| format!(", {} {times}", one.name)).collect();
     let failures = unexplained.len();
-    println!("oracle: {count} calls: equal {equal}{departures}, unexplained {failures}");
+    println!(
+        "oracle: {}: {count} calls: equal {equal}{departures}, unexplained {failures}",
+        family.name
+    );
     if let Some(smallest) = unexplained.iter().min_by_key(|difference| size(difference)) {
         print!("{}", readable(smallest));
     }
@@ -54,9 +60,14 @@ fn main() -> ExitCode {
     ExitCode::from(u8::from(failures > 0 || rest != [0; 3]))
 }
 
-fn departure(call: &Call, mine: &Option<Answer>, theirs: &Option<Answer>) -> Option<usize> {
+fn departure(
+    listed: &[Departure],
+    call: &Call,
+    mine: &Option<Answer>,
+    theirs: &Option<Answer>,
+) -> Option<usize> {
     let (mine, theirs) = (mine.as_ref()?, theirs.as_ref()?);
-    LISTED.iter().position(|departure| (departure.explains)(call, mine, theirs))
+    listed.iter().position(|departure| (departure.explains)(call, mine, theirs))
 }
 
 /// The fewest buffer bytes, then the fewest bits set. A missing answer counts as larger than any
@@ -71,8 +82,8 @@ fn size(Difference { place, call, mine, theirs }: &Difference) -> (bool, usize, 
 }
 
 fn readable(Difference { place, call, mine, theirs }: &Difference) -> String {
-    let mut text = format!("the smallest of them, call {place}: {}\n", call.leaf.name);
-    for (argument, word) in call.leaf.arguments.iter().zip(call.arguments) {
+    let mut text = format!("the smallest of them, call {place}: {}\n", call.function.name);
+    for (argument, word) in call.function.arguments.iter().zip(call.arguments) {
         text += &format!("  {} = {word:#x}", argument.name());
         text += &match argument {
             Argument::Delta => format!(" ({})\n", word as i32),

@@ -2,7 +2,6 @@ use borrow.Author.Needs.{needs}
 use Rattle.relocate.proofs.function_after.Statement.{statement}
 use Rattle.relocate.proofs.function_after.Tie as tie
 use Rattle.function_table.specs.Functions.{asFunc}
-use Rattle.format.specs.Move.{moved}
 use Rattle.relocate.proofs.FunctionLaws.{after-strings, after-other, after-own}
 
 returns : tie.Need-returns

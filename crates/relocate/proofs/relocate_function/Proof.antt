@@ -2,8 +2,6 @@ use borrow.Author.Needs.{needs}
 use Rattle.relocate.proofs.relocate_function.Statement.{statement}
 use Rattle.relocate.proofs.relocate_function.Tie as tie
 use native.Mathlib.Omega.{arith}
-use Rattle.bits.specs.Words.{whole}
-use Rattle.function_table.specs.Functions.{asFunc}
 use Rattle.sections.proofs.SectionLaws.{records-few}
 use Rattle.image.proofs.PlaceLaws.{record-in}
 use Rattle.function_table.proofs.ReadLaws.{header-fits}

@@ -2,3 +2,4 @@
 
 pub mod footer;
 pub mod header_write;
+pub mod serialize;

@@ -45,7 +45,7 @@ impl Field {
         (1 << self.width) - 1
     }
 
-    fn get(self, record: u128) -> u32 {
+    pub fn get(self, record: u128) -> u32 {
         (record >> self.place) as u32 & self.most() as u32
     }
 

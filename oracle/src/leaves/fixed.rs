@@ -1,8 +1,9 @@
 //! The fixed calls: every function, each limit. They hold no call on which a listed departure bears,
 //! so that the recorded answers are at once the Rust's and ours.
 
-use crate::leaves::{leaf, Argument, Leaf, LEAVES};
-use crate::record::{self, set_pointer, Field, Pointer, INFO, OFFSET};
+use super::record::{self, set_pointer, Field, Pointer, INFO, OFFSET};
+use super::{buffer_of, FAMILY, LEAVES};
+use crate::family::{halves, Argument, Function};
 use crate::stream::Call;
 
 /// Both ends of 32 bits, and both signs of one step, as argument words.
@@ -23,19 +24,23 @@ pub fn calls() -> Vec<Call> {
     calls
 }
 
+fn leaf(name: &str) -> &'static Function {
+    FAMILY.function(name)
+}
+
 /// A call on a record that fills its slot.
 fn on_record(name: &str, arguments: &[u32], record: u128) -> Call {
     let leaf = leaf(name);
-    let slot = record.to_le_bytes()[..leaf.buffer.least()].to_vec();
+    let slot = record.to_le_bytes()[..buffer_of(leaf).least()].to_vec();
     Call::new(leaf, arguments, slot)
 }
 
 /// Arguments that differ from each other and under which no function refuses a buffer that is long enough.
-fn plain_arguments(leaf: &Leaf) -> Vec<u32> {
+fn plain_arguments(leaf: &Function) -> Vec<u32> {
     let plain = |(i, argument): (usize, &Argument)| match argument {
         Argument::Word(_) => 0x0101_0101 * (i as u32 + 1),
         Argument::Flag(_) | Argument::Delta => 1,
-        Argument::PositionLow | Argument::PositionHigh => 0,
+        Argument::LongLow(_) | Argument::LongHigh(_) => 0,
     };
     leaf.arguments.iter().enumerate().map(plain).collect()
 }
@@ -43,7 +48,7 @@ fn plain_arguments(leaf: &Leaf) -> Vec<u32> {
 /// Each buffer empty, short by one, exact, and longer by one.
 fn buffer_lengths(calls: &mut Vec<Call>) {
     for leaf in &LEAVES {
-        let least = leaf.buffer.least();
+        let least = buffer_of(leaf).least();
         let mut lengths = vec![0, least.saturating_sub(1), least, least + 1];
         lengths.dedup();
         for length in lengths {
@@ -68,7 +73,7 @@ fn single_arguments(calls: &mut Vec<Call>) {
                     (_, value) => value,
                 };
                 let arguments: Vec<u32> = (0..count).map(value).collect();
-                calls.push(Call::new(leaf, &arguments, vec![0; leaf.buffer.least()]));
+                calls.push(Call::new(leaf, &arguments, vec![0; buffer_of(leaf).least()]));
             }
         }
     }
@@ -84,7 +89,7 @@ fn header_flags(calls: &mut Vec<Call>) {
             arguments[i] = combination >> bit & 1;
         }
         for byte in [0, 0xff] {
-            calls.push(Call::new(leaf, &arguments, vec![byte; leaf.buffer.least()]));
+            calls.push(Call::new(leaf, &arguments, vec![byte; buffer_of(leaf).least()]));
         }
     }
 }
@@ -153,8 +158,8 @@ fn large_pointers(calls: &mut Vec<Call>) {
 /// Words at both ends of 32 bits, and positions up to the last for which `pos + 4` fits 64 bits.
 fn words(calls: &mut Vec<Call>) {
     let mut shift = |position: u64, delta: u32, buffer: Vec<u8>| {
-        let arguments = [position as u32, (position >> 32) as u32, delta];
-        calls.push(Call::new(leaf("shift_u32_at"), &arguments, buffer));
+        let [low, high] = halves(position);
+        calls.push(Call::new(leaf("shift_u32_at"), &[low, high, delta], buffer));
     };
     for word in [0, 1, 1 << 31, u32::MAX] {
         for delta in DELTAS {

@@ -1,41 +1,30 @@
-//! The calls: which function answers each, and what it takes.
+//! Calls 1 to 13: the functions of header_write.rs, and the readers of a record.
 
-use std::panic::{catch_unwind, AssertUnwindSafe};
+mod fixed;
+mod random;
+pub mod record;
 
 use hbc_decomp::error::Result;
 use hbc_decomp::write::header_write::*;
 
-use crate::record::{self, Field};
+use crate::family::Argument::*;
+use crate::family::{long, Answered, Departure, Family, Function, STOPPED};
 use crate::stream::{words, Answer, Call, ARGUMENTS};
+use record::Field;
 
-pub const DONE: u32 = 0;
 /// Refusal 1 of document 01, and every Err of the Rust here.
 pub const TOO_SHORT: u32 = 1;
-/// The Rust stopped with a panic.
-pub const STOPPED: u32 = 255;
 
-pub struct Leaf {
-    pub number: u32,
-    pub name: &'static str,
-    pub arguments: &'static [Argument],
-    pub buffer: Buffer,
-    run: fn(&[u32; ARGUMENTS], &mut [u8]) -> Result<Vec<u32>>,
-}
+pub static FAMILY: Family = Family {
+    name: "leaves",
+    functions: &LEAVES,
+    longest_buffer: LONGEST_BUFFER,
+    fixed: fixed::calls,
+    random: random::call,
+    departures: &[Departure { name: "position wraps", explains: position_wraps }],
+};
 
-/// What an argument word is.
-#[derive(Clone, Copy)]
-pub enum Argument {
-    /// Any word. Where the function takes a byte, the low 8 bits count.
-    Word(&'static str),
-    /// 0 or 1.
-    Flag(&'static str),
-    /// The 32 bits of a signed number.
-    Delta,
-    /// The two halves of a position, always arguments 0 and 1.
-    PositionLow,
-    PositionHigh,
-}
-use Argument::*;
+pub const LONGEST_BUFFER: usize = 256;
 
 /// What the buffer is.
 #[derive(Clone, Copy)]
@@ -47,6 +36,17 @@ pub enum Buffer {
     HoldsWord,
 }
 use Buffer::*;
+
+/// What the buffer of a leaf is.
+pub fn buffer_of(leaf: &Function) -> Buffer {
+    match leaf.number {
+        1 => Untouched,
+        2 | 3 => Header,
+        4 | 6 | 7 | 8 | 12 => LegacySlot,
+        11 => HoldsWord,
+        _ => ModernSlot,
+    }
+}
 
 impl Buffer {
     /// The shortest buffer that is not refused.
@@ -70,24 +70,6 @@ impl Buffer {
     }
 }
 
-impl Argument {
-    pub fn name(self) -> &'static str {
-        match self {
-            Word(name) | Flag(name) => name,
-            Delta => "delta",
-            PositionLow => "position, low half",
-            PositionHigh => "position, high half",
-        }
-    }
-}
-
-// The departure "position wraps" is about positions of 64 bits, and `as usize` below must not cut.
-const _: () = assert!(usize::BITS == 64);
-
-pub fn position(arguments: &[u32; ARGUMENTS]) -> u64 {
-    u64::from(arguments[1]) << 32 | u64::from(arguments[0])
-}
-
 fn delta(word: u32) -> i64 {
     i64::from(word as i32)
 }
@@ -97,29 +79,24 @@ fn source_hash(arguments: &[u32; ARGUMENTS]) -> [u8; 20] {
     bytes.try_into().unwrap()
 }
 
-fn nothing(done: Result<()>) -> Result<Vec<u32>> {
-    done.map(|()| vec![])
+fn nothing(done: Result<()>) -> Answered {
+    given(done.map(|()| vec![]))
 }
 
-impl Call {
-    pub fn answer(&self) -> Answer {
-        let mut buffer = self.buffer.clone();
-        let run = AssertUnwindSafe(|| (self.leaf.run)(&self.arguments, &mut buffer));
-        let (status, results) = match catch_unwind(run) {
-            Ok(Ok(results)) => (DONE, results),
-            Ok(Err(_)) => (TOO_SHORT, vec![]),
-            Err(_) => (STOPPED, vec![]),
-        };
-        Answer::new(status, &results, buffer)
-    }
+fn given(done: Result<Vec<u32>>) -> Answered {
+    done.map_err(|_| TOO_SHORT)
 }
 
-pub fn leaf(name: &str) -> &'static Leaf {
-    LEAVES.iter().find(|leaf| leaf.name == name).unwrap()
+/// `shift_u32_at` where `pos + 4` does not fit 64 bits: the Rust stops, ours refuses.
+fn position_wraps(call: &Call, mine: &Answer, theirs: &Answer) -> bool {
+    call.function.name == "shift_u32_at"
+        && long(&call.arguments).checked_add(4).is_none()
+        && *mine == call.refused(TOO_SHORT)
+        && *theirs == call.refused(STOPPED)
 }
 
-pub static LEAVES: [Leaf; 13] = [
-    Leaf {
+static LEAVES: [Function; 13] = [
+    Function {
         number: 1,
         name: "write_function_header_legacy_small",
         arguments: &[
@@ -134,7 +111,6 @@ pub static LEAVES: [Leaf; 13] = [
             Word("highest_write_cache"),
             Word("flags"),
         ],
-        buffer: Untouched,
         run: |a, _| {
             let record = write_function_header_legacy_small(
                 a[0], a[1], a[2], a[3], a[4], a[5], a[6], a[7], a[8], a[9] as u8,
@@ -142,7 +118,7 @@ pub static LEAVES: [Leaf; 13] = [
             Ok(words(&record))
         },
     },
-    Leaf {
+    Function {
         number: 2,
         name: "write_modern_header",
         arguments: &[
@@ -158,13 +134,12 @@ pub static LEAVES: [Leaf; 13] = [
             Word("string_count"),
             Word("string_storage_size"),
         ],
-        buffer: Header,
         run: |a, buf| {
             let hash = source_hash(a);
             nothing(write_modern_header(buf, a[0], hash, a[6], a[7], a[8], a[9], a[10]))
         },
     },
-    Leaf {
+    Function {
         number: 3,
         name: "write_legacy_header",
         arguments: &[
@@ -198,7 +173,6 @@ pub static LEAVES: [Leaf; 13] = [
             Word("debug_info_offset"),
             Word("options"),
         ],
-        buffer: Header,
         run: |a, buf| {
             let hash = source_hash(a);
             nothing(write_legacy_header(
@@ -231,75 +205,65 @@ pub static LEAVES: [Leaf; 13] = [
             ))
         },
     },
-    Leaf {
+    Function {
         number: 4,
         name: "patch_legacy_small_header_offset_size",
         arguments: &[Word("offset"), Word("bytecode_size")],
-        buffer: LegacySlot,
         run: |a, slot| nothing(patch_legacy_small_header_offset_size(slot, a[0], a[1])),
     },
-    Leaf {
+    Function {
         number: 5,
         name: "shift_modern_small_header_offset",
         arguments: &[Delta],
-        buffer: ModernSlot,
         run: |a, slot| nothing(shift_modern_small_header_offset(slot, delta(a[0]))),
     },
-    Leaf {
+    Function {
         number: 6,
         name: "shift_legacy_small_header_offsets",
         arguments: &[Delta],
-        buffer: LegacySlot,
         run: |a, slot| nothing(shift_legacy_small_header_offsets(slot, delta(a[0]))),
     },
-    Leaf {
+    Function {
         number: 7,
         name: "read_legacy_large_pointer",
         arguments: &[],
-        buffer: LegacySlot,
-        run: |_, slot| Ok(vec![read_legacy_large_pointer(slot)?]),
+        run: |_, slot| given(read_legacy_large_pointer(slot).map(|pointer| vec![pointer])),
     },
-    Leaf {
+    Function {
         number: 8,
         name: "shift_legacy_large_pointer",
         arguments: &[Delta],
-        buffer: LegacySlot,
         run: |a, slot| nothing(shift_legacy_large_pointer(slot, delta(a[0]))),
     },
-    Leaf {
+    Function {
         number: 9,
         name: "read_modern_large_pointer",
         arguments: &[],
-        buffer: ModernSlot,
-        run: |_, slot| Ok(vec![read_modern_large_pointer(slot)?]),
+        run: |_, slot| given(read_modern_large_pointer(slot).map(|pointer| vec![pointer])),
     },
-    Leaf {
+    Function {
         number: 10,
         name: "shift_modern_large_pointer",
         arguments: &[Delta],
-        buffer: ModernSlot,
         run: |a, slot| nothing(shift_modern_large_pointer(slot, delta(a[0]))),
     },
-    Leaf {
+    Function {
         number: 11,
         name: "shift_u32_at",
-        arguments: &[PositionLow, PositionHigh, Delta],
-        buffer: HoldsWord,
-        run: |a, buf| nothing(shift_u32_at(buf, position(a) as usize, delta(a[2]))),
+        arguments: &[LongLow("position"), LongHigh("position"), Delta],
+        run: |a, buf| nothing(shift_u32_at(buf, long(a), delta(a[2]))),
     },
     // The next two are answered by the second reading, not by the Rust.
-    Leaf {
+    Function {
         number: 12,
         name: "read_legacy_function_header",
         arguments: &[],
-        buffer: LegacySlot,
-        run: |_, slot| record::read(&record::LEGACY, LegacySlot.least(), slot),
+        run: |_, slot| given(record::read(&record::LEGACY, LegacySlot.least(), slot)),
     },
-    Leaf {
+    Function {
         number: 13,
         name: "read_modern_function_header",
         arguments: &[],
-        buffer: ModernSlot,
-        run: |_, slot| record::read(&record::MODERN, ModernSlot.least(), slot),
+        run: |_, slot| given(record::read(&record::MODERN, ModernSlot.least(), slot)),
     },
 ];

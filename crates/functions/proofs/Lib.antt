@@ -1,0 +1,3 @@
+pub mod AdmitLaws
+pub mod JudgeLaws
+pub mod WriteLaws

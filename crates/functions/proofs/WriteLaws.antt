@@ -1,0 +1,137 @@
+-- The patched image as it is written.
+use mathlib.Core.Path.{_≡_, refl, ap, sym, _∙_, subst}
+use mathlib.Core.Bool.{false}
+use mathlib.Core.Logic.{inl, inr}
+use mathlib.Core.List.{List, [], append-assoc}
+use Prim.Native.Nat.{ℕ, _+_, _-_, _≤_, _<_}
+use native.Mathlib.Nat.{sub-zero}
+use native.Mathlib.Omega.{arith}
+use borrow.Author.Tests.{eq-eqb, ne-eqb, ltb-false}
+use borrow.Rule.Slice.PartMut.{putMid}
+use lib.Dec.{ltb}
+use lib.ListN.{length, take, drop, drop-of-length-le}
+use lib.Seq.{sets, sets-eq, length-take-le}
+use Rattle.bits.specs.Outcome.{Outcome, refused, made, answered, roomed, Answers}
+use Rattle.bits.specs.declared.Answer.{Answer}
+use Rattle.bits.specs.declared.Answer.the-variants as answer
+use Rattle.bits.proofs.TestLaws.{below-or}
+use Rattle.bits.proofs.OutcomeLaws.{roomed-short, roomed-fits, lent-front}
+use Rattle.format.specs.declared.Layout.{Layout}
+use Rattle.footer.specs.Finalize.{finalizeOf}
+use Rattle.footer.proofs.FinalizeLaws.{finalize-within}
+use Rattle.image.specs.Functions.{Func, funcOf}
+use Rattle.image.specs.Edit.{splice}
+use Rattle.function_table.specs.declared.Function.{Function}
+use Rattle.relocate.specs.declared.Patch.the-variants.{Body}
+use Rattle.relocate.specs.declared.Move.{Move}
+use Rattle.relocate.specs.Relocate.{relocated, Movable}
+use Rattle.relocate.proofs.EditLaws.{resize-is}
+use Rattle.relocate.proofs.MovableLaws.{resize-movable}
+use Rattle.body_checks.specs.Checks.{Target}
+use Rattle.functions.specs.Patch.{bodied, patched, patchBody}
+use Rattle.functions.specs.Stages.{Accepted}
+use Rattle.functions.proofs.AdmitLaws.{body-ends, target-ends}
+use Rattle.functions.proofs.JudgeLaws.{length-moved, length-bodied, length-patched, makes, accepted}
+
+-- ---- the image with the new body
+
+-- new bytes as long as the old ones
+splice-same : (a b : ℕ) (new s : List ℕ) → b ≡ a + length new → b ≤ length s → splice a b new s ≡ sets s a new
+unfolding splice
+splice-same a b new s e h = rw e (sym (sets-eq new s a (omega arith) ∙ append-assoc (take a s) new (drop (a + length new) s)))
+
+module _ (l : Layout) (s : List ℕ) (id : ℕ) (body : List ℕ) (room : ℕ) (ok : Accepted l s id body room) (f : Function) (t : Target l s id f) where
+  abbrev moveOf : Func → Move
+  moveOf x = record { from = x .begin + x .size; to = x .begin + length body; patch = Body id (length body) }
+
+  begin-is : f .begin ≡ funcOf l s id .begin
+  begin-is = ap (λ (x : Func). x .begin) (t .is)
+
+  size-is : f .size ≡ funcOf l s id .size
+  size-is = ap (λ (x : Func). x .size) (t .is)
+
+  ends : f .begin + f .size + 20 ≤ length s
+  ends = target-ends l s (ok .image) id f (ok .known) t
+
+  room-is : room ≡ length s - f .size + length body
+  room-is = ok .exact ∙ length-moved l s id body (omega (arith, body-ends l s (ok .image) id (ok .known))) ∙ rw (← size-is)
+
+  pub splice-asked : (f .begin ≤ f .begin + f .size) × (f .begin + f .size ≤ length s) × (room ≡ length s - (f .begin + f .size) + (f .begin + length body))
+  splice-asked = (omega arith, omega (arith, ends), omega (arith, ends, room-is))
+
+  module _ (o₁ : List ℕ) (e : o₁ ≡ splice (f .begin) (f .begin + f .size) body s) where
+    pub same-size : length body ≡ f .size → o₁ ≡ bodied l s id body
+    same-size h =
+        e ∙ splice-same (f .begin) (f .begin + f .size) body s (omega arith) (omega (arith, ends))
+        ∙ rw (eq-eqb (length body) (funcOf l s id .size) (h ∙ size-is), begin-is)
+
+    module _ (h : length body ≡ f .size → ⊥) where
+      pub other-size : (o₂ : List ℕ)
+          → o₂ ≡ relocated l s (record { from = f .begin + f .size; to = f .begin + length body; patch = Body id (length body) }) o₁ → o₂ ≡ bodied l s id body
+      other-size o₂ k =
+          k ∙ ap (relocated l s (moveOf (record { large = f .large; ptr = f .ptr; begin = f .begin; size = f .size; info = f .info }))) e
+          ∙ ap (λ (x : Func). relocated l s (moveOf x) (splice (x .begin) (x .begin + x .size) body s)) (t .is)
+          ∙ resize-is l id body s
+          ∙ rw (ne-eqb (length body) (funcOf l s id .size) (λ q. h (q ∙ sym size-is)))
+
+      -- an empty body stays empty, and so of one size
+      some : 0 < funcOf l s id .size
+      some =
+          elim (below-or 0 (funcOf l s id .size)) [
+            | inl q ↦ q
+            | inr q ↦
+                let z : funcOf l s id .size ≡ 0 = omega arith in
+                let n : ltb 0 (length body) ≡ false = rw (eq-eqb (funcOf l s id .size) 0 z) at (ok .some) in
+                absurd (h (omega (arith, ltb-false 0 (length body) n, size-is)))
+          ]
+
+      pub may-move : Movable l s (record { from = f .begin + f .size; to = f .begin + length body; patch = Body id (length body) }) room
+      may-move =
+          subst (λ (x : Func). Movable l s (moveOf x) room) (sym (t .is))
+          (resize-movable l s (ok .image .fits) (ok .image .headers) room (ok .limit) id body (ok .known) (ok .image .bodies) (ok .image .clear) some
+          (omega (arith, splice-asked .2, begin-is, size-is)))
+
+-- ---- and finalized
+
+module _ (l : Layout) (s : List ℕ) (id : ℕ) (body o : List ℕ) (ok : Accepted l s id body (length o)) where
+  pub finalized : (o₁ o₂ : List ℕ) (r : Answer) → o₁ ≡ bodied l s id body → Answers (finalizeOf o₁) r o₁ o₂ → Answers (made (patched l s id body)) r o o₂
+  unfolding patched
+  finalized o₁ o₂ r e a =
+      let n : length o₁ ≡ length o = ap length e ∙ length-bodied l s id body (omega (arith, body-ends l s (ok .image) id (ok .known))) ∙ sym (ok .exact) in
+      let p = length-patched l s id body (ok .image) (ok .known) in
+      let m : length (patched l s id body) ≡ length o = p .0 ∙ sym (ok .exact) in
+      let g : finalizeOf o₁ ≡ made (patched l s id body) = finalize-within o₁ (omega (arith, n, p .1, ok .exact)) (omega (arith, n, ok .limit)) ∙ rw e in
+      let b = rw g at a in
+      let d : (x : List ℕ) → length x ≡ length o → drop (length (patched l s id body)) x ≡ [] = λ x i. drop-of-length-le x {i = length (patched l s id body)} (omega (arith, m, i)) in
+      (b .0, b .1 ∙ rw (d o₁ n, d o refl))
+
+-- ---- the ways out
+
+module _ (l : Layout) (s : List ℕ) (id : ℕ) (body out : List ℕ) (r : Answer) (e : r ≡ answered (patchBody l s id body)) where
+  abbrev outcome : Outcome
+  outcome = roomed (length out) (patchBody l s id body)
+
+  -- a refusal goes out as it is
+  pub goes-out : (n : ℕ) → r ≡ answer.Refused n → Answers outcome r out out
+  unfolding roomed
+  goes-out n f = go (patchBody l s id body) e
+    where
+      go : (o : Outcome) → r ≡ answered o → Answers (roomed (length out) o) r out out
+      go (refused m) g = (g, refl)
+      go (made new) g = let z : _≡_ {A = ℕ} 0 1 = cc in absurd (omega arith)
+
+  module _ (n : ℕ) (f : r ≡ answer.Length n) where
+    made-so : (patchBody l s id body ≡ made (patched l s id body)) × (n ≡ length (patched l s id body))
+    made-so = makes l s id body n (sym f ∙ e)
+
+    pub no-room : length out < n → Answers outcome (answer.Refused 13) out out
+    no-room h = rw (made-so .0, roomed-short (length out) (patched l s id body) (omega (arith, made-so .1))) (refl, refl)
+
+    module _ (h : n ≤ length out) where
+      pub room-made : Accepted l s id body (length (take (n - 0) (drop 0 out)))
+      room-made = rw (sub-zero, length-take-le n out h) (accepted l s id body n (sym f ∙ e))
+
+      pub written-out : (q : Answer) (part : List ℕ) → Answers (made (patched l s id body)) q (take (n - 0) (drop 0 out)) part → Answers outcome q out (putMid 0 (n - 0) out part)
+      written-out q part a =
+          rw (sub-zero, made-so .0, roomed-fits (length out) (patched l s id body) (omega (arith, made-so .1)))
+          (lent-front (patched l s id body) out part n q (made-so .1) h (rw sub-zero at a))

@@ -1,0 +1,21 @@
+use borrow.Author.Needs.{needs}
+use Rattle.functions.proofs.patch_function_bytes.Statement.{statement}
+use Rattle.functions.proofs.patch_function_bytes.Tie as tie
+use Rattle.functions.proofs.WriteLaws.{goes-out, no-room, room-made, written-out}
+
+returns : tie.Need-returns
+returns c = let a = c .before .before .before .before .before .before .args in goes-out (a .layout) (a .image .now) (a .id) (a .body .now) (a .out .now) _ (c .before .before .measure .ensures) _ (c .enum-told .given .1)
+
+returns-2 : tie.Need-returns-2
+returns-2 c = let a = c .before .before .before .before .before .before .before .before .args in no-room (a .layout) (a .image .now) (a .id) (a .body .now) (a .out .now) _ (c .before .before .before .before .measure .ensures) _ (c .before .before .measured .given .1) (c .if1 .taken)
+
+put-patched-requires : tie.Need-put-patched-requires
+put-patched-requires c κs = let a = c .before .before .before .before .before .before .before .before .before .args in room-made (a .layout) (a .image .now) (a .id) (a .body .now) (a .out .now) _ (c .before .before .before .before .before .measure .ensures) _ (c .before .before .before .measured .given .1) (c .before .if1 .left)
+
+returns-3 : tie.Need-returns-3
+returns-3 c = let a = c .before .before .before .before .before .before .before .before .before .before .before .before .args in written-out (a .layout) (a .image .now) (a .id) (a .body .now) (a .out .now) _ (c .before .before .before .before .before .before .before .before .measure .ensures) _ (c .before .before .before .before .before .before .measured .given .1) (c .before .before .before .before .if1 .left) _ _ (c .before .before .put-patched .ensures)
+
+pub patch-function-bytes-spec : {M : Type 1} → statement M
+patch-function-bytes-spec =
+    tie.close
+    (tie.spec (λ c κs. search needs) (λ c. search needs) (λ c. search needs) returns returns-2 (λ c. search needs) (λ c. search needs) (λ c. search needs) put-patched-requires (λ c. search needs) returns-3)

@@ -1,0 +1,99 @@
+// The calls by their numbers, with arguments in the order of the judge's table, oracle/src/image.
+use admission::Admission;
+use format::Layout;
+use frames::Answer;
+use frames::HEAD;
+use frames::Status;
+use sections::Places;
+
+// The answer of a call.
+pub fn answer_call(head: &[u8; HEAD], image: &[u8]) -> Answer {
+    match frames::number(head) {
+        30 => admitted(head, image, false),
+        31 => admitted(head, image, true),
+        _ => frames::bare(Status::Unknown),
+    }
+}
+
+// The layout of a byte of document 01 that is at most 4: 0 modern; 1 legacy, 2 with big integers, 3
+// with sources, 4 both.
+fn layout_of(byte: u8) -> Layout {
+    if byte == 0 {
+        return Layout::Modern;
+    }
+    Layout::Legacy {
+        big_integers: byte == 2 || byte == 4,
+        function_sources: byte >= 3,
+    }
+}
+
+fn if_set(set: bool, then: u32, other: u32) -> u32 {
+    if set { then } else { other }
+}
+
+fn layout_byte(layout: Layout) -> u32 {
+    match layout {
+        Layout::Modern => 0,
+        Layout::Legacy {
+            big_integers,
+            function_sources,
+        } => {
+            if function_sources {
+                if_set(big_integers, 4, 3)
+            } else {
+                if_set(big_integers, 2, 1)
+            }
+        }
+    }
+}
+
+// Admission under the layout that the call states. An answer has too few results for the whole record
+// of places: one call gives the counts, the other all else.
+fn admitted(head: &[u8; HEAD], image: &[u8], counts: bool) -> Answer {
+    let byte = frames::byte(head, 0);
+    if byte > 4 {
+        return frames::bare(Status::Unknown);
+    }
+    let answer = admission::admit(image, layout_of(byte));
+    match answer {
+        Admission::Laid(p) => { if counts { counts_of(p) } else { starts_of(p) } }
+        Admission::Refused(number) => frames::bare(Status::Refused(number)),
+    }
+}
+
+// A number of an admitted image, in a call of its own that needs no proof that it fits: no image is
+// so long.
+fn cut(n: usize) -> u32 {
+    (n % 4294967296) as u32
+}
+
+fn counts_of(p: Places) -> Answer {
+    frames::done([
+        cut(p.functions),
+        cut(p.kinds),
+        cut(p.identifiers),
+        cut(p.strings),
+        cut(p.overflows),
+        cut(p.storage_size),
+        0,
+        0,
+        0,
+        0,
+    ])
+}
+
+fn starts_of(p: Places) -> Answer {
+    let layout = p.layout;
+    frames::done([
+        layout_byte(layout),
+        cut(p.kinds_at),
+        cut(p.hashes_at),
+        cut(p.small_at),
+        cut(p.over_at),
+        cut(p.storage_at),
+        cut(p.tail),
+        cut(p.footer),
+        0,
+        0,
+    ])
+}

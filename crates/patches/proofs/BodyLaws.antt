@@ -1,0 +1,263 @@
+-- One accepted body patch, of equal or of another length: what it promises.
+use mathlib.Core.Path.{_≡_, refl, ap, sym, _∙_, subst}
+use mathlib.Core.Bool.{Bool, true, false, not}
+use mathlib.Core.Logic.{inl, inr, _≢_}
+use mathlib.Core.List.{List, [], _∷_}
+use Prim.Native.Nat.{ℕ, _+_, _-_, _*_, _^_, _≤_, _<_}
+use native.Mathlib.Omega.{arith}
+use borrow.Author.Tests.{eq-eqb, ne-eqb, eqb-true, eqb-false, leb-true, leb-false, le-leb, ltb-true, ltb-false, lt-ltb, not-true, not-false}
+use lib.Dec.{leb, ltb, eqb}
+use lib.ListN.{length, getD, length-append, length-drop}
+use lib.Seq.{sets, length-sets, length-take-le}
+use Rattle.bits.specs.Choice.{pick, both, either, implies}
+use Rattle.bits.specs.Bytes.{bytesAt}
+use Rattle.bits.proofs.TestLaws.{which, below-or, both-0, both-1, both-false, either-or, imp-use, all-at}
+use Rattle.bits.proofs.ListLaws.{AllBelow}
+use Rattle.bits.proofs.WriteLaws.{sets-off}
+use Rattle.format.specs.declared.Layout.{Layout}
+use Rattle.format.specs.Table as table
+use Rattle.format.specs.Move.{moved}
+use Rattle.format.proofs.MoveLaws.{moved-low, moved-high}
+use Rattle.footer.specs.Footer.{footerLength}
+use Rattle.footer.specs.Finalize.{sizeLimit, lengthed, sealed}
+use Rattle.image.specs.Sections.{functionsIn, kindsIn, identifiersIn, stringsIn, storageIn, debugIn, kindsAt, hashesAt, smallAt, storageAt, tailAt}
+use Rattle.image.specs.Strings.{placeAt, sizeOf, Str, stringOf}
+use Rattle.image.specs.Kinds.{isIdentifier, rankOf, hashIn}
+use Rattle.image.specs.Functions.{Func, funcOf, bodyOf}
+use Rattle.image.specs.Admitted.{Disjoint, Admitted}
+use Rattle.image.specs.Edit.{splice, edit, moveFunc}
+use Rattle.image.specs.Rebuild.{resized, resize}
+use Rattle.image.specs.Fit.{beyond, sizeRow, fieldsFit}
+use Rattle.image.proofs.PlaceLaws.{ordered, hash-in, string-in}
+use Rattle.image.proofs.WriteLaws.{length-writes}
+use Rattle.image.proofs.SlotLaws.{func-eq}
+use Rattle.image.proofs.ReadLaws.{functions-same, kindCount-same, identifierCount-same, stringCount-same, counts-of, tailAt-same}
+use Rattle.image.proofs.FitLaws.{fields-use}
+use Rattle.image.proofs.InPlaceLaws as inplace
+use Rattle.image.proofs.ResizeLaws as resizing
+use Rattle.functions.specs.Patch.{threshold, sharesWith, bodyAlone, infosOutside, debugPast, movedBy, patched, sizeFits}
+use Rattle.patches.specs.Patches.{Target, aBody}
+use Rattle.patches.specs.Promise.{bodyAfter, placeAfter, functionAfter, Kept, Promise}
+use Rattle.patches.proofs.CalmLaws.{final-calm, final-hash, final-sealed, kept-after}
+use Rattle.patches.proofs.StringLaws.{moved-still}
+
+module _ (l : Layout) (s : List ℕ) (ad : Admitted l s) (id : ℕ) (body : List ℕ) (known : id < functionsIn s) (bytes : AllBelow 256 body) where
+  abbrev c : Target
+  c = aBody id body
+
+  abbrev f₀ : Func
+  f₀ = funcOf l s id
+
+  -- ---- 9, in propositions
+
+  module _ (alone : bodyAlone l s id ≡ true) where
+    -- another body lies before this one or past it, where this one is not empty
+    apart : 0 < f₀ .size → (j : ℕ) → j < functionsIn s → j ≢ id → Disjoint (funcOf l s j .begin) (funcOf l s j .size) (f₀ .begin) (f₀ .size)
+    unfolding bodyAlone
+    apart z j h d q =
+        let g : Func = funcOf l s j in
+        let n : sharesWith f₀ g ≡ false =
+        not-true (sharesWith f₀ g)
+        (imp-use (not (eqb j id)) (not (sharesWith f₀ g))
+        (all-at (λ k. implies (not (eqb k id)) (not (sharesWith f₀ (funcOf l s k)))) (functionsIn s) j alone h) (rw (ne-eqb j id d))) in
+        let x : ltb 0 (f₀ .size) ≡ true = lt-ltb 0 (f₀ .size) z in
+        let y : ltb (g .begin) (threshold f₀) ≡ true = lt-ltb (g .begin) (threshold f₀) q in
+        let m : ltb (f₀ .begin) (threshold g) ≡ false = rw (x, y) at n in
+        ltb-false (f₀ .begin) (threshold g) m
+
+    -- ---- "Equal length changes the body bytes, file length and footer only"
+
+    module _ (equal : length body ≡ f₀ .size) where
+      abbrev w : List ℕ
+      w = sets s (f₀ .begin) body
+
+      still : (p : ℕ) → placeAfter l s c p ≡ p
+      still p = rw equal (moved-still (threshold f₀) p)
+
+      written : inplace.InPlace l s (f₀ .begin) body
+      written = inplace.body-in-place l s ad id body known equal bytes
+
+      -- an empty body has nothing to write
+      body-other : (i : ℕ) → i < functionsIn s → i ≢ id → bodyOf l w i ≡ bodyOf l s i
+      body-other i h d = elim (below-or 0 (f₀ .size)) [
+        | inl z ↦ inplace.put-body l s ad (f₀ .begin) body written i h
+            (λ q. elim (below-or (funcOf l s i .begin) (threshold f₀)) [ inl g ↦ absurd (omega (arith, apart z i h d g, equal)) | inr g ↦ omega (arith, equal) ])
+        | inr z ↦ nothing body (omega arith)
+      ]
+        where
+          nothing : (vs : List ℕ) → length vs ≡ 0 → bodyOf l (sets s (f₀ .begin) vs) i ≡ bodyOf l s i
+          nothing [] e = refl
+          nothing (v ∷ vs) e = absurd (omega arith)
+
+      equal-kept : Kept l s w c
+      equal-kept =
+          let o = ordered l s in
+          let (x, y) = ad .body id known in
+          let words = inplace.put-same l s ad (f₀ .begin) body written .words in
+          let counts = counts-of l s w words in
+          record {
+            admitted = inplace.put-admitted l s ad (f₀ .begin) body written;
+            functions = functions-same l s w counts;
+            kinds = kindCount-same l s w counts;
+            identifiers = identifierCount-same l s w counts;
+            strings = stringCount-same l s w counts;
+            string = λ i h. inplace.put-string l s ad (f₀ .begin) body written i h (λ q. absurd (omega (arith, string-in ad i h)));
+            body = λ i h. elim (which (eqb i id)) [
+              | inl t ↦ let e : i ≡ id = eqb-true i id t in rw (e, eq-eqb id id refl) (inplace.own-body l s ad (f₀ .begin) body written id known refl (sym equal))
+              | inr t ↦ rw t (body-other i h (eqb-false i id t))
+            ];
+            flag = inplace.put-identifier l s ad (f₀ .begin) body written;
+            rank = inplace.put-rank l s ad (f₀ .begin) body written;
+            function = λ i h.
+                inplace.put-func l s ad (f₀ .begin) body written i h
+                ∙ func-eq (funcOf l s i) (functionAfter l s c i (funcOf l s i)) refl (sym (still (funcOf l s i .ptr))) (sym (still (funcOf l s i .begin)))
+                (elim (which (eqb i id)) [ inl t ↦ rw (t, equal, eqb-true i id t) | inr t ↦ rw t ]) (sym (still (funcOf l s i .info)));
+            debug = inplace.put-same l s ad (f₀ .begin) body written .debug ∙ sym (still (debugIn l s));
+            long = length-sets s (f₀ .begin) body ∙ sym (still (length s));
+            tail = λ p h f b q. (
+              rw (still p, tailAt-same l s w words) h,
+              rw (still p, length-sets s (f₀ .begin) body) f,
+              rw (still p)
+                  (sets-off body s (f₀ .begin) p
+                  (λ g. elim (below-or p (threshold f₀)) [ inl k ↦ absurd (omega (arith, b k)) | inr k ↦ omega (arith, equal) ])),
+            );
+          }
+
+      equal-hash : (r : ℕ) → r < identifiersIn s → hashIn l w r ≡ hashIn l s r
+      equal-hash r h =
+          let o = ordered l s in
+          inplace.put-hash l s ad (f₀ .begin) body written r (λ q. absurd (omega (arith, hash-in l s r h, o .over, o .storage, o .tail, ad .body id known .0)))
+
+    -- ---- another length
+
+    module _ (other : length body ≢ f₀ .size) (infos : infosOutside l s id ≡ true) (debug : debugPast l s id ≡ true)
+        (empty : both (eqb (f₀ .size) 0) (ltb 0 (length body)) ≡ false) (limit : movedBy l s id body (length s) ≤ sizeLimit)
+        (size : sizeFits l s id body ≡ true) (field : fieldsFit l s (movedBy l s id body) ≡ true) where
+      abbrev v : List ℕ
+      v = resize l id body s
+
+      some : 0 < f₀ .size
+      some = elim (below-or 0 (f₀ .size)) [
+        | inl h ↦ h
+        | inr h ↦
+            let z : f₀ .size ≡ 0 = omega arith in
+            let e : eqb (f₀ .size) 0 ≡ true = eq-eqb (f₀ .size) 0 z in
+            absurd (other (omega (arith, ltb-false 0 (length body) (rw e at empty))))
+      ]
+
+      info-out : (j : ℕ) → j < functionsIn s → funcOf l s j .info < threshold f₀ → funcOf l s j .info < f₀ .begin
+      unfolding infosOutside
+      info-out j h q =
+          let i : ℕ = funcOf l s j .info in
+          let n : both (leb (f₀ .begin) i) (ltb i (threshold f₀)) ≡ false =
+          not-true (both (leb (f₀ .begin) i) (ltb i (threshold f₀)))
+          (all-at (λ k. not (both (leb (f₀ .begin) (funcOf l s k .info)) (ltb (funcOf l s k .info) (threshold f₀)))) (functionsIn s) j infos h) in
+          elim (both-false (leb (f₀ .begin) i) (ltb i (threshold f₀)) n) [ inl t ↦ leb-false (f₀ .begin) i t | inr t ↦ absurd (omega (arith, ltb-false i (threshold f₀) t)) ]
+
+      debug-out : debugIn l s ≢ 0 → threshold f₀ ≤ debugIn l s
+      unfolding debugPast
+      debug-out d = leb-true (threshold f₀) (debugIn l s) (imp-use (not (eqb (debugIn l s) 0)) (leb (threshold f₀) (debugIn l s)) debug (rw (ne-eqb (debugIn l s) 0 d)))
+
+      small-size : f₀ .large ≡ false → length body < 2 ^ sizeRow l .width
+      unfolding sizeFits
+      small-size t = leb-false (2 ^ sizeRow l .width) (length body) (not-true (beyond (sizeRow l) (length body)) (rw t at size))
+
+      ends : threshold f₀ ≤ length s
+      ends = omega (arith, ad .body id known .1)
+
+      grown : length v ≡ placeAfter l s c (length s)
+      unfolding resize edit splice
+      grown =
+          simp (length-writes, length-append, length-take-le (f₀ .begin) s (omega (arith, ends)), length-drop)
+          (omega (arith, ends, moved-high (threshold f₀) (f₀ .begin + length body) (length s) ends))
+
+      asked : resizing.Alone l id body s
+      asked = record {
+        known = known;
+        bytes = bytes;
+        bodies = λ j h d. apart some j h d;
+        infos = info-out;
+        debug = debug-out;
+        some = some;
+        limit = rw grown limit;
+        field = fields-use l s (movedBy l s id body) field;
+        sized = small-size;
+      }
+
+      -- the target's start is below the threshold and stays
+      stays : placeAfter l s c (f₀ .begin) ≡ f₀ .begin
+      stays = moved-low (threshold f₀) (f₀ .begin + length body) (f₀ .begin) (omega (arith, some))
+
+      function-put : (i : ℕ) → i < functionsIn s → funcOf l v i ≡ functionAfter l s c i (funcOf l s i)
+      function-put i h = resizing.resized-func l id body s ad asked i h ∙ go (eqb i id) refl
+        where
+          go : (b : Bool) → eqb i id ≡ b
+              → pick b (resized (placeAfter l s c) (length body) (funcOf l s i)) (moveFunc (placeAfter l s c) (funcOf l s i))
+              ≡ record {
+                large = funcOf l s i .large;
+                ptr = placeAfter l s c (funcOf l s i .ptr);
+                begin = placeAfter l s c (funcOf l s i .begin);
+                size = pick b (length body) (funcOf l s i .size);
+                info = placeAfter l s c (funcOf l s i .info);
+              }
+          go true t = let e : i ≡ id = eqb-true i id t in func-eq _ _ refl refl (rw e (sym stays)) refl refl
+          go false t = refl
+
+      pub resize-kept : Kept l s v c
+      resize-kept =
+          let (x, y) = ad .body id known in
+          let words = resizing.resized-words l id body s ad asked in
+          let same = counts-of l s v words in
+          record {
+            admitted = resizing.resized-admitted l id body s ad asked;
+            functions = functions-same l s v same;
+            kinds = kindCount-same l s v same;
+            identifiers = identifierCount-same l s v same;
+            strings = stringCount-same l s v same;
+            string = resizing.resized-string l id body s ad asked;
+            body = λ i h. elim (which (eqb i id)) [
+              | inl t ↦ let e : i ≡ id = eqb-true i id t in rw (e, eq-eqb id id refl) (resizing.own-body l id body s ad asked)
+              | inr t ↦ rw t (resizing.other-body l id body s ad asked i h (eqb-false i id t))
+            ];
+            flag = resizing.resized-identifier l id body s ad asked;
+            rank = resizing.resized-rank l id body s ad asked;
+            function = function-put;
+            debug = resizing.resized-debug l id body s ad asked;
+            long = grown;
+            tail = λ p h f b q.
+                let n : length v ≡ length s - threshold f₀ + (f₀ .begin + length body) = grown ∙ moved-high (threshold f₀) (f₀ .begin + length body) (length s) ends in
+                elim (below-or p (threshold f₀)) [
+                  | inl g ↦
+                      let m : placeAfter l s c p ≡ p = moved-low (threshold f₀) (f₀ .begin + length body) p g in
+                      (rw (m, tailAt-same l s v words) h, omega (arith, m, n, b g, ends), resizing.resized-tail l id body s ad asked p h b q)
+                  | inr g ↦
+                      let m : placeAfter l s c p ≡ p - threshold f₀ + (f₀ .begin + length body) = moved-high (threshold f₀) (f₀ .begin + length body) p g in
+                      (rw (tailAt-same l s v words) (omega (arith, m)), omega (arith, m, n), resizing.resized-tail l id body s ad asked p h b q)
+                ];
+          }
+
+      resize-hash : (r : ℕ) → r < identifiersIn s → hashIn l v r ≡ hashIn l s r
+      resize-hash = resizing.resized-hash l id body s ad asked
+
+  sealed-promise : (x : List ℕ) → Kept l s x c → ((r : ℕ) → r < identifiersIn s → hashIn l x r ≡ hashIn l s r) → Promise l s (sealed (lengthed x)) c
+  sealed-promise x k h = record {
+    kept = kept-after l s x (sealed (lengthed x)) c k (final-calm l x (k .admitted));
+    hash = λ r g. final-hash l x (k .admitted) r (rw (k .identifiers) g) ∙ h r g;
+    sealed = final-sealed l x (k .admitted);
+  }
+
+  -- ---- both ways
+
+  pub body-promise : bodyAlone l s id ≡ true → infosOutside l s id ≡ true → debugPast l s id ≡ true → both (eqb (f₀ .size) 0) (ltb 0 (length body)) ≡ false
+      → movedBy l s id body (length s) ≤ sizeLimit → sizeFits l s id body ≡ true → fieldsFit l s (movedBy l s id body) ≡ true
+      → Promise l s (patched l s id body) c
+  unfolding patched
+  body-promise alone infos debug empty limit size field = go (eqb (length body) (f₀ .size)) refl
+    where
+      go : (b : Bool) → eqb (length body) (f₀ .size) ≡ b → Promise l s (sealed (lengthed (pick b (sets s (f₀ .begin) body) (resize l id body s)))) c
+      go true t =
+          let e : length body ≡ f₀ .size = eqb-true (length body) (f₀ .size) t in
+          sealed-promise (sets s (f₀ .begin) body) (equal-kept alone e) (equal-hash alone e)
+      go false t =
+          let d : length body ≢ f₀ .size = eqb-false (length body) (f₀ .size) t in
+          sealed-promise (resize l id body s) (resize-kept alone d infos debug empty limit size field) (resize-hash alone d infos debug empty limit size field)

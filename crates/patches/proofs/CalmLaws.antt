@@ -1,0 +1,191 @@
+-- Writes behind a patch that change no meaning: the file length and the footer.
+use mathlib.Core.Path.{_≡_, refl, ap, sym, _∙_, subst}
+use mathlib.Core.Bool.{Bool, true, false}
+use mathlib.Core.Logic.{inl, inr}
+use mathlib.Core.List.{List, _++_}
+use Prim.Native.Nat.{ℕ, _+_, _-_, _*_, _^_, _≤_, _<_}
+use native.Mathlib.Omega.{arith}
+use lib.ListN.{length, getD, take, drop, List·getD-append}
+use lib.Seq.{sets, length-sets, length-take-le, getD-take, take-at, drop-at}
+use Rattle.bits.specs.Bytes.{bytesAt, bytesOf, wordAt}
+use Rattle.bits.proofs.TestLaws.{below-or}
+use Rattle.bits.proofs.ListLaws.{AllBelow, below-append, below-take, below-sets, below-bytesOf}
+use Rattle.bits.proofs.ByteLaws.{numberAt-ext}
+use Rattle.bits.proofs.WriteLaws.{numberAt-back}
+use Rattle.format.specs.declared.Layout.{Layout}
+use Rattle.format.specs.Table as table
+use Rattle.sha1.specs.Sha1.{digest}
+use Rattle.sha1.proofs.BlockLaws.{digest-below}
+use Rattle.footer.specs.Footer.{footerLength, footed}
+use Rattle.footer.specs.Finalize.{sizeLimit, lengthed, sealed}
+use Rattle.footer.proofs.FinalizeLaws.{finalize-within, finalize-length, finalize-keeps}
+use Rattle.image.specs.Sections.{functionsIn, kindsIn, identifiersIn, stringsIn, debugIn, storageIn, kindsAt, hashesAt, smallAt, storageAt, tailAt}
+use Rattle.image.specs.Strings.{placeAt, sizeOf, Str, stringOf}
+use Rattle.image.specs.Kinds.{isIdentifier, rankOf, hashIn}
+use Rattle.image.specs.Functions.{Func, funcOf, bodyOf}
+use Rattle.image.specs.Admitted.{Admitted}
+use Rattle.image.proofs.PlaceLaws.{records-at, debug-at, debug-past, ordered, string-in}
+use Rattle.image.proofs.ReadLaws.{Agree, bytes-agree, number-agree, functions-same, kindCount-same, identifierCount-same, stringCount-same, hash-same, identifier-same, rank-same, counts-of, tailAt-same, string-same}
+use Rattle.image.proofs.KeepLaws.{Same, funcs-same, same-admitted}
+use Rattle.footer.proofs.FooterLaws.{length-footed}
+use Rattle.patches.specs.Patches.{Target}
+use Rattle.patches.specs.Promise.{placeAfter, Kept, Sealed}
+
+-- t reads as s does: another file length or footer, perhaps other hashes
+pub record Calm (l : Layout) (s t : List ℕ) : Type 0 where
+  pub admitted : Admitted l t
+  pub long : length t ≡ length s
+  pub functions : functionsIn t ≡ functionsIn s
+  pub kinds : kindsIn t ≡ kindsIn s
+  pub identifiers : identifiersIn t ≡ identifiersIn s
+  pub strings : stringsIn t ≡ stringsIn s
+  pub tail : tailAt l t ≡ tailAt l s
+  pub string : (i : ℕ) → i < stringsIn s → stringOf l t i ≡ stringOf l s i
+  pub body : (i : ℕ) → i < functionsIn s → bodyOf l t i ≡ bodyOf l s i
+  pub flag : (i : ℕ) → isIdentifier l t i ≡ isIdentifier l s i
+  pub rank : (i : ℕ) → rankOf l t i ≡ rankOf l s i
+  pub function : (i : ℕ) → i < functionsIn s → funcOf l t i ≡ funcOf l s i
+  pub debug : debugIn l t ≡ debugIn l s
+  pub bytes : Agree s t (tailAt l s) (length s - footerLength)
+
+-- ---- an image that differs only in file length, hash slots and footer
+
+module _ (l : Layout) (s t : List ℕ) (ad : Admitted l s) (long : length t ≡ length s) (below : AllBelow 256 t)
+    (front : Agree s t 0 (table.fileLength .at)) (head : Agree s t (table.fileLength .at + table.fileLength .width) (hashesAt l s))
+    (rest : Agree s t (smallAt l s) (length s - footerLength)) where
+  same : Same l s t
+  same =
+      let o = ordered l s in
+      record {
+        long = long;
+        bytes = below;
+        magic = λ p h k. front p (omega arith) (omega arith);
+        words = λ p h k. head p (omega arith) (omega (arith, o .kinds, o .hashes));
+        debug =
+            let d = table.placeIn l (table.debugRow l) in
+            number-agree s t 36 (hashesAt l s) head d 4 (omega (arith, debug-past l)) (omega (arith, debug-at l, o .kinds, o .hashes));
+        records = λ p h k. head p (omega (arith, records-at l)) (omega (arith, o .hashes));
+        kinds = λ p h k. head p (omega (arith, o .kinds)) k;
+        tables = λ p h k. rest p h (omega (arith, o .tail, ad .room));
+        ascii = λ i h w j k.
+            let c : sizeOf (placeAt l s i) ≡ placeAt l s i .count * 1 = rw w in
+            rw (rest (storageAt l s + placeAt l s i .at + j) (omega (arith, o .over, o .storage)) (omega (arith, string-in ad i h, ad .room))) (ad .narrow i h w j k);
+        headers = λ i h u p f k. rest p (omega (arith, o .over, o .storage, o .tail, ad .header i h u .0)) (omega (arith, ad .header i h u .1));
+      }
+
+  pub calm : Calm l s t
+  unfolding bodyOf
+  calm =
+      let o = ordered l s in
+      let counts = counts-of l s t (same .words) in
+      record {
+        admitted = same-admitted l s t ad same;
+        long = long;
+        functions = functions-same l s t counts;
+        kinds = kindCount-same l s t counts;
+        identifiers = identifierCount-same l s t counts;
+        strings = stringCount-same l s t counts;
+        tail = tailAt-same l s t (same .words);
+        string = λ i h.
+            string-same l s t (same .words) (same .tables) (ad .overflows) i h
+            (λ p f k. rest p (omega (arith, o .over, o .storage)) (omega (arith, string-in ad i h, ad .room)));
+        body = λ i h.
+            let (x, y) = ad .body i h in
+            ap (λ (f : Func). bytesAt t (f .begin) (f .size)) (funcs-same l s t ad same i h)
+            ∙ bytes-agree s t (smallAt l s) (length s - footerLength) rest (funcOf l s i .begin) (funcOf l s i .size) (omega (arith, o .over, o .storage, o .tail)) (omega arith);
+        flag = identifier-same l s t counts (same .kinds);
+        rank = rank-same l s t counts (same .kinds);
+        function = funcs-same l s t ad same;
+        debug = same .debug;
+        bytes = λ p h k. rest p (omega (arith, o .over, o .storage, o .tail)) k;
+      }
+
+-- ---- finalize
+
+module _ (l : Layout) (s : List ℕ) (ad : Admitted l s) where
+  abbrev t : List ℕ
+  t = sealed (lengthed s)
+
+  long : 148 ≤ length s
+  long = omega (arith, ad .least, records-at l)
+
+  final-long : length t ≡ length s
+  final-long = finalize-length s t (finalize-within s (omega (arith, long)) (ad .most))
+
+  keeps : (from to : ℕ) → to ≤ length s - footerLength → (table.fileLength .at < to → table.fileLength .at + table.fileLength .width ≤ from) → Agree s t from to
+  keeps from to h o p f k = finalize-keeps s t (finalize-within s (omega (arith, long)) (ad .most)) p (omega arith) (λ q. omega (arith, o (omega arith)))
+
+  final-below : AllBelow 256 t
+  unfolding sealed footed lengthed
+  final-below =
+      let u : List ℕ = sets s 32 (bytesOf 4 (length s)) in
+      below-append 256 (omega arith) (take (length u - footerLength) u) (digest (take (length u - footerLength) u))
+      (below-take 256 (omega arith) (length u - footerLength) u (below-sets 256 (omega arith) (bytesOf 4 (length s)) s 32 (below-bytesOf 4 (length s)) (ad .bytes)))
+      (digest-below (take (length u - footerLength) u))
+
+  -- it reads as it did, and every hash slot stays
+  pub final-calm : Calm l s t
+  final-calm =
+      let o = ordered l s in
+      calm l s t ad final-long final-below (keeps 0 32 (omega (arith, long)) (λ q. absurd (omega arith)))
+      (keeps 36 (hashesAt l s) (omega (arith, o .small, o .over, o .storage, o .tail, ad .room)) (λ q. omega arith))
+      (keeps (smallAt l s) (length s - footerLength) (omega arith) (λ q. omega (arith, o .kinds, o .hashes, o .small)))
+
+  pub final-hash : (r : ℕ) → r < identifiersIn s → hashIn l t r ≡ hashIn l s r
+  final-hash r h =
+      let o = ordered l s in
+      hash-same l s t (keeps 40 56 (omega (arith, long)) (λ q. omega arith))
+      (keeps (hashesAt l s) (smallAt l s) (omega (arith, o .over, o .storage, o .tail, ad .room)) (λ q. omega (arith, o .kinds, o .hashes))) r h
+
+  -- the file length and the footer are those of 01
+  length-lengthed : length (lengthed s) ≡ length s
+  unfolding lengthed
+  length-lengthed = length-sets s (table.fileLength .at) (bytesOf (table.fileLength .width) (length s))
+
+  byte : (p : ℕ) → p < length s - footerLength → getD t p 0 ≡ getD (lengthed s) p 0
+  unfolding sealed footed
+  byte p h =
+      let n : length (lengthed s) ≡ length s = length-lengthed in
+      List·getD-append (take (length (lengthed s) - footerLength) (lengthed s)) (digest (take (length (lengthed s) - footerLength) (lengthed s))) 0 p
+      (rw (length-take-le (length (lengthed s) - footerLength) (lengthed s) (omega arith)) (omega arith))
+      ∙ getD-take (length (lengthed s) - footerLength) (lengthed s) p 0 (omega arith)
+
+  length-written : wordAt t (table.fileLength .at) ≡ length s
+  unfolding lengthed
+  length-written =
+      numberAt-ext t (sets s 32 (bytesOf 4 (length s))) 4 32 32 (λ j h. byte (32 + j) (omega (arith, long)))
+      ∙ numberAt-back s 32 4 (length s) (omega (arith, long)) (omega (arith, ad .most))
+
+  pub final-sealed : Sealed t
+  unfolding sealed footed
+  final-sealed =
+      let u : List ℕ = lengthed s in
+      let b : List ℕ = take (length u - footerLength) u in
+      let f : length t ≡ length b + footerLength = length-footed b in
+      let n : length b ≡ length t - footerLength = omega (arith, f) in
+      record {
+        fileLength = length-written ∙ sym final-long;
+        footer = drop-at b (digest b) (length t - footerLength) n ∙ ap digest (sym (take-at b (digest b) (length t - footerLength) n));
+      }
+
+-- ---- behind a patch
+
+module _ (l : Layout) (s w t : List ℕ) (c : Target) where
+  pub kept-after : Kept l s w c → Calm l w t → Kept l s t c
+  kept-after k m = record {
+    admitted = m .admitted;
+    functions = m .functions ∙ k .functions;
+    kinds = m .kinds ∙ k .kinds;
+    identifiers = m .identifiers ∙ k .identifiers;
+    strings = m .strings ∙ k .strings;
+    string = λ i h. m .string i (rw (k .strings) h) ∙ k .string i h;
+    body = λ i h. m .body i (rw (k .functions) h) ∙ k .body i h;
+    flag = λ i. m .flag i ∙ k .flag i;
+    rank = λ i. m .rank i ∙ k .rank i;
+    function = λ i h. m .function i (rw (k .functions) h) ∙ k .function i h;
+    debug = m .debug ∙ k .debug;
+    long = m .long ∙ k .long;
+    tail = λ p h f b o.
+        let (x, y, z) = k .tail p h f b o in
+        (rw (m .tail) x, rw (m .long) y, m .bytes (placeAfter l s c p) x (omega arith) ∙ z);
+  }

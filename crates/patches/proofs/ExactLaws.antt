@@ -1,0 +1,203 @@
+-- A step is refused with n exactly where fault n is there and none before it in 01's order.
+use mathlib.Core.Path.{_≡_, refl, ap, sym, _∙_}
+use mathlib.Core.Bool.{Bool, true, false, not}
+use mathlib.Core.Logic.{inl, inr, _↔_}
+use mathlib.Core.List.{List, [], _∷_, _++_, append-assoc}
+use Prim.Native.Nat.{ℕ, _+_, _^_, _≤_, _<_}
+use native.Mathlib.Omega.{arith}
+use borrow.Author.Tests.{eq-eqb, eqb-true, leb-true, le-leb, ltb-true, lt-ltb, not-true, not-false}
+use lib.Dec.{leb, ltb, eqb}
+use lib.ListN.{length, getD}
+use Rattle.bits.specs.Choice.{pick, both, Check, check, judge}
+use Rattle.bits.specs.Outcome.{Outcome, refused, made, roomed}
+use Rattle.bits.proofs.TestLaws.{which, both-0, both-1, both-of, either-true}
+use Rattle.bits.proofs.JudgeLaws.{rising, given, numbered, Shows, Shows.nothing, Shows._also_, shows-append, shows-map, given-first, given-last, judge-append}
+use Rattle.bits.proofs.ListLaws.{AllBelow}
+use Rattle.format.specs.declared.Layout.{Layout}
+use Rattle.image.specs.Sections.{functionsIn, stringsIn}
+use Rattle.image.specs.Functions.{funcOf}
+use Rattle.image.specs.Fit.{sizeRow, beyond, fieldsFit}
+use Rattle.image.specs.Admission.{checks, refusal}
+use Rattle.image.proofs.AdmitLaws.{admitted}
+use Rattle.image.proofs.FaultLaws as faults
+use Rattle.unicode.specs.Utf8.{isUtf8, utf16}
+use Rattle.strings.specs.Patch as strings
+use Rattle.functions.specs.Patch as functions
+use Rattle.patches.specs.Patches.{Patch, byId, byValue, toBody, outcomeOf, Step, stepOf, targetOf}
+use Rattle.patches.specs.Lists.{InBytes, RefusedExactly}
+use Rattle.patches.specs.Faults.{turnOf, sizeMost, goesTo, PatchFault}
+use Rattle.patches.specs.Faults.PatchFault.{badValue, badOld, badNew, shares, within, infoInside, debugBelow, wasEmpty, absent, overLimit, overField, overSize, noRoom, badImage, noString, noFunction}
+use Rattle.patches.proofs.StepLaws.{patch-promise}
+use Rattle.patches.proofs.OrderLaws.{inTurns, judged-in-order}
+use Rattle.patches.proofs.FindLaws.{find-least, find-none}
+use Rattle.patches.proofs.RefusalLaws.{size-wrong, size-failed, fields-wrong, fields-failed, alone-wrong, alone-failed, infos-decide, debug-decide, new-length, patch-wrong, patch-failed}
+
+-- ---- the checks of a step: those of the patch, and the room
+
+abbrev ownChecks : Layout → List ℕ → Patch → List Check
+ownChecks l s (byId id value) = check 7 (leb (stringsIn s) id) ∷ check 8 (not (isUtf8 value)) ∷ strings.resultChecks l s id value
+ownChecks l s (byValue old new) =
+    check 8 (not (isUtf8 old))
+    ∷ check 8 (not (isUtf8 new))
+    ∷ check 14 (leb (stringsIn s) (strings.findId l s (utf16 old)))
+    ∷ strings.resultChecks l s (strings.findId l s (utf16 old)) new
+ownChecks l s (toBody id body) =
+    check 7 (leb (functionsIn s) id)
+    ∷ check 9 (not (functions.bodyAlone l s id))
+    ∷ check 9 (not (functions.infosOutside l s id))
+    ∷ check 9 (not (functions.debugPast l s id))
+    ∷ check 10 (both (eqb (funcOf l s id .size) 0) (ltb 0 (length body)))
+    ∷ check 11 (ltb 67_108_864 (functions.movedBy l s id body (length s)))
+    ∷ check 12 (not (functions.sizeFits l s id body))
+    ∷ check 12 (not (fieldsFit l s (functions.movedBy l s id body)))
+    ∷ []
+
+module _ (l : Layout) (s : List ℕ) (room : ℕ) where
+  abbrev roomCheck : Patch → List Check
+  roomCheck p = check 13 (ltb room (goesTo l s p (length s))) ∷ []
+
+  abbrev allChecks : Patch → List Check
+  allChecks p = checks l s ++ (ownChecks l s p ++ roomCheck p)
+
+  -- ---- a check that is met is a fault
+
+  limit-shown : (id : ℕ) (value : List ℕ) (p : Patch) → goesTo l s p (length s) ≡ strings.newLength l s id value → ltb 67_108_864 (strings.newLength l s id value) ≡ true → PatchFault l s room p 11
+  limit-shown id value p e t = overLimit p (rw e (ltb-true 67_108_864 (strings.newLength l s id value) t))
+
+  share-shown : (id : ℕ) (body : List ℕ) → functions.bodyAlone l s id ≡ false → PatchFault l s room (toBody id body) 9
+  share-shown id body e =
+      let (j, h, d, w) = alone-wrong l s id e in
+      elim w [ inl x ↦ shares id body j h d x | inr (z, x, y) ↦ within id body j h d z x y ]
+
+  own-shows : (p : Patch) → Shows (PatchFault l s room p) (ownChecks l s p ++ roomCheck p)
+  unfolding targetOf
+  own-shows (byId id value) =
+      (λ t. noString id value (leb-true (stringsIn s) id t))
+      also (λ t. badValue id value (not-true (isUtf8 value) t))
+      also (λ t. limit-shown id value (byId id value) (sym (new-length l s id value)) t)
+      also (λ t. let (j, h, u, w) = patch-wrong l s id value (not-true (strings.patchFits l s id value) t) in overField (byId id value) j h u w)
+      also (λ t. noRoom (byId id value) (ltb-true room _ t))
+      also nothing
+  own-shows (byValue old new) =
+      let id : ℕ = strings.findId l s (utf16 old) in
+      (λ t. badOld old new (not-true (isUtf8 old) t))
+      also (λ t. badNew old new (not-true (isUtf8 new) t))
+      also (λ t. absent old new (λ i h. find-least l s (utf16 old) i (omega (arith, leb-true (stringsIn s) id t))))
+      also (λ t. limit-shown id new (byValue old new) (sym (new-length l s id new)) t)
+      also (λ t. let (j, h, u, w) = patch-wrong l s id new (not-true (strings.patchFits l s id new) t) in overField (byValue old new) j h u w)
+      also (λ t. noRoom (byValue old new) (ltb-true room _ t))
+      also nothing
+  own-shows (toBody id body) =
+      (λ t. noFunction id body (leb-true (functionsIn s) id t))
+      also (λ t. share-shown id body (not-true (functions.bodyAlone l s id) t))
+      also (λ t. let (j, h, (x, y)) = infos-decide l s id .wrong (not-true (functions.infosOutside l s id) t) in infoInside id body j h x y)
+      also (λ t. let (x, y) = debug-decide l s id .wrong (not-true (functions.debugPast l s id) t) in debugBelow id body x y)
+      also (λ t.
+      wasEmpty id body (eqb-true (funcOf l s id .size) 0 (both-0 (eqb (funcOf l s id .size) 0) (ltb 0 (length body)) t))
+      (ltb-true 0 (length body) (both-1 (eqb (funcOf l s id .size) 0) (ltb 0 (length body)) t)))
+      also (λ t. overLimit (toBody id body) (ltb-true 67_108_864 (functions.movedBy l s id body (length s)) t))
+      also (λ t. let (x, y) = size-wrong l s id body (not-true (functions.sizeFits l s id body) t) in overSize id body x y)
+      also (λ t. let (j, h, u, w) = fields-wrong l s (functions.movedBy l s id body) (not-true (fieldsFit l s (functions.movedBy l s id body)) t) in overField (toBody id body) j h u w)
+      also (λ t. noRoom (toBody id body) (ltb-true room _ t))
+      also nothing
+
+  all-shows : (p : Patch) → Shows (PatchFault l s room p) (allChecks p)
+  all-shows p = shows-append (PatchFault l s room p) (checks l s) (ownChecks l s p ++ roomCheck p) (shows-map _ (PatchFault l s room p) (checks l s) (badImage p) (faults.shows l s)) (own-shows p)
+
+  -- ---- and a fault's check is met
+
+  own-gives : (p : Patch) (n : ℕ) → PatchFault l s room p n → given n (allChecks p) ≡ true
+  unfolding targetOf
+  own-gives p n (badImage q m x) = given-first n (checks l s) (ownChecks l s p ++ roomCheck p) (faults.gives l s n x)
+  own-gives p n (noString id value h) = given-last n (checks l s) _ (rw (le-leb (stringsIn s) id h))
+  own-gives p n (noFunction id body h) = given-last n (checks l s) _ (rw (le-leb (functionsIn s) id h))
+  own-gives p n (badValue id value h) = given-last n (checks l s) _ (rw h)
+  own-gives p n (badOld old new h) = given-last n (checks l s) _ (rw h)
+  own-gives p n (badNew old new h) = given-last n (checks l s) _ (simp (h, either-true))
+  own-gives p n (shares id body j h d x) = given-last n (checks l s) _ (rw (alone-failed l s id (j, h, d, inl x)))
+  own-gives p n (within id body j h d z x y) = given-last n (checks l s) _ (rw (alone-failed l s id (j, h, d, inr (z, x, y))))
+  own-gives p n (infoInside id body j h x y) = given-last n (checks l s) _ (simp (infos-decide l s id .failed (j, h, (x, y)), either-true))
+  own-gives p n (debugBelow id body x y) = given-last n (checks l s) _ (simp (debug-decide l s id .failed (x, y), either-true))
+  own-gives p n (wasEmpty id body x y) = given-last n (checks l s) _ (rw (eq-eqb (funcOf l s id .size) 0 x, lt-ltb 0 (length body) y))
+  own-gives p n (absent old new h) = given-last n (checks l s) _ (rw (le-leb (stringsIn s) _ (find-none l s (utf16 old) h)))
+  own-gives p n (overLimit (byId id value) h) =
+      given-last n (checks l s) _ (simp (lt-ltb 67_108_864 (strings.newLength l s id value) (rw (new-length l s id value) h), either-true))
+  own-gives p n (overLimit (byValue old new) h) =
+      let id : ℕ = strings.findId l s (utf16 old) in
+      given-last n (checks l s) _ (simp (lt-ltb 67_108_864 (strings.newLength l s id new) (rw (new-length l s id new) h), either-true))
+  own-gives p n (overLimit (toBody id body) h) = given-last n (checks l s) _ (simp (lt-ltb 67_108_864 (functions.movedBy l s id body (length s)) h, either-true))
+  own-gives p n (overField (byId id value) j h u w) = given-last n (checks l s) _ (simp (patch-failed l s id value (j, h, u, w), either-true))
+  own-gives p n (overField (byValue old new) j h u w) = given-last n (checks l s) _ (simp (patch-failed l s (strings.findId l s (utf16 old)) new (j, h, u, w), either-true))
+  own-gives p n (overField (toBody id body) j h u w) = given-last n (checks l s) _ (simp (fields-failed l s (functions.movedBy l s id body) (j, h, u, w), either-true))
+  own-gives p n (overSize id body t h) = given-last n (checks l s) _ (simp (size-failed l s id body t h, either-true))
+  own-gives p n (noRoom q h) =
+      given-last n (checks l s) (ownChecks l s p ++ roomCheck p) (given-last n (ownChecks l s p) (roomCheck p) (rw (lt-ltb room (goesTo l s p (length s)) h)))
+
+-- ---- the outcome of a step, and what is judged
+
+roomed-judged : (xs : List Check) (t : List ℕ) (m room n : ℕ) → numbered xs ≡ true → (judge xs ≡ 0 → length t ≡ m) → 0 < n
+    → roomed room (pick (eqb (judge xs) 0) (made t) (refused (judge xs))) ≡ refused n ↔ judge (xs ++ (check 13 (ltb room m) ∷ [])) ≡ n
+unfolding roomed judge
+roomed-judged xs t m room n num long some = rw (judge-append xs (check 13 (ltb room m) ∷ []) num) (go (eqb (judge xs) 0) refl)
+  where
+    fits : (c : Bool) → pick c (refused 13) (made t) ≡ refused n ↔ pick c 13 0 ≡ n
+    fits true = (λ e. cc, λ e. rw e)
+    fits false = (λ e. absurd (let z : _≡_ {A = ℕ} 0 1 = cc in omega arith), λ e. absurd (omega arith))
+
+    go : (b : Bool) → eqb (judge xs) 0 ≡ b → roomed room (pick b (made t) (refused (judge xs))) ≡ refused n ↔ pick b (pick (ltb room m) 13 0) (judge xs) ≡ n
+    go true e = rw (long (eqb-true (judge xs) 0 e)) (fits (ltb room m))
+    go false e = (λ q. cc, λ q. rw q)
+
+-- what a patch makes where it is accepted
+abbrev resultOf : Layout → List ℕ → Patch → List ℕ
+resultOf l s (byId id value) = strings.patched l s id value
+resultOf l s (byValue old new) = strings.patched l s (strings.findId l s (utf16 old)) new
+resultOf l s (toBody id body) = functions.patched l s id body
+
+module _ (l : Layout) (s : List ℕ) (bytes : AllBelow 256 s) (p : Step) (in-bytes : InBytes (p .patch)) where
+  abbrev own : List Check
+  own = checks l s ++ ownChecks l s (p .patch)
+
+  outcome-is : (q : Patch) → outcomeOf l s q ≡ pick (eqb (judge (checks l s ++ ownChecks l s q)) 0) (made (resultOf l s q)) (refused (judge (checks l s ++ ownChecks l s q)))
+  unfolding outcomeOf strings.patchById strings.byIdRefusal strings.patchByValue strings.byValueRefusal functions.patchBody functions.bodyRefusal
+  outcome-is (byId id value) = refl
+  outcome-is (byValue old new) = refl
+  outcome-is (toBody id body) = refl
+
+  all-numbered : (q : Patch) → numbered (checks l s ++ ownChecks l s q) ≡ true
+  unfolding checks
+  all-numbered (byId id value) = refl
+  all-numbered (byValue old new) = refl
+  all-numbered (toBody id body) = refl
+
+  -- a list that is passed begins with a list that is passed
+  first : judge own ≡ 0 → refusal l s ≡ 0
+  unfolding refusal checks
+  first e = elim (which (eqb (judge (checks l s)) 0)) [
+    | inl t ↦ eqb-true (judge (checks l s)) 0 t
+    | inr f ↦ rw f at (sym (judge-append (checks l s) (ownChecks l s (p .patch)) refl) ∙ e)
+  ]
+
+  long : judge own ≡ 0 → length (resultOf l s (p .patch)) ≡ goesTo l s (p .patch) (length s)
+  long e =
+      let m : outcomeOf l s (p .patch) ≡ made (resultOf l s (p .patch)) = outcome-is (p .patch) ∙ rw (eq-eqb (judge own) 0 e) in
+      patch-promise l s (admitted l s bytes (first e)) (p .patch) (resultOf l s (p .patch)) in-bytes m .kept .long
+
+  refused-judged : (n : ℕ) → 0 < n → stepOf l s p ≡ refused n ↔ judge (allChecks l s (p .room) (p .patch)) ≡ n
+  unfolding stepOf
+  refused-judged n h =
+      rw (outcome-is (p .patch), ← append-assoc (checks l s) (ownChecks l s (p .patch)) (roomCheck l s (p .room) (p .patch)))
+      (roomed-judged own (resultOf l s (p .patch)) (goesTo l s (p .patch) (length s)) (p .room) n (all-numbered (p .patch)) long h)
+
+  rises : (q : Patch) → rising 1 14 (inTurns (allChecks l s (p .room) q)) ≡ true
+  unfolding checks turnOf
+  rises (byId id value) = refl
+  rises (byValue old new) = refl
+  rises (toBody id body) = refl
+
+  -- a step is refused with n exactly where fault n is there, and none whose turn comes before
+  pub refused-exactly : RefusedExactly l s p
+  refused-exactly n h =
+      let (a, b) = refused-judged n h in
+      let (c, d) = judged-in-order (PatchFault l s (p .room) (p .patch)) 14 (allChecks l s (p .room) (p .patch)) (rises (p .patch)) (all-shows l s (p .room) (p .patch)) (own-gives l s (p .room) (p .patch)) n h in
+      (λ e. c (a e), λ x. b (d x))

@@ -1,0 +1,11 @@
+pub mod CalmLaws
+pub mod ValueLaws
+pub mod UnitLaws
+pub mod StringLaws
+pub mod BodyLaws
+pub mod StepLaws
+pub mod OrderLaws
+pub mod FindLaws
+pub mod RefusalLaws
+pub mod ExactLaws
+pub mod ListLaws

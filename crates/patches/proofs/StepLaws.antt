@@ -1,0 +1,114 @@
+-- One accepted patch of any kind keeps its promise.
+use mathlib.Core.Path.{_≡_, refl, ap, sym, _∙_, subst}
+use mathlib.Core.Bool.{Bool, true, false, not}
+use mathlib.Core.List.{List, [], _∷_, _++_}
+use Prim.Native.Nat.{ℕ, _≤_, _<_}
+use native.Mathlib.Omega.{arith}
+use borrow.Author.Tests.{eqb-true, leb-false, ltb-false, not-false}
+use lib.Dec.{leb, ltb, eqb}
+use lib.ListN.{length}
+use Rattle.bits.specs.Choice.{pick, both, Check, judge}
+use Rattle.bits.specs.Outcome.{Outcome, refused, made, roomed}
+use Rattle.bits.proofs.TestLaws.{which}
+use Rattle.bits.proofs.JudgeLaws.{judge-pass, judge-append}
+use Rattle.bits.proofs.ListLaws.{AllBelow}
+use Rattle.format.specs.declared.Layout.{Layout}
+use Rattle.footer.specs.Finalize.{sizeLimit}
+use Rattle.image.specs.Sections.{stringsIn, functionsIn}
+use Rattle.image.specs.Functions.{funcOf}
+use Rattle.image.specs.Admission.{checks}
+use Rattle.image.specs.Admitted.{Admitted}
+use Rattle.image.specs.Fit.{fieldsFit}
+use Rattle.unicode.specs.Utf8.{isUtf8, utf16}
+use Rattle.strings.specs.Patch as strings
+use Rattle.functions.specs.Patch as functions
+use Rattle.patches.specs.Patches.{Patch, byId, byValue, toBody, outcomeOf, Step, stepOf, Target, aString, aBody, targetOf}
+use Rattle.patches.specs.Promise.{Promise}
+use Rattle.patches.specs.Lists.{InBytes}
+use Rattle.patches.proofs.StringLaws.{string-promise}
+use Rattle.patches.proofs.BodyLaws.{body-promise}
+
+-- an outcome that is made, of a refusal or an image
+pub made-of : (n : ℕ) (t u : List ℕ) → pick (eqb n 0) (made t) (refused n) ≡ made u → (n ≡ 0) × (t ≡ u)
+made-of n t u e = go (eqb n 0) refl e
+  where
+    go : (b : Bool) → eqb n 0 ≡ b → pick b (made t) (refused n) ≡ made u → (n ≡ 0) × (t ≡ u)
+    go true h e = (eqb-true n 0 h, cc)
+    go false h e = absurd (let z : _≡_ {A = ℕ} 0 1 = cc in omega arith)
+
+-- what is made in some room is made
+pub roomed-made : (room : ℕ) (o : Outcome) (t : List ℕ) → roomed room o ≡ made t → o ≡ made t
+unfolding roomed
+roomed-made room (refused n) t e = absurd (let z : _≡_ {A = ℕ} 0 1 = cc in omega arith)
+roomed-made room (made x) t e = go (ltb room (length x)) e
+  where
+    go : (b : Bool) → pick b (refused 13) (made x) ≡ made t → made x ≡ made t
+    go true e = absurd (let z : _≡_ {A = ℕ} 0 1 = cc in omega arith)
+    go false e = e
+
+-- where nothing is judged wrong, the later checks are passed
+later : (l : Layout) (s : List ℕ) (ys : List Check) → judge (checks l s ++ ys) ≡ 0 → judge ys ≡ 0
+unfolding checks
+later l s ys e = go (eqb (judge (checks l s)) 0) refl (sym (judge-append (checks l s) ys refl) ∙ e)
+  where
+    go : (b : Bool) → eqb (judge (checks l s)) 0 ≡ b → pick b (judge ys) (judge (checks l s)) ≡ 0 → judge ys ≡ 0
+    go true h e = e
+    go false h e = absurd (let z : eqb (judge (checks l s)) 0 ≡ true = rw e in let y : _≡_ {A = ℕ} 0 1 = cc in omega arith)
+
+module _ (l : Layout) (s : List ℕ) (ad : Admitted l s) where
+  result : (id : ℕ) (value : List ℕ) → id < stringsIn s → AllBelow 256 value → judge (strings.resultChecks l s id value) ≡ 0
+      → Promise l s (strings.patched l s id value) (aString id value)
+  result id value known bytes e =
+      let (limit, e₁) = judge-pass _ _ (omega arith) e in
+      let (field, e₂) = judge-pass _ _ (omega arith) e₁ in
+      string-promise l s ad id value known bytes (ltb-false sizeLimit (strings.newLength l s id value) limit) (not-false (strings.patchFits l s id value) field)
+
+  by-id : (id : ℕ) (value t : List ℕ) → AllBelow 256 value → strings.patchById l s id value ≡ made t → Promise l s t (aString id value)
+  unfolding strings.patchById strings.byIdRefusal
+  by-id id value t bytes e =
+      let (n, p) = made-of _ _ _ e in
+      let f = later l s _ n in
+      let (known, f₁) = judge-pass _ _ (omega arith) f in
+      let (valid, f₂) = judge-pass _ _ (omega arith) f₁ in
+      subst (λ (x : List ℕ). Promise l s x (aString id value)) p (result id value (leb-false (stringsIn s) id known) bytes f₂)
+
+  by-value : (old new t : List ℕ) → AllBelow 256 new → strings.patchByValue l s old new ≡ made t → Promise l s t (aString (strings.findId l s (utf16 old)) new)
+  unfolding strings.patchByValue strings.byValueRefusal
+  by-value old new t bytes e =
+      let id : ℕ = strings.findId l s (utf16 old) in
+      let (n, p) = made-of _ _ _ e in
+      let f = later l s _ n in
+      let (first, f₁) = judge-pass _ _ (omega arith) f in
+      let (second, f₂) = judge-pass _ _ (omega arith) f₁ in
+      let (known, f₃) = judge-pass _ _ (omega arith) f₂ in
+      subst (λ (x : List ℕ). Promise l s x (aString id new)) p (result id new (leb-false (stringsIn s) id known) bytes f₃)
+
+  to-body : (id : ℕ) (body t : List ℕ) → AllBelow 256 body → functions.patchBody l s id body ≡ made t → Promise l s t (aBody id body)
+  unfolding functions.patchBody functions.bodyRefusal
+  to-body id body t bytes e =
+      let (n, p) = made-of _ _ _ e in
+      let f = later l s _ n in
+      let (known, f₁) = judge-pass _ _ (omega arith) f in
+      let (alone, f₂) = judge-pass _ _ (omega arith) f₁ in
+      let (infos, f₃) = judge-pass _ _ (omega arith) f₂ in
+      let (debug, f₄) = judge-pass _ _ (omega arith) f₃ in
+      let (empty, f₅) = judge-pass _ _ (omega arith) f₄ in
+      let (limit, f₆) = judge-pass _ _ (omega arith) f₅ in
+      let (size, f₇) = judge-pass _ _ (omega arith) f₆ in
+      let (field, f₈) = judge-pass _ _ (omega arith) f₇ in
+      subst (λ (x : List ℕ). Promise l s x (aBody id body)) p
+      (body-promise l s ad id body (leb-false (functionsIn s) id known) bytes (not-false (functions.bodyAlone l s id) alone) (not-false (functions.infosOutside l s id) infos)
+      (not-false (functions.debugPast l s id) debug) empty (ltb-false sizeLimit (functions.movedBy l s id body (length s)) limit) (not-false (functions.sizeFits l s id body) size)
+      (not-false (fieldsFit l s (functions.movedBy l s id body)) field))
+
+  -- a patch that is accepted, whatever the room
+  pub patch-promise : (p : Patch) (t : List ℕ) → InBytes p → outcomeOf l s p ≡ made t → Promise l s t (targetOf l s p)
+  unfolding outcomeOf targetOf
+  patch-promise (byId id value) t b e = by-id id value t b e
+  patch-promise (byValue old new) t b e = by-value old new t b e
+  patch-promise (toBody id body) t b e = to-body id body t b e
+
+  -- and in its room
+  pub step-promise : (p : Step) (t : List ℕ) → InBytes (p .patch) → stepOf l s p ≡ made t → Promise l s t (targetOf l s (p .patch))
+  unfolding stepOf
+  step-promise p t b e = patch-promise (p .patch) t b (roomed-made (p .room) (outcomeOf l s (p .patch)) t e)

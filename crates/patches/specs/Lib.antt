@@ -1,0 +1,4 @@
+pub mod Patches
+pub mod Promise
+pub mod Faults
+pub mod Lists

@@ -1,0 +1,61 @@
+-- Patches of an image, one after the other. 01, "What is ported and what is added" and the demand on lists of patches.
+use mathlib.Core.List.{List, [], _∷_}
+use Prim.Native.Nat.{ℕ}
+use Rattle.bits.specs.Outcome.{Outcome, refused, made, roomed}
+use Rattle.format.specs.declared.Layout.{Layout}
+use Rattle.unicode.specs.Utf8.{utf16}
+use Rattle.strings.specs.Patch.{findId, patchById, patchByValue}
+use Rattle.functions.specs.Patch.{patchBody}
+
+-- a string by its id, a string by its value (old, new), a body by its id
+pub data Patch : Type 0 where
+  byId : ℕ → List ℕ → Patch
+  byValue : List ℕ → List ℕ → Patch
+  toBody : ℕ → List ℕ → Patch
+
+-- what a patch makes of an image, whatever the room
+unfoldable pub outcomeOf : Layout → List ℕ → Patch → Outcome
+outcomeOf l s (byId id value) = patchById l s id value
+outcomeOf l s (byValue old new) = patchByValue l s old new
+outcomeOf l s (toBody id body) = patchBody l s id body
+
+-- a patch, and the room for its result
+pub record Step : Type 0 where
+  pub patch : Patch
+  pub room : ℕ
+
+unfoldable pub stepOf : Layout → List ℕ → Step → Outcome
+stepOf l s p = roomed (p .room) (outcomeOf l s (p .patch))
+
+-- the image after a step: a refused one leaves it as it is
+abbrev pub imageAfter : Outcome → List ℕ → List ℕ
+imageAfter (refused n) s = s
+imageAfter (made t) s = t
+
+-- the image after a list of steps, each applied to the last image accepted
+unfoldable pub run : Layout → List Step → List ℕ → List ℕ
+run l [] s = s
+run l (p ∷ ps) s = run l ps (imageAfter (stepOf l s p) s)
+
+-- ---- what a patch sets: a string to a value, or a body to bytes
+
+pub data Target : Type 0 where
+  aString : ℕ → List ℕ → Target
+  aBody : ℕ → List ℕ → Target
+
+-- by value it is the lowest id that has the old value's units
+unfoldable pub targetOf : Layout → List ℕ → Patch → Target
+targetOf l s (byId id value) = aString id value
+targetOf l s (byValue old new) = aString (findId l s (utf16 old)) new
+targetOf l s (toBody id body) = aBody id body
+
+-- ---- what is carried along a list: each accepted step may set it, a refused one does not
+
+abbrev pub taken : {A : Type 0} → Outcome → (A → A) → A → A
+taken (refused n) set a = a
+taken (made t) set a = set a
+
+unfoldable pub carried : {A : Type 0} → Layout → (List ℕ → Target → A → A) → List Step → List ℕ → A → A
+carried l set [] s a = a
+carried l set (p ∷ ps) s a =
+    carried l set ps (imageAfter (stepOf l s p) s) (taken (stepOf l s p) (set s (targetOf l s (p .patch))) a)

@@ -1,0 +1,106 @@
+-- What one accepted patch promises, and what a list of patches does. 01, Strings and Bodies; the demand on lists of patches.
+use mathlib.Core.Path.{_≡_}
+use mathlib.Core.Bool.{true}
+use mathlib.Core.List.{List}
+use Prim.Native.Nat.{ℕ, _+_, _-_, _≤_, _<_}
+use lib.Dec.{eqb}
+use lib.ListN.{length, getD, take, drop}
+use Rattle.bits.specs.Choice.{pick, both}
+use Rattle.bits.specs.Bytes.{wordAt}
+use Rattle.format.specs.declared.Layout.{Layout}
+use Rattle.format.specs.Table as table
+use Rattle.format.specs.Hash.{hashOf}
+use Rattle.format.specs.Move.{moved}
+use Rattle.sha1.specs.Sha1.{digest}
+use Rattle.footer.specs.Footer.{footerLength}
+use Rattle.image.specs.Sections.{functionsIn, kindsIn, identifiersIn, stringsIn, debugIn, tailAt}
+use Rattle.image.specs.Strings.{Str, stringOf}
+use Rattle.image.specs.Kinds.{isIdentifier, rankOf, hashIn}
+use Rattle.image.specs.Functions.{Func, funcOf, bodyOf}
+use Rattle.image.specs.Admitted.{Disjoint, Admitted}
+use Rattle.unicode.specs.Utf8.{utf16}
+use Rattle.string_region.specs.Strings.{asString, stringsWith}
+use Rattle.strings.specs.Patch.{fitsInPlace, newTail}
+use Rattle.functions.specs.Patch.{threshold}
+use Rattle.patches.specs.Patches.{Target, aString, aBody}
+
+-- ---- what is set
+
+-- string i: the value, narrow if ASCII, else UTF-16
+abbrev pub stringAfter : ℕ → Target → Str → Str
+stringAfter i (aString id value) old = pick (eqb i id) (asString value) old
+stringAfter i (aBody id body) old = old
+
+-- body i
+abbrev pub bodyAfter : ℕ → Target → List ℕ → List ℕ
+bodyAfter i (aString id value) old = old
+bodyAfter i (aBody id body) old = pick (eqb i id) body old
+
+-- hash slot r: the hash of the value, where the string is an identifier of this rank
+abbrev pub hashAfter : Layout → ℕ → List ℕ → Target → ℕ → ℕ
+hashAfter l r s (aString id value) old = pick (both (isIdentifier l s id) (eqb r (rankOf l s id))) (hashOf (utf16 value)) old
+hashAfter l r s (aBody id body) old = old
+
+-- ---- what moves: "a place at or past the tail (rebuild) or threshold (body) moves by delta, any other and 0 stay"
+
+abbrev pub movesFrom : Layout → List ℕ → Target → ℕ
+movesFrom l s (aString id value) = tailAt l s
+movesFrom l s (aBody id body) = threshold (funcOf l s id)
+
+abbrev pub movesTo : Layout → List ℕ → Target → ℕ
+movesTo l s (aString id value) = pick (fitsInPlace l s id value) (tailAt l s) (newTail l (stringsWith l s id (asString value)) s)
+movesTo l s (aBody id body) = funcOf l s id .begin + length body
+
+abbrev pub placeAfter : Layout → List ℕ → Target → ℕ → ℕ
+placeAfter l s c = moved (movesFrom l s c) (movesTo l s c)
+
+-- the size of body i
+abbrev pub sizeAfter : ℕ → Target → ℕ → ℕ
+sizeAfter i (aString id value) old = old
+sizeAfter i (aBody id body) old = pick (eqb i id) (length body) old
+
+-- function i: its places move, and a patched body has its new size
+abbrev pub functionAfter : Layout → List ℕ → Target → ℕ → Func → Func
+functionAfter l s c i f = record {
+  large = f .large;
+  ptr = placeAfter l s c (f .ptr);
+  begin = placeAfter l s c (f .begin);
+  size = sizeAfter i c (f .size);
+  info = placeAfter l s c (f .info);
+}
+
+-- "every tail byte outside patched bodies, large-header words and footer"
+abbrev pub OutsideBody : Layout → List ℕ → Target → ℕ → Type 0
+OutsideBody l s (aString id value) p = Unit {0}
+OutsideBody l s (aBody id body) p = p < threshold (funcOf l s id) → p < funcOf l s id .begin
+
+abbrev pub OutsideHeaders : Layout → List ℕ → ℕ → Type 0
+OutsideHeaders l s p = (j : ℕ) → j < functionsIn s → funcOf l s j .large ≡ true → Disjoint (funcOf l s j .ptr) (table.largeRow l .width) p 1
+
+-- ---- what t promises, made from s by a patch that sets c
+
+pub record Kept (l : Layout) (s t : List ℕ) (c : Target) : Type 0 where
+  pub admitted : Admitted l t
+  pub functions : functionsIn t ≡ functionsIn s
+  pub kinds : kindsIn t ≡ kindsIn s
+  pub identifiers : identifiersIn t ≡ identifiersIn s
+  pub strings : stringsIn t ≡ stringsIn s
+  pub string : (i : ℕ) → i < stringsIn s → stringOf l t i ≡ stringAfter i c (stringOf l s i)
+  pub body : (i : ℕ) → i < functionsIn s → bodyOf l t i ≡ bodyAfter i c (bodyOf l s i)
+  pub flag : (i : ℕ) → isIdentifier l t i ≡ isIdentifier l s i
+  pub rank : (i : ℕ) → rankOf l t i ≡ rankOf l s i
+  pub function : (i : ℕ) → i < functionsIn s → funcOf l t i ≡ functionAfter l s c i (funcOf l s i)
+  pub debug : debugIn l t ≡ placeAfter l s c (debugIn l s)
+  pub long : length t ≡ placeAfter l s c (length s)
+  pub tail : (p : ℕ) → tailAt l s ≤ p → p + footerLength < length s → OutsideBody l s c p → OutsideHeaders l s p
+      → (tailAt l t ≤ placeAfter l s c p) × (placeAfter l s c p + footerLength < length t) × (getD t (placeAfter l s c p) 0 ≡ getD s p 0)
+
+-- "the file length at 32, then over the last 20 bytes the SHA-1 of all bytes before them"
+pub record Sealed (t : List ℕ) : Type 0 where
+  pub fileLength : wordAt t (table.fileLength .at) ≡ length t
+  pub footer : drop (length t - footerLength) t ≡ digest (take (length t - footerLength) t)
+
+pub record Promise (l : Layout) (s t : List ℕ) (c : Target) : Type 0 where
+  pub kept : Kept l s t c
+  pub hash : (r : ℕ) → r < identifiersIn s → hashIn l t r ≡ hashAfter l r s c (hashIn l s r)
+  pub sealed : Sealed t

@@ -1,0 +1,127 @@
+//! Calls 30 and 31: admission. The Rust has none, so all answers are those of **a second reading** of
+//! document 01, over images made at random, whole and damaged.
+
+pub mod damage;
+pub mod layout;
+pub mod maker;
+pub mod reading;
+
+use crate::family::Argument::*;
+use crate::family::{Family, Function};
+use crate::random::Random;
+use crate::stream::{Call, ARGUMENTS};
+use damage::DAMAGES;
+use layout::{Layout, LAYOUTS};
+use layout::{FUNCTIONS as FUNCTION_COUNT, IDENTIFIERS, KINDS, OVERFLOWS, STORAGE, STRINGS};
+use maker::{make, Shape, HUGE, LARGE, MIDDLE, SMALL};
+use reading::Reading;
+
+const LONGEST_BUFFER: usize = 65_536;
+
+pub static FAMILY: Family = Family {
+    name: "image",
+    functions: &FUNCTIONS,
+    longest_buffer: LONGEST_BUFFER,
+    fixed,
+    random,
+    departures: &[],
+};
+
+static FUNCTIONS: [Function; 2] = [
+    Function {
+        number: 30,
+        name: "admit: the places",
+        arguments: &[Word("layout")],
+        run: |a, image| {
+            let reading = admitted(a, image)?;
+            let p = reading.places();
+            let places =
+                [p.kinds, p.hashes, p.small, p.overflow, p.storage, p.tail, reading.footer()];
+            let layout = u32::from(reading.layout.0);
+            Ok([layout].into_iter().chain(places.map(|place| place as u32)).collect())
+        },
+    },
+    Function {
+        number: 31,
+        name: "admit: the counts",
+        arguments: &[Word("layout")],
+        run: |a, image| {
+            let reading = admitted(a, image)?;
+            let counts = [FUNCTION_COUNT, KINDS, IDENTIFIERS, STRINGS, OVERFLOWS, STORAGE];
+            Ok(counts.map(|at| reading.count(at)).to_vec())
+        },
+    },
+];
+
+fn admitted<'a>(a: &[u32; ARGUMENTS], image: &'a [u8]) -> Result<Reading<'a>, u32> {
+    let reading = Reading { layout: Layout(a[0] as u8), image, slip: None };
+    match reading.refusal() {
+        0 => Ok(reading),
+        number => Err(number),
+    }
+}
+
+fn call(number: u32, layout: Layout, image: Vec<u8>) -> Call {
+    let function = FUNCTIONS.iter().find(|function| function.number == number).unwrap();
+    Call::new(function, &[layout.0.into()], image)
+}
+
+/// An image, damaged in one way or in none; None where it has nothing that could be damaged so, or is
+/// too long for a call.
+fn image(
+    random: &mut Random,
+    layout: Layout,
+    shape: Shape,
+    damage: Option<damage::Damage>,
+) -> Option<Vec<u8>> {
+    let made = make(random, layout, shape);
+    let image = match damage {
+        Some(damage) => damage(random, &made)?,
+        None => made.image,
+    };
+    (image.len() <= LONGEST_BUFFER).then_some(image)
+}
+
+/// Each layout whole, and with each damage, a few times.
+fn fixed() -> Vec<Call> {
+    let mut calls = vec![];
+    let mut random = Random(30);
+    for layout in LAYOUTS {
+        let all = DAMAGES.iter().map(|(_, damage)| Some(*damage)).chain([None; 4]);
+        for damage in all {
+            let tries = std::iter::repeat_with(|| image(&mut random, layout, SMALL, damage));
+            for image in tries.take(100).flatten().take(4) {
+                calls.push(call(30, layout, image));
+            }
+        }
+        let whole = image(&mut random, layout, MIDDLE, None).unwrap();
+        calls.extend([30, 31].map(|number| call(number, layout, whole.clone())));
+    }
+    calls
+}
+
+fn random(random: &mut Random) -> Call {
+    let layout = random.pick(&LAYOUTS);
+    let shape = match random.below(200) {
+        0 => HUGE,
+        1..6 => LARGE,
+        6..40 => MIDDLE,
+        _ => SMALL,
+    };
+    let damage = (!random.one_in(8)).then(|| random.pick(&DAMAGES).1);
+    match image(random, layout, shape, damage) {
+        // At times read as another layout than it was made for.
+        Some(image) => {
+            let stated = if random.one_in(32) { random.pick(&LAYOUTS) } else { layout };
+            call(if random.one_in(8) { 31 } else { 30 }, stated, image)
+        }
+        None => self::random(random),
+    }
+}
+
+/// Whether the reading with a slip answers a call otherwise.
+pub fn finds(call: &Call, slip: reading::Slip) -> bool {
+    let layout = Layout(call.arguments[0] as u8);
+    let with = |slip| Reading { layout, image: &call.buffer, slip }.refusal();
+    with(None) != with(Some(slip))
+}
