@@ -1,0 +1,79 @@
+// The lines of the listing, written to a lent buffer at a place. Each writer answers the place behind
+// what it wrote, and needs room for the longest line of its kind.
+ghost use mathlib.Core.Path.{_≡_};
+ghost use mathlib.Core.List.{_∷_, [], _++_};
+ghost use Prim.Native.Nat.{_+_, _≤_};
+ghost use lib.ListN.{length};
+ghost use Rattle.bits.specs.Choice.{pick};
+ghost use Rattle.text.specs.Text.{space, spaced, Wrote};
+ghost use Rattle.lines.specs.Lines.{letter, refusedLine, countsLine, stringWords, functionLine};
+
+const SPACE: u8 = 32;
+
+const LINE_FEED: u8 = 10;
+
+// ---- lines of words
+
+fn choose(which: bool, yes: u8, no: u8) -> u8
+    ensures { λ r. ⌜ r ≡ pick which yes no ⌝ }
+{
+    if which { yes } else { no }
+}
+
+// The letter `yes` or `no`, and a space.
+fn put_letter(out: &mut [u8], at: usize, which: bool, yes: u8, no: u8) -> usize
+    requires { ⌜ at + 2 ≤ length (now out) ⌝ }
+    ensures { λ r. ⌜ Wrote (now (out .entry)) at (letter (pick which yes no) ++ (space ∷ [])) r (now (out .exit)) ⌝ }
+{
+    out[at] = choose(which, yes, no);
+    out[at + 1] = SPACE;
+    at + 2
+}
+
+pub fn put_refused(out: &mut [u8], at: usize, number: u64) -> usize
+    requires { ⌜ at + 29 ≤ length (now out) ⌝ }
+    ensures { λ r. ⌜ Wrote (now (out .entry)) at (refusedLine number) r (now (out .exit)) × (r ≤ at + 29) ⌝ }
+{
+    let a = text::put_text(out, at, b"refused ");
+    text::put_number(out, a, number, LINE_FEED)
+}
+
+pub fn put_counts(out: &mut [u8], at: usize, len: u64, strings: u64, functions: u64) -> usize
+    requires { ⌜ at + 69 ≤ length (now out) ⌝ }
+    ensures { λ r. ⌜ Wrote (now (out .entry)) at (countsLine len strings functions) r (now (out .exit)) × (r ≤ at + 69) ⌝ }
+{
+    let a = text::put_text(out, at, b"image ");
+    let b = text::put_number(out, a, len, SPACE);
+    let c = text::put_number(out, b, strings, SPACE);
+    text::put_number(out, c, functions, LINE_FEED)
+}
+
+// The line of a string before its units.
+pub fn put_string(
+    out: &mut [u8],
+    at: usize,
+    id: u64,
+    wide: bool,
+    identifier: bool,
+    count: u64,
+) -> usize
+    requires { ⌜ at + 48 ≤ length (now out) ⌝ }
+    ensures { λ r. ⌜ Wrote (now (out .entry)) at (spaced (stringWords id wide identifier count)) r (now (out .exit)) × (r ≤ at + 48) ⌝ }
+{
+    let a = text::put_text(out, at, b"s ");
+    let b = text::put_number(out, a, id, SPACE);
+    let c = put_letter(out, b, wide, b'w', b'n');
+    let d = put_letter(out, c, identifier, b'i', b's');
+    text::put_number(out, d, count, SPACE)
+}
+
+pub fn put_function(out: &mut [u8], at: usize, id: u64, large: bool, start: u64, size: u64) -> usize
+    requires { ⌜ at + 67 ≤ length (now out) ⌝ }
+    ensures { λ r. ⌜ Wrote (now (out .entry)) at (functionLine id large start size) r (now (out .exit)) × (r ≤ at + 67) ⌝ }
+{
+    let a = text::put_text(out, at, b"f ");
+    let b = text::put_number(out, a, id, SPACE);
+    let c = put_letter(out, b, large, b'o', b'p');
+    let d = text::put_number(out, c, start, SPACE);
+    text::put_number(out, d, size, LINE_FEED)
+}
