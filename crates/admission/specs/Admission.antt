@@ -24,6 +24,11 @@ answerFor l s n = pick (eqb n 0) (Laid (placesOf l s)) (Refused n)
 unfoldable pub admission : Layout → List ℕ → Admission
 admission l s = answerFor l s (refusal l s)
 
+-- the number of an answer, 0 being none
+abbrev pub numberOf : Admission → ℕ
+numberOf (Laid p) = 0
+numberOf (Refused n) = n
+
 -- ---- its stages, in order
 
 -- numbers 1 to 3: the first four checks

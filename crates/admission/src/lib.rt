@@ -4,7 +4,7 @@ use format::Layout;
 use sections::Places;
 ghost use mathlib.Core.Path.{_≡_};
 ghost use Rattle.sections.specs.Places.{Placed};
-ghost use Rattle.admission.specs.Admission.{admission, laidOut, stringsJudged, functionsJudged};
+ghost use Rattle.admission.specs.Admission.{admission, numberOf, laidOut, stringsJudged, functionsJudged};
 
 // The record of places of an image, or the number of the refusal.
 pub enum Admission {
@@ -77,4 +77,14 @@ pub fn admit(image: &[u8], layout: Layout) -> Admission
         return judged;
     };
     judge_functions(image, p)
+}
+
+// The number of a refusal; 0 where the image is admitted.
+pub fn number_of(answer: Admission) -> u8
+    ensures { λ r. ⌜ r ≡ numberOf answer ⌝ }
+{
+    match answer {
+        Admission::Laid(_) => 0,
+        Admission::Refused(number) => number,
+    }
 }

@@ -1,0 +1,91 @@
+-- Admission's answer taken apart: what an image that is laid out promises, and how further checks follow those of admission.
+use mathlib.Core.Path.{_≡_, refl, sym, _∙_, ap, subst⁻¹}
+use mathlib.Core.Bool.{Bool, true, false}
+use mathlib.Core.List.{List, [], _∷_, _++_}
+use Prim.Native.Nat.{ℕ, _+_, _≤_, _<_}
+use native.Mathlib.Omega.{arith}
+use lib.Dec.{leb, eqb}
+use lib.ListN.{length, getD}
+use borrow.Author.Tests.{leb-true, eqb-true, eqb-false, eq-eqb, ne-eqb}
+use Rattle.bits.specs.Choice.{pick, both, Check, judge}
+use Rattle.bits.proofs.TestLaws.{both-0, both-1}
+use Rattle.bits.proofs.JudgeLaws.{rising}
+use Rattle.format.specs.declared.Layout.{Layout}
+use Rattle.image.specs.Admission.{checks, refusal}
+use Rattle.image.specs.Admitted.{Admitted}
+use Rattle.image.proofs.AdmitLaws.{admitted}
+use Rattle.sections.specs.declared.Places.{Places}
+use Rattle.sections.specs.Places.{placesOf, Fits, Placed}
+use Rattle.admission.specs.declared.Admission.{Admission}
+use Rattle.admission.specs.declared.Admission.the-variants.{Laid, Refused}
+use Rattle.admission.specs.Admission.{answerFor, admission, numberOf}
+
+-- ---- checks behind checks
+
+-- the second ones count where none of the first is met
+judge-then : (k m : ℕ) (cs ds : List Check) → 0 < k → rising k m cs ≡ true → judge (cs ++ ds) ≡ pick (eqb (judge cs) 0) (judge ds) (judge cs)
+unfolding judge
+judge-then k m [] ds h t = refl
+judge-then k m (c ∷ cs) ds h t =
+    let l : k ≤ c .number = leb-true k (c .number) (both-0 (leb k (c .number)) (rising (c .number) m cs) t) in
+    go (c .met) (omega arith) (judge-then (c .number) m cs ds (omega arith) (both-1 (leb k (c .number)) (rising (c .number) m cs) t))
+  where
+    go : (b : Bool) → 0 < c .number → judge (cs ++ ds) ≡ pick (eqb (judge cs) 0) (judge ds) (judge cs)
+        → pick b (c .number) (judge (cs ++ ds)) ≡ pick (eqb (pick b (c .number) (judge cs)) 0) (judge ds) (pick b (c .number) (judge cs))
+    go true l e = rw (ne-eqb (c .number) 0 (λ z. omega arith))
+    go false l e = e
+
+module _ (l : Layout) (s : List ℕ) where
+  numbers : rising 1 6 (checks l s) ≡ true
+  unfolding checks
+  numbers = refl
+
+  -- those of a reading or a patch stand behind those of admission
+  pub judged-then : (ds : List Check) → judge (checks l s ++ ds) ≡ pick (eqb (refusal l s) 0) (judge ds) (refusal l s)
+  unfolding refusal
+  judged-then ds = judge-then 1 6 (checks l s) ds (omega arith) numbers
+
+  -- ---- the answer of admission
+
+  module _ (r : Admission) (e : r ≡ admission l s) where
+    pub refused-is : (k : ℕ) → r ≡ Refused k → (refusal l s ≡ k) × (0 < k)
+    unfolding admission
+    refused-is k f = go (refusal l s) (eqb (refusal l s) 0) refl (sym e ∙ f)
+      where
+        go : (n : ℕ) (b : Bool) → eqb n 0 ≡ b → pick b (Laid (placesOf l s)) (Refused n) ≡ Refused k → (n ≡ k) × (0 < k)
+        go n true h q = let z : _≡_ {A = ℕ} 0 1 = cc in absurd (omega arith)
+        go n false h q = let z : n ≡ k = cc in (z, omega (arith, eqb-false n 0 h))
+
+    -- the checks behind those of admission do not count
+    pub refused-then : (k : ℕ) → r ≡ Refused k → (ds : List Check) → judge (checks l s ++ ds) ≡ k
+    refused-then k f ds =
+        let (z, h) = refused-is k f in
+        judged-then ds ∙ rw (z, ne-eqb k 0 (λ y. omega arith))
+
+    module _ (p : Places) (f : r ≡ Laid p) where
+      pub laid-is : (refusal l s ≡ 0) × (p ≡ placesOf l s)
+      unfolding admission
+      laid-is = go (refusal l s) (eqb (refusal l s) 0) refl (sym e ∙ f)
+        where
+          go : (n : ℕ) (b : Bool) → eqb n 0 ≡ b → pick b (Laid (placesOf l s)) (Refused n) ≡ Laid p → (n ≡ 0) × (p ≡ placesOf l s)
+          go n true h q = (eqb-true n 0 h, cc)
+          go n false h q = let z : _≡_ {A = ℕ} 0 1 = cc in absurd (omega arith)
+
+      pub laid-then : (ds : List Check) → judge (checks l s ++ ds) ≡ judge ds
+      laid-then ds = judged-then ds ∙ rw (laid-is .0)
+
+      pub laid-layout : p .layout ≡ l
+      unfolding placesOf
+      laid-layout = ap (λ (x : Places). x .layout) (laid-is .1)
+
+      module _ (bytes : (i : ℕ) → getD s i 0 < 256) where
+        pub laid-admitted : Admitted (p .layout) s
+        laid-admitted = subst⁻¹ (λ (x : Layout). Admitted x s) laid-layout (admitted l s bytes (laid-is .0))
+
+        pub laid-placed : Placed p s
+        laid-placed =
+            let a : Admitted (p .layout) s = laid-admitted in
+            record {
+              is = laid-is .1 ∙ ap (λ (x : Layout). placesOf x s) (sym laid-layout);
+              fits = record { most = a .most; room = a .room };
+            }

@@ -1,0 +1,41 @@
+-- A pass over the strings: what is read of each is what the definitions say, and the next is reached.
+use mathlib.Core.Path.{_≡_, refl, sym, _∙_, ap, subst⁻¹}
+use mathlib.Core.Bool.{Bool}
+use mathlib.Core.List.{List}
+use Prim.Native.Nat.{ℕ, _+_, _≤_, _<_}
+use native.Mathlib.Omega.{arith}
+use lib.ListN.{length}
+use Rattle.format.specs.Entry as entry
+use Rattle.footer.specs.Footer.{footerLength}
+use Rattle.image.specs.Sections.{storageAt}
+use Rattle.image.specs.Strings.{isFull, overBefore, smallIn, placeAt, sizeOf}
+use Rattle.image.specs.Kinds.{isIdentifier}
+use Rattle.sections.specs.declared.Places.{Places}
+use Rattle.sections.specs.Places.{Placed}
+use Rattle.sections.proofs.SectionLaws.{Sectioned, sectioned}
+use Rattle.string_tables.specs.declared.Place.{Place}
+use Rattle.string_tables.specs.Strings.{asPlace}
+use Rattle.walk.specs.Places.{Stands}
+use Rattle.reader.specs.declared.StringPlace.{StringPlace}
+use Rattle.reader.specs.Reading.{stringPlace, imagePlace, ReadAs}
+
+module _ (p : Places) (s : List ℕ) (h : Placed p s) (i : ℕ) (q : Place) (g : Stands p s i q) where
+  -- its numbers are small, so that no sum wraps
+  pub place-small : (q .count < 4294967296) × (p .«storage_at» + q .at < 4294967296)
+  place-small = let z : Sectioned p s = sectioned p s h in (omega arith, omega arith)
+
+  pub read-as : (b : Bool) → b ≡ isIdentifier (p .layout) s i → (r : StringPlace) → r ≡ imagePlace p q b → ReadAs (p .layout) s i r
+  unfolding imagePlace stringPlace
+  read-as b f r e =
+      let z : Sectioned p s = sectioned p s h in
+      let same : imagePlace p q b ≡ stringPlace (p .layout) s i
+      = rw (z .storageFrom, f)
+      (ap (λ (y : entry.Place).
+      record { start = storageAt (p .layout) s + y .at; count = y .count; size = sizeOf y; wide = y .wide; identifier = isIdentifier (p .layout) s i })
+      (g .is)) in
+      let inside : p .«storage_at» + q .at + sizeOf (asPlace q) + footerLength ≤ length s = omega arith in
+      record {
+        is = e ∙ same;
+        count = subst⁻¹ (λ (y : StringPlace). y .count ≤ y .size) e (g .count);
+        inside = subst⁻¹ (λ (y : StringPlace). y .start + y .size + footerLength ≤ length s) e inside;
+      }

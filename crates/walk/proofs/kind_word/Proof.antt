@@ -1,0 +1,18 @@
+use Rattle.walk.proofs.kind_word.Statement.{statement}
+use Rattle.walk.proofs.kind_word.Tie as tie
+use native.Mathlib.Omega.{arith}
+use Rattle.sections.proofs.SectionLaws.{sectioned}
+use Rattle.walk.proofs.RunLaws.{kind-is}
+use borrow.Author.Needs.{needs}
+
+entry-at-requires : tie.Need-entry-at-requires
+entry-at-requires c κs = let z = sectioned (c .before .args .p) (c .before .args .image .now) (c .before .pre .0) in ((omega arith, omega arith), (omega arith, omega arith))
+
+word-requires : tie.Need-word-requires
+word-requires c κs = let z = sectioned (c .before .before .args .p) (c .before .before .args .image .now) (c .before .before .pre .0) in omega arith
+
+returns : tie.Need-returns
+returns c = kind-is _ _ (c .before .before .before .pre .0) _ _ _ (c .word .ensures .0) (c .before .entry-at .ensures)
+
+pub kind-word-spec : {M : Type 1} → statement M
+kind-word-spec = tie.close (tie.spec entry-at-requires word-requires returns)
