@@ -1,9 +1,10 @@
 -- The lines that the listing program prints. 01, Programs.
 use mathlib.Core.Bool.{Bool, true, false}
 use mathlib.Core.List.{List, [], _∷_, _++_}
-use Prim.Native.Nat.{ℕ}
+use Prim.Native.Nat.{ℕ, zero, suc}
 use lib.ListN.{length}
 use Rattle.bits.specs.Choice.{pick}
+use Rattle.walk.specs.Units.{unitAt}
 use Rattle.text.specs.Text.{decimal, hexes, spaced, line}
 
 -- a word of one letter
@@ -35,3 +36,9 @@ stringLine id wide identifier units = line (stringWords id wide identifier (leng
 -- "`f`: id, o overflowed or p plain, body start, size"
 unfoldable pub functionLine : ℕ → Bool → ℕ → ℕ → List ℕ
 functionLine id large start size = line (letter 0x66 ∷ decimal id ∷ letter (pick large 0x6F 0x70) ∷ decimal start ∷ []) (decimal size)
+
+-- ---- n units from unit i on of a string whose bytes start at a place
+
+unfoldable pub unitsFrom : List ℕ → ℕ → Bool → ℕ → ℕ → List ℕ
+unitsFrom s start wide i zero = []
+unitsFrom s start wide i (suc n) = unitAt s start wide i ∷ unitsFrom s start wide (suc i) n

@@ -2,11 +2,12 @@
 // what it wrote, and needs room for the longest line of its kind.
 ghost use mathlib.Core.Path.{_≡_};
 ghost use mathlib.Core.List.{_∷_, [], _++_};
-ghost use Prim.Native.Nat.{_+_, _≤_};
+ghost use Prim.Native.Nat.{_+_, _*_, _≤_};
 ghost use lib.ListN.{length};
 ghost use Rattle.bits.specs.Choice.{pick};
-ghost use Rattle.text.specs.Text.{space, spaced, Wrote};
-ghost use Rattle.lines.specs.Lines.{letter, refusedLine, countsLine, stringWords, functionLine};
+ghost use Rattle.image.specs.Strings.{unitSize};
+ghost use Rattle.text.specs.Text.{space, hexes, spaced, Wrote};
+ghost use Rattle.lines.specs.Lines.{letter, refusedLine, countsLine, stringWords, functionLine, unitsFrom};
 
 const SPACE: u8 = 32;
 
@@ -76,4 +77,32 @@ pub fn put_function(out: &mut [u8], at: usize, id: u64, large: bool, start: u64,
     let c = put_letter(out, b, large, b'o', b'p');
     let d = text::put_number(out, c, start, SPACE);
     text::put_number(out, d, size, LINE_FEED)
+}
+
+// ---- units
+
+// The hex digits of `n` units from unit `first` on, of a string whose bytes start at `start`.
+pub fn put_units(
+    out: &mut [u8],
+    at: usize,
+    image: &[u8],
+    start: usize,
+    wide: bool,
+    first: usize,
+    n: usize,
+) -> usize
+    requires { ⌜ at + n * 4 ≤ length (now out) ⌝ }
+    requires { ⌜ start + (first + n) * unitSize wide ≤ length (now image) ⌝ }
+    ensures { λ r. ⌜ Wrote (now (out .entry)) at (hexes (unitsFrom (now (image .entry)) start wide first n)) r (now (out .exit)) × (r ≡ at + n * 4) ⌝ }
+{
+    let mut i = 0;
+    while i < n {
+        text::put_hex(
+            out,
+            at + i * 4,
+            walk::unit_at(image, start, wide, first + i),
+        );
+        i += 1;
+    }
+    at + n * 4
 }
