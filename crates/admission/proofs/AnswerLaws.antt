@@ -5,9 +5,9 @@ use mathlib.Core.List.{List, [], _∷_, _++_}
 use Prim.Native.Nat.{ℕ, _+_, _≤_, _<_}
 use native.Mathlib.Omega.{arith}
 use lib.Dec.{leb, eqb}
-use lib.ListN.{length, getD}
-use borrow.Author.Tests.{leb-true, eqb-true, eqb-false, eq-eqb, ne-eqb}
-use Rattle.bits.specs.Choice.{pick, both, Check, judge}
+use lib.ListN.{getD}
+use borrow.Author.Tests.{leb-true, eqb-true, eqb-false, ne-eqb}
+use Rattle.bits.specs.Choice.{pick, Check, judge}
 use Rattle.bits.proofs.TestLaws.{both-0, both-1}
 use Rattle.bits.proofs.JudgeLaws.{rising}
 use Rattle.format.specs.declared.Layout.{Layout}
@@ -15,10 +15,10 @@ use Rattle.image.specs.Admission.{checks, refusal}
 use Rattle.image.specs.Admitted.{Admitted}
 use Rattle.image.proofs.AdmitLaws.{admitted}
 use Rattle.sections.specs.declared.Places.{Places}
-use Rattle.sections.specs.Places.{placesOf, Fits, Placed}
+use Rattle.sections.specs.Places.{placesOf, Placed}
 use Rattle.admission.specs.declared.Admission.{Admission}
 use Rattle.admission.specs.declared.Admission.the-variants.{Laid, Refused}
-use Rattle.admission.specs.Admission.{answerFor, admission, numberOf}
+use Rattle.admission.specs.Admission.{admission}
 
 -- ---- checks behind checks
 

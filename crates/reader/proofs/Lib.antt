@@ -1,1 +1,4 @@
 pub mod PassLaws
+pub mod ReadingLaws
+pub mod PartLaws
+pub mod StringLaws

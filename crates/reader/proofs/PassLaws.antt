@@ -1,5 +1,5 @@
 -- A pass over the strings: what is read of each is what the definitions say, and the next is reached.
-use mathlib.Core.Path.{_≡_, refl, sym, _∙_, ap, subst⁻¹}
+use mathlib.Core.Path.{_≡_, _∙_, ap, subst⁻¹}
 use mathlib.Core.Bool.{Bool}
 use mathlib.Core.List.{List}
 use Prim.Native.Nat.{ℕ, _+_, _≤_, _<_}
@@ -8,13 +8,17 @@ use lib.ListN.{length}
 use Rattle.format.specs.Entry as entry
 use Rattle.footer.specs.Footer.{footerLength}
 use Rattle.image.specs.Sections.{storageAt}
-use Rattle.image.specs.Strings.{isFull, overBefore, smallIn, placeAt, sizeOf}
+use Rattle.image.specs.Strings.{sizeOf}
 use Rattle.image.specs.Kinds.{isIdentifier}
+use Rattle.image.specs.Functions.{Func, funcOf}
+use Rattle.image.specs.Admitted.{Admitted}
 use Rattle.sections.specs.declared.Places.{Places}
 use Rattle.sections.specs.Places.{Placed}
 use Rattle.sections.proofs.SectionLaws.{Sectioned, sectioned}
 use Rattle.string_tables.specs.declared.Place.{Place}
 use Rattle.string_tables.specs.Strings.{asPlace}
+use Rattle.function_table.specs.declared.Function.{Function}
+use Rattle.function_table.specs.Functions.{asFunc}
 use Rattle.walk.specs.Places.{Stands}
 use Rattle.reader.specs.declared.StringPlace.{StringPlace}
 use Rattle.reader.specs.Reading.{stringPlace, imagePlace, ReadAs}
@@ -39,3 +43,10 @@ module _ (p : Places) (s : List ℕ) (h : Placed p s) (i : ℕ) (q : Place) (g :
         count = subst⁻¹ (λ (y : StringPlace). y .count ≤ y .size) e (g .count);
         inside = subst⁻¹ (λ (y : StringPlace). y .start + y .size + footerLength ≤ length s) e inside;
       }
+
+-- the body of a function ends before the footer
+pub function-inside : (p : Places) (s : List ℕ) → Placed p s → Admitted (p .layout) s → (id : ℕ) → id < p .functions
+    → (q : Function) → asFunc q ≡ funcOf (p .layout) s id → q .begin + q .size + footerLength ≤ length s
+function-inside p s h a id b q e =
+    let z : Sectioned p s = sectioned p s h in
+    subst⁻¹ (λ (y : Func). y .begin + y .size + footerLength ≤ length s) e (a .body id (omega arith) .1)

@@ -6,7 +6,6 @@ use Prim.Native.Nat.{ℕ, _+_, _≤_}
 use lib.Dec.{leb, ltb, eqb}
 use lib.ListN.{length, getD}
 use Rattle.bits.specs.Choice.{pick, check, judge}
-use Rattle.bits.specs.Bytes.{bytesAt}
 use Rattle.format.specs.declared.Layout.{Layout}
 use Rattle.footer.specs.Footer.{footerLength}
 use Rattle.image.specs.Sections.{functionsIn, stringsIn, debugIn, storageAt}

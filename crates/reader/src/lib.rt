@@ -13,12 +13,13 @@ ghost use mathlib.Core.List.{List};
 ghost use Prim.Native.Nat.{ℕ, _+_, _≤_, _<_};
 ghost use lib.ListN.{length};
 ghost use Rattle.footer.specs.Footer.{footerLength};
+ghost use Rattle.image.specs.Sections.{debugIn};
+ghost use Rattle.image.specs.Strings.{unitsOf};
 ghost use Rattle.image.specs.Functions.{funcOf};
 ghost use Rattle.image.specs.Admitted.{Admitted};
 ghost use Rattle.sections.specs.declared.Places.{Places};
 ghost use Rattle.sections.specs.Places.{Placed};
 ghost use Rattle.function_table.specs.Functions.{asFunc, WordSized};
-ghost use Rattle.walk.specs.Places.{Stands};
 ghost use Rattle.reader.specs.Reading.{stringRead, stringBytes, unitRead, bodyRead, bodyBytes, debugRead, imagePlace, ReadAs, CursorOf};
 
 // Where a string stands in the image: its count is of 16-bit units where it is wide, else of bytes, as
@@ -118,4 +119,113 @@ pub fn string_at(image: &[u8], p: Places, at: Cursor) -> Step
         place: in_image(p, place, run.identifier),
         next,
     }
+}
+
+// How many units a string has whose bytes are those in `bytes`.
+pub fn unit_count(bytes: &[u8], wide: bool) -> usize
+    ensures { λ r. ⌜ r ≡ length (unitsOf (record { wide = wide; bytes = now (bytes .entry) })) ⌝ }
+{
+    if wide {
+        return bytes.len() / 2;
+    }
+    bytes.len()
+}
+
+// ---- functions of an admitted image
+
+// Function `id` of an admitted image.
+pub fn function_of(image: &[u8], p: Places, id: usize) -> Function
+    requires { ⌜ Placed p (now image) × Admitted (p .layout) (now image) ⌝ }
+    requires { ⌜ id < p .functions ⌝ }
+    ensures { λ r. ⌜ (asFunc r ≡ funcOf (p .layout) (now (image .entry)) id) × WordSized r × (r .begin + r .size + footerLength ≤ length (now (image .entry))) ⌝ }
+{
+    let layout = p.layout;
+    function_table::function_at(image, layout, id)
+}
+
+// The debug offset of an admitted image.
+pub fn debug_of(image: &[u8], p: Places) -> usize
+    requires { ⌜ Placed p (now image) ⌝ }
+    ensures { λ r. ⌜ (r ≡ debugIn (p .layout) (now (image .entry))) × (r < 4294967296) ⌝ }
+{
+    let layout = p.layout;
+    let at = format::place(format::debug_row(layout), layout);
+    bits::word(image, at) as usize
+}
+
+// ---- any bytes
+
+// String `id`, or the refusal: 1 to 6, then 7.
+pub fn string(image: &[u8], layout: Layout, id: usize) -> StringRead
+    ensures { λ r. ⌜ r ≡ stringRead layout (now (image .entry)) id ⌝ }
+{
+    let answer = admission::admit(image, layout);
+    let Admission::Laid(p) = answer else {
+        return StringRead::Refused(admission::number_of(answer));
+    };
+    if p.strings <= id {
+        return StringRead::Refused(NO_SUCH_ID);
+    }
+    StringRead::Found(string_of(image, p, id))
+}
+
+// The bytes of string `id`, as a part of the image; the empty part where it is refused.
+pub fn string_bytes(image: &[u8], layout: Layout, id: usize) -> &[u8]
+    ensures { λ r. ⌜ now r ≡ stringBytes layout (now (image .entry)) id ⌝ }
+{
+    let read = string(image, layout, id);
+    let StringRead::Found(place) = read else {
+        return &image[0..0];
+    };
+    let start = place.start;
+    let end = start + place.size;
+    &image[start..end]
+}
+
+// Unit `i` of a string, whose bytes are those in `bytes`; the end where there is none.
+pub fn string_unit(bytes: &[u8], wide: bool, i: usize) -> UnitRead
+    ensures { λ r. ⌜ r ≡ unitRead (record { wide = wide; bytes = now (bytes .entry) }) i ⌝ }
+{
+    if unit_count(bytes, wide) <= i {
+        return UnitRead::End;
+    }
+    UnitRead::Unit(walk::unit_at(bytes, 0, wide, i) as u16)
+}
+
+// Function `id` with its body's place, or the refusal: 1 to 6, then 7.
+pub fn body(image: &[u8], layout: Layout, id: usize) -> FunctionRead
+    ensures { λ r. ⌜ r ≡ bodyRead layout (now (image .entry)) id ⌝ }
+{
+    let answer = admission::admit(image, layout);
+    let Admission::Laid(p) = answer else {
+        return FunctionRead::Refused(admission::number_of(answer));
+    };
+    if p.functions <= id {
+        return FunctionRead::Refused(NO_SUCH_ID);
+    }
+    FunctionRead::Found(function_of(image, p, id))
+}
+
+// The bytes of body `id`, as a part of the image; the empty part where it is refused.
+pub fn body_bytes(image: &[u8], layout: Layout, id: usize) -> &[u8]
+    ensures { λ r. ⌜ now r ≡ bodyBytes layout (now (image .entry)) id ⌝ }
+{
+    let read = body(image, layout, id);
+    let FunctionRead::Found(function) = read else {
+        return &image[0..0];
+    };
+    let start = function.begin;
+    let end = start + function.size;
+    &image[start..end]
+}
+
+// The debug offset, or the refusal: 1 to 6.
+pub fn debug(image: &[u8], layout: Layout) -> DebugRead
+    ensures { λ r. ⌜ r ≡ debugRead layout (now (image .entry)) ⌝ }
+{
+    let answer = admission::admit(image, layout);
+    let Admission::Laid(p) = answer else {
+        return DebugRead::Refused(admission::number_of(answer));
+    };
+    DebugRead::At(debug_of(image, p))
 }

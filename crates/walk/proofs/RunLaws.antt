@@ -4,19 +4,17 @@ use mathlib.Core.Bool.{Bool, true, false}
 use mathlib.Core.Logic.{inl, inr}
 use mathlib.Core.List.{List}
 use Prim.Native.Nat.{ℕ, zero, suc, _+_, _-_, _*_, _≤_, _<_}
-use native.Mathlib.Nat.{not-suc-le-zero}
 use native.Mathlib.Numerals.{add-one}
 use native.Mathlib.Omega.{arith}
 use Rattle.bits.specs.Bytes.{wordAt}
 use Rattle.bits.specs.Choice.{pick, sumBelow}
 use Rattle.bits.proofs.TestLaws.{below-or, sum-le}
-use Rattle.format.specs.declared.Layout.{Layout}
 use Rattle.format.specs.Table.{ifSet}
 use Rattle.format.specs.Entry.{bit}
-use Rattle.image.specs.Sections.{kindsIn, identifiersIn, stringsIn, kindsAt}
-use Rattle.image.specs.Kinds.{kindIn, runOf, isIdentifierRun, identifierRun, covered, identified, flagOf, isIdentifier, rankOf}
+use Rattle.image.specs.Sections.{kindsIn}
+use Rattle.image.specs.Kinds.{kindIn, runOf, isIdentifierRun, identifierRun, covered, identified, isIdentifier, rankOf}
 use Rattle.image.specs.Admitted.{Admitted}
-use Rattle.image.proofs.KindLaws.{covered-next, identified-next, flag-in-run, rank-in-run, rankBy, rank-lt}
+use Rattle.image.proofs.KindLaws.{covered-next, identified-next, flag-in-run, rank-in-run, rank-lt}
 use Rattle.sections.specs.declared.Places.{Places}
 use Rattle.sections.specs.Places.{Placed}
 use Rattle.sections.proofs.SectionLaws.{Sectioned, sectioned}

@@ -1,12 +1,10 @@
 -- The units that code reads one by one are those of the string.
-use mathlib.Core.Path.{_≡_, refl, sym, _∙_, ap}
+use mathlib.Core.Path.{_≡_, refl, _∙_}
 use mathlib.Core.Bool.{Bool, true, false}
 use mathlib.Core.List.{List, [], _∷_}
-use Prim.Native.Nat.{ℕ, zero, suc, _+_, _*_, _/_, _≤_, _<_}
-use native.Mathlib.Nat.{not-suc-le-zero}
+use Prim.Native.Nat.{ℕ, zero, suc, _+_, _*_, _/_, _<_}
 use native.Mathlib.Omega.{arith}
 use lib.ListN.{length, getD}
-use Rattle.bits.specs.Choice.{pick}
 use Rattle.bits.specs.Bytes.{bytesAt, number}
 use Rattle.bits.proofs.ByteLaws.{length-bytesAt, getD-bytesAt}
 use Rattle.image.specs.Strings.{unitSize, Str, pairsOf, unitsOf}

@@ -3,7 +3,6 @@ use Rattle.walk.proofs.kind_word.Tie as tie
 use native.Mathlib.Omega.{arith}
 use Rattle.sections.proofs.SectionLaws.{sectioned}
 use Rattle.walk.proofs.RunLaws.{kind-is}
-use borrow.Author.Needs.{needs}
 
 entry-at-requires : tie.Need-entry-at-requires
 entry-at-requires c κs = let z = sectioned (c .before .args .p) (c .before .args .image .now) (c .before .pre .0) in ((omega arith, omega arith), (omega arith, omega arith))

@@ -1,7 +1,6 @@
 use Rattle.walk.proofs.place_of.Statement.{statement}
 use Rattle.walk.proofs.place_of.Tie as tie
 use Rattle.walk.proofs.WalkLaws.{pair-there, pairs-few, stands}
-use borrow.Author.Needs.{needs}
 
 place-of-entry-requires : tie.Need-place-of-entry-requires
 place-of-entry-requires c κs =

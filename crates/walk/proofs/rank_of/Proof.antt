@@ -2,7 +2,6 @@ use borrow.Author.Needs.{needs}
 use Rattle.walk.proofs.rank_of.Statement.{statement}
 use Rattle.walk.proofs.rank_of.Tie as tie
 use native.Mathlib.Omega.{arith}
-use Rattle.sections.proofs.SectionLaws.{sectioned}
 use Rattle.walk.proofs.RunLaws.{first-run-of, rank-is, rank-most, slot-in}
 
 run-of-requires : tie.Need-run-of-requires

@@ -2,10 +2,8 @@ use Rattle.walk.proofs.run_of.Statement.{statement}
 use Rattle.walk.proofs.run_of.Tie as tie
 use Prim.Native.Nat.{_≤_, _-_}
 use native.Mathlib.Omega.{arith}
-use Rattle.sections.proofs.SectionLaws.{sectioned}
 use Rattle.walk.specs.Runs.{RunOf}
 use Rattle.walk.proofs.RunLaws.{more-runs, next-run-of}
-use borrow.Author.Needs.{needs}
 
 abbrev Inv-loop : tie.InvT-loop
 Inv-loop image p id run₀ run = RunOf p image run × (run .start ≤ id)

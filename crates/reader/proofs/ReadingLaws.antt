@@ -1,0 +1,114 @@
+-- The answers of the reader: one law for each way out, over the number of a reading by id.
+use mathlib.Core.Path.{_≡_, refl, sym, _∙_, ap}
+use mathlib.Core.Bool.{Bool, true, false}
+use mathlib.Core.List.{List, [], _∷_, _++_}
+use Prim.Native.Nat.{ℕ, _+_, _≤_, _<_}
+use native.Mathlib.Omega.{arith}
+use lib.Dec.{leb, eqb}
+use borrow.Author.Tests.{le-leb, lt-leb, leb-false, eqb-true, eqb-false, ne-eqb}
+use Rattle.bits.specs.Choice.{pick, check, judge}
+use Rattle.format.specs.declared.Layout.{Layout}
+use Rattle.image.specs.Sections.{functionsIn, stringsIn, debugIn}
+use Rattle.image.specs.Functions.{Func, funcOf}
+use Rattle.image.specs.Admission.{checks, refusal}
+use Rattle.sections.specs.declared.Places.{Places}
+use Rattle.sections.specs.Places.{placesOf}
+use Rattle.function_table.specs.declared.Function.{Function}
+use Rattle.function_table.specs.declared.FunctionRead.the-variants as function-is
+use Rattle.function_table.specs.Functions.{asFunc, asFunction}
+use Rattle.admission.specs.declared.Admission.{Admission}
+use Rattle.admission.specs.declared.Admission.the-variants.{Laid, Refused}
+use Rattle.admission.specs.Admission.{admission, numberOf}
+use Rattle.admission.proofs.AnswerLaws.{judged-then, refused-is, refused-then, laid-is, laid-then, laid-layout}
+use Rattle.reader.specs.declared.StringPlace.{StringPlace}
+use Rattle.reader.specs.declared.StringRead.the-variants as string-is
+use Rattle.reader.specs.declared.DebugRead.the-variants as debug-is
+use Rattle.reader.specs.Reading.{idRefusal, stringPlace, stringRead, bodyRead, debugRead, ReadAs}
+
+-- ---- a reading by id
+
+-- what is not refused is an admitted image's, and the id is one of it
+pub read-is : (l : Layout) (s : List ℕ) (count id : ℕ) → idRefusal l s count id ≡ 0 → (refusal l s ≡ 0) × (id < count)
+unfolding idRefusal judge
+read-is l s count id e = go (refusal l s) (eqb (refusal l s) 0) refl (leb count id) refl (sym (judged-then l s (check 7 (leb count id) ∷ [])) ∙ e)
+  where
+    go : (n : ℕ) (b : Bool) → eqb n 0 ≡ b → (t : Bool) → leb count id ≡ t → pick b (pick t 7 0) n ≡ 0 → (n ≡ 0) × (id < count)
+    go n true h true g q = absurd (omega arith)
+    go n true h false g q = (eqb-true n 0 h, leb-false count id g)
+    go n false h t g q = absurd (eqb-false n 0 h q)
+
+module _ (l : Layout) (s : List ℕ) (count id : ℕ) (r : Admission) (e : r ≡ admission l s) {A : Type 0} (found : A) (refused : ℕ → A) where
+  abbrev answered : A
+  answered = pick (eqb (idRefusal l s count id) 0) found (refused (idRefusal l s count id))
+
+  pub not-admitted : (k : ℕ) → r ≡ Refused k → (n : ℕ) → n ≡ numberOf r → refused n ≡ answered
+  unfolding idRefusal
+  not-admitted k f n g =
+      let i : judge (checks l s ++ (check 7 (leb count id) ∷ [])) ≡ k = refused-then l s r e k f (check 7 (leb count id) ∷ []) in
+      let h : 0 < k = refused-is l s r e k f .1 in
+      let j : n ≡ k = g ∙ ap numberOf f in
+      rw (i, ne-eqb k 0 (λ y. omega arith)) (ap refused j)
+
+  module _ (p : Places) (f : r ≡ Laid p) where
+    pub no-such-id : count ≤ id → refused 7 ≡ answered
+    unfolding idRefusal judge
+    no-such-id h = rw (laid-then l s r e p f (check 7 (leb count id) ∷ []), le-leb count id h)
+
+    pub id-found : id < count → found ≡ answered
+    unfolding idRefusal judge
+    id-found h = rw (laid-then l s r e p f (check 7 (leb count id) ∷ []), lt-leb count id h)
+
+-- ---- strings, bodies, the debug offset
+
+module _ (l : Layout) (s : List ℕ) (r : Admission) (e : r ≡ admission l s) where
+  module _ (id k : ℕ) (f : r ≡ Refused k) (n : ℕ) (g : n ≡ numberOf r) where
+    pub string-refused : string-is.Refused n ≡ stringRead l s id
+    unfolding stringRead
+    string-refused = not-admitted l s (stringsIn s) id r e (string-is.Found (stringPlace l s id)) string-is.Refused k f n g
+
+    pub body-refused : function-is.Refused n ≡ bodyRead l s id
+    unfolding bodyRead
+    body-refused = not-admitted l s (functionsIn s) id r e (function-is.Found (asFunction (funcOf l s id))) function-is.Refused k f n g
+
+  pub debug-refused : (k : ℕ) → r ≡ Refused k → (n : ℕ) → n ≡ numberOf r → debug-is.Refused n ≡ debugRead l s
+  unfolding debugRead
+  debug-refused k f n g =
+      let (i, h) = refused-is l s r e k f in
+      let j : n ≡ k = g ∙ ap numberOf f in
+      rw (i, ne-eqb k 0 (λ y. omega arith), j)
+
+  module _ (p : Places) (f : r ≡ Laid p) where
+    counts : (p .strings ≡ stringsIn s) × (p .functions ≡ functionsIn s)
+    unfolding placesOf
+    counts = (ap (λ (x : Places). x .strings) (laid-is l s r e p f .1), ap (λ (x : Places). x .functions) (laid-is l s r e p f .1))
+
+    module _ (id : ℕ) where
+      pub string-absent : p .strings ≤ id → string-is.Refused 7 ≡ stringRead l s id
+      unfolding stringRead
+      string-absent h =
+          no-such-id l s (stringsIn s) id r e (string-is.Found (stringPlace l s id)) string-is.Refused p f (omega (arith, counts .0))
+
+      pub string-found : id < p .strings → (q : StringPlace) → ReadAs (p .layout) s id q → string-is.Found q ≡ stringRead l s id
+      unfolding stringRead
+      string-found h q g =
+          let w : q ≡ stringPlace l s id = g .is ∙ ap (λ (x : Layout). stringPlace x s id) (laid-layout l s r e p f) in
+          ap string-is.Found w
+          ∙ id-found l s (stringsIn s) id r e (string-is.Found (stringPlace l s id)) string-is.Refused p f (omega (arith, counts .0))
+
+      pub body-absent : p .functions ≤ id → function-is.Refused 7 ≡ bodyRead l s id
+      unfolding bodyRead
+      body-absent h =
+          no-such-id l s (functionsIn s) id r e (function-is.Found (asFunction (funcOf l s id))) function-is.Refused p f (omega (arith, counts .1))
+
+      pub body-found : id < p .functions → (q : Function) → asFunc q ≡ funcOf (p .layout) s id → function-is.Found q ≡ bodyRead l s id
+      unfolding bodyRead
+      body-found h q g =
+          let w : asFunc q ≡ funcOf l s id = g ∙ ap (λ (x : Layout). funcOf x s id) (laid-layout l s r e p f) in
+          ap (λ (y : Func). function-is.Found (asFunction y)) w
+          ∙ id-found l s (functionsIn s) id r e (function-is.Found (asFunction (funcOf l s id))) function-is.Refused p f (omega (arith, counts .1))
+
+    pub debug-found : (n : ℕ) → n ≡ debugIn (p .layout) s → debug-is.At n ≡ debugRead l s
+    unfolding debugRead
+    debug-found n g =
+        let w : n ≡ debugIn l s = g ∙ ap (λ (x : Layout). debugIn x s) (laid-layout l s r e p f) in
+        rw (laid-is l s r e p f .0) (ap debug-is.At w)
