@@ -11,7 +11,7 @@ use Rattle.bits.proofs.WriteLaws.{sets-append}
 use Rattle.image.specs.Strings.{unitSize}
 use Rattle.walk.specs.Units.{unitAt}
 use Rattle.text.specs.Text.{hex4, hexes}
-use Rattle.lines.specs.Lines.{unitsFrom}
+use Rattle.lines.specs.Lines.{closing, unitsFrom}
 
 pub length-hex : (u : ℕ) → length (hex4 u) ≡ 4
 unfolding hex4
@@ -69,3 +69,13 @@ module _ (s : List ℕ) (start : ℕ) (wide : Bool) (first n : ℕ) where
   pub put-end : (out : List ℕ) (at i : ℕ) → n ≤ i → sets out (at + i * 4) (hexes (unitsFrom s start wide (first + i) (n - i))) ≡ out
   unfolding hexes unitsFrom
   put-end out at i h = let e : n - i ≡ 0 = omega arith in rw e
+
+-- ---- the end of a line
+
+pub closing-none : (n : ℕ) → n ≡ 0 → closing n ≡ 0x2D ∷ 10 ∷ []
+closing-none zero e = refl
+closing-none (suc n) e = absurd (omega arith)
+
+pub closing-some : (n : ℕ) → (n ≡ 0 → ⊥) → closing n ≡ 10 ∷ []
+closing-some zero e = absurd (e refl)
+closing-some (suc n) e = refl

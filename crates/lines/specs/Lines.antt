@@ -5,7 +5,7 @@ use Prim.Native.Nat.{ℕ, zero, suc}
 use lib.ListN.{length}
 use Rattle.bits.specs.Choice.{pick}
 use Rattle.walk.specs.Units.{unitAt}
-use Rattle.text.specs.Text.{decimal, hexes, spaced, line}
+use Rattle.text.specs.Text.{lineFeed, decimal, hexes, spaced, line}
 
 -- a word of one letter
 abbrev pub letter : ℕ → List ℕ
@@ -28,6 +28,11 @@ stringWords id wide identifier count =
 abbrev pub unitsWord : List ℕ → List ℕ
 unitsWord [] = letter 0x2D
 unitsWord (u ∷ us) = hexes (u ∷ us)
+
+-- what stands behind so many units, with the dash in place of none
+abbrev pub closing : ℕ → List ℕ
+closing zero = 0x2D ∷ lineFeed ∷ []
+closing (suc n) = lineFeed ∷ []
 
 -- the line of a string by its units
 unfoldable pub stringLine : ℕ → Bool → Bool → List ℕ → List ℕ

@@ -7,7 +7,7 @@ ghost use lib.ListN.{length};
 ghost use Rattle.bits.specs.Choice.{pick};
 ghost use Rattle.image.specs.Strings.{unitSize};
 ghost use Rattle.text.specs.Text.{space, hexes, spaced, Wrote};
-ghost use Rattle.lines.specs.Lines.{letter, refusedLine, countsLine, stringWords, functionLine, unitsFrom};
+ghost use Rattle.lines.specs.Lines.{letter, refusedLine, countsLine, stringWords, closing, functionLine, unitsFrom};
 
 const SPACE: u8 = 32;
 
@@ -105,4 +105,15 @@ pub fn put_units(
         i += 1;
     }
     at + n * 4
+}
+
+// The end of a string's line, behind its units: a dash stands in place of none.
+pub fn put_closing(out: &mut [u8], at: usize, count: usize) -> usize
+    requires { ⌜ at + 2 ≤ length (now out) ⌝ }
+    ensures { λ r. ⌜ Wrote (now (out .entry)) at (closing count) r (now (out .exit)) × (r ≤ at + 2) ⌝ }
+{
+    if count == 0 {
+        return text::put_text(out, at, b"-\n");
+    }
+    text::put_text(out, at, b"\n")
 }
