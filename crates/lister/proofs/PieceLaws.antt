@@ -1,5 +1,5 @@
 -- The pieces of a listing, in order, are the listing; they are no more than its bytes and 3.
-use mathlib.Core.Path.{_≡_, refl, ap, sym, _∙_}
+use mathlib.Core.Path.{_≡_, refl, ap, sym, _∙_, subst}
 use mathlib.Core.Bool.{Bool, true, false}
 use mathlib.Core.Logic.{_⊎_, inl, inr}
 use mathlib.Core.List.{List, [], _∷_, _++_, append-assoc, append-nil}
@@ -16,7 +16,7 @@ use Rattle.text.specs.Text.{hex4, hexes, spaced, line}
 use Rattle.lines.specs.Lines.{stringLine, functionLine, unitsWord, closing}
 use Rattle.lines.proofs.UnitLaws.{length-hexes}
 use Rattle.lister.specs.Listing.{linesFrom, stringLineIn, functionLineIn, listed}
-use Rattle.lister.specs.Pieces.{Spot, counts, strings, units, functions, end, unitsIn, chunk, stringStart, stringsLeft, left, pieceAt, nextOf, pieces, after, phase, steps}
+use Rattle.lister.specs.Pieces.{Spot, counts, strings, units, functions, end, unitsIn, chunk, stringStart, stringsLeft, left, pieceAt, nextOf, pieces, isEnd, after, phase, steps}
 
 -- ---- lines and units
 
@@ -152,6 +152,25 @@ module _ (l : Layout) (s : List ℕ) where
       go : (x ≡ end) ⊎ (steps l s (nextOf l s x) < steps l s x) → (steps l s (nextOf l s x) ≤ n → after l s n (nextOf l s x) ≡ end) → after l s n (nextOf l s x) ≡ end
       go (inl e) r = rw e (after-end n)
       go (inr k) r = r (omega arith)
+
+  -- some pieces more, and fewer steps are left, where it is not the end
+  after-most : (n : ℕ) (x : Spot) → steps l s (after l s n x) ≤ steps l s x
+  unfolding after
+  after-most zero x = omega arith
+  after-most (suc n) x = go (next-falls x) (after-most n (nextOf l s x))
+    where
+      go : (x ≡ end) ⊎ (steps l s (nextOf l s x) < steps l s x) → steps l s (after l s n (nextOf l s x)) ≤ steps l s (nextOf l s x) → steps l s (after l s n (nextOf l s x)) ≤ steps l s x
+      go (inl e) r = subst (λ (y : Spot). steps l s (after l s n (nextOf l s x)) ≤ steps l s y) (ap (nextOf l s) e ∙ sym e) r
+      go (inr k) r = omega arith
+
+  pub after-falls : (n : ℕ) (x : Spot) → 0 < n → isEnd x ≡ false → steps l s (after l s n x) < steps l s x
+  unfolding after
+  after-falls zero x h f = absurd (omega arith)
+  after-falls (suc n) x h f = go (next-falls x)
+    where
+      go : (x ≡ end) ⊎ (steps l s (nextOf l s x) < steps l s x) → steps l s (after l s n (nextOf l s x)) < steps l s x
+      go (inl e) = let z : true ≡ false = ap isEnd (sym e) ∙ f in let y : _≡_ {A = ℕ} 0 1 = cc in absurd (omega arith)
+      go (inr k) = omega (arith, after-most n (nextOf l s x))
 
   -- THE PIECES IN ORDER ARE THE LISTING, once there are as many as it has bytes, and 3
   pub in-pieces : (n : ℕ) → length (listed l s) + 3 ≤ n → pieces l s n counts ≡ listed l s

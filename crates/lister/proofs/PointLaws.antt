@@ -203,4 +203,4 @@ module _ (p : Places) (s out₀ : List ℕ) (x₀ : Point) where
   unfolding pieces after
   going-last out x at i g h =
       let e : batch - i ≡ 0 = omega arith in
-      record { wrote = (let k : at + length (pieces (p .layout) s 0 (spotOf x)) ≡ length (pieces (p .layout) s batch (spotOf x₀)) = rw e at (g .size) in omega arith, rw e at (g .text)); next = rw e at (g .to); good = g .good }
+      record { wrote = (let k : at + length (pieces (p .layout) s 0 (spotOf x)) ≡ length (pieces (p .layout) s batch (spotOf x₀)) = rw e at (g .size) in omega arith, rw e at (g .text)); next = rw e at (g .to); good = g .good; most = omega (arith, g .room, g .same) }

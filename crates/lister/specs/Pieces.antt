@@ -1,6 +1,6 @@
 -- The listing in pieces: it can be far larger than its image, so that it is made a piece at a time. The law `in-pieces` says that the pieces in order are the listing.
 use mathlib.Core.Path.{_≡_}
-use mathlib.Core.Bool.{Bool}
+use mathlib.Core.Bool.{Bool, true, false}
 use mathlib.Core.List.{List, [], _∷_, _++_}
 use Prim.Native.Nat.{ℕ, zero, suc, _+_, _-_, _≤_, _<_}
 use lib.Dec.{ltb, eqb}
@@ -99,6 +99,14 @@ nextOf l s (units i j) = pick (ltb j (length (unitsIn l s i))) (units i (j + chu
 nextOf l s (functions i) = pick (ltb i (functionsIn s)) (functions (i + 1)) end
 nextOf l s end = end
 
+-- whether all is printed
+abbrev pub isEnd : Spot → Bool
+isEnd counts = false
+isEnd (strings i) = false
+isEnd (units i j) = false
+isEnd (functions i) = false
+isEnd end = true
+
 -- n pieces, and where the listing goes on behind them
 unfoldable pub pieces : Layout → List ℕ → ℕ → Spot → List ℕ
 pieces l s zero x = []
@@ -154,3 +162,4 @@ pub record GivesAll (p : Places) (s old : List ℕ) (x : Point) (r : Piece) (new
   pub wrote : Wrote old 0 (pieces (p .layout) s batch (spotOf x)) (r .end) new
   pub next : spotOf (r .next) ≡ after (p .layout) s batch (spotOf x)
   pub good : Good p s (r .next)
+  pub most : r .end ≤ length old

@@ -17,7 +17,7 @@ ghost use Rattle.sections.specs.Places.{Placed};
 ghost use Rattle.input_records.specs.declared.ImageHead.the-variants.{Image};
 ghost use Rattle.reader.specs.Reading.{CursorOf};
 ghost use Rattle.lister.specs.declared.Point.the-variants.{Counts, Strings, Units, Functions};
-ghost use Rattle.lister.specs.Pieces.{openedRecord, opened, Good, Gives, GivesAll};
+ghost use Rattle.lister.specs.Pieces.{openedRecord, opened, isEnd, spotOf, Good, Gives, GivesAll};
 
 // What an input is: one record with an admitted image, or refused.
 pub enum Opened {
@@ -196,6 +196,19 @@ fn put_piece(image: &[u8], p: Places, point: Point, out: &mut [u8], at: usize) -
             end: at,
             next: Point::End,
         },
+    }
+}
+
+// Whether all is listed.
+pub fn is_end(point: Point) -> bool
+    ensures { λ r. ⌜ r ≡ isEnd (spotOf point) ⌝ }
+{
+    match point {
+        Point::Counts => false,
+        Point::Strings(_) => false,
+        Point::Units(_, _, _) => false,
+        Point::Functions(_) => false,
+        Point::End => true,
     }
 }
 
