@@ -5,10 +5,10 @@ use mathlib.Core.Logic.{_⊎_, inl, inr}
 use mathlib.Core.List.{List, [], _∷_}
 use Prim.Native.Nat.{ℕ, _+_, _-_, _≤_, _<_}
 use native.Mathlib.Omega.{arith}
-use borrow.Author.Tests.{leb-true, eq-eqb, ne-eqb}
+use borrow.Author.Tests.{leb-true, eqb-true, eq-eqb, ne-eqb}
 use lib.Dec.{leb, eqb}
 use lib.ListN.{length, getD, take, drop, length-drop}
-use lib.Seq.{take-all, length-take-le}
+use lib.Seq.{take-all, length-take-le, getD-drop}
 use Rattle.bits.specs.Choice.{pick, both}
 use Rattle.bits.specs.Bytes.{wordAt}
 use Rattle.bits.proofs.TestLaws.{both-1, which, below-or}
@@ -89,6 +89,26 @@ module _ (input : List ℕ) (p : Places) (bytes : (i : ℕ) → getD (drop 7 inp
   pub opened-admitted : opened input ≡ opened-is.Listed p → Open
   unfolding opened
   opened-admitted e = from-record (imageHead input) e
+
+module _ (input : List ℕ) (p : Places) where
+  pub opened-long : opened input ≡ opened-is.Listed p → 7 ≤ length input
+  unfolding opened
+  opened-long e = long (imageHead input) e
+    where
+      long : (h : ImageHead) → openedRecord h input ≡ opened-is.Listed p → 7 ≤ length input
+      long (head-is.Refused n) e = let z : _≡_ {A = ℕ} 0 1 = cc in absurd (omega arith)
+      long (head-is.Image l n) e = go (eqb (length input) (7 + n)) refl e
+        where
+          go : (b : Bool) → eqb (length input) (7 + n) ≡ b → pick b (openedImage (admission l (drop 7 input))) (opened-is.Refused 15) ≡ opened-is.Listed p → 7 ≤ length input
+          go true k e = omega (arith, eqb-true (length input) (7 + n) k)
+          go false k e = let z : _≡_ {A = ℕ} 0 1 = cc in absurd (omega arith)
+
+-- the image as the code takes it
+pub opened-part : (input : List ℕ) (p : Places) → ((i : ℕ) → getD input i 0 < 256) → opened input ≡ opened-is.Listed p
+    → Placed p (take (length input - 7) (drop 7 input)) × Admitted (p .layout) (take (length input - 7) (drop 7 input))
+opened-part input p bytes e =
+    let b : (i : ℕ) → getD (drop 7 input) i 0 < 256 = λ i. rw (getD-drop 7 input i 0) (bytes (7 + i)) in
+    rw (take-all (length input - 7) (drop 7 input) (omega (arith, length-drop 7 input))) (opened-admitted input p b e)
 
 -- ---- more than 65,543 bytes are no record, so that reading 65,544 is enough
 

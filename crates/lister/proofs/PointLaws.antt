@@ -1,12 +1,12 @@
 -- Each maker of a piece gives the piece at its point.
 use mathlib.Core.Path.{_≡_, refl, ap, sym, _∙_, subst}
-use mathlib.Core.Bool.{Bool, true, false}
+use mathlib.Core.Bool.{Bool, true, false, not}
 use mathlib.Core.Logic.{_⊎_, inl, inr}
 use mathlib.Core.List.{List, [], _∷_, _++_}
 use Prim.Native.Nat.{ℕ, zero, suc, _+_, _-_, _*_, _≤_, _<_}
 use native.Mathlib.Numerals.{add-one}
 use native.Mathlib.Omega.{arith}
-use borrow.Author.Tests.{lt-ltb, le-ltb}
+use borrow.Author.Tests.{not-true, lt-ltb, le-ltb}
 use lib.Dec.{ltb}
 use lib.ListN.{length, take, drop, getD, length-drop, length-append}
 use lib.Seq.{drop-cons, take-all, sets}
@@ -34,7 +34,8 @@ use Rattle.lister.specs.declared.Point.{Point}
 use Rattle.lister.specs.declared.Point.the-variants.{Counts, Strings, Units, Functions, End}
 use Rattle.lister.specs.declared.Piece.{Piece}
 use Rattle.lister.specs.Listing.{functionLineIn}
-use Rattle.lister.specs.Pieces.{Spot, strings, units, functions, unitsIn, chunk, stringStart, pieceAt, nextOf, pieces, after, spotOf, Good, Gives, batch, GivesAll}
+use Rattle.lister.specs.Pieces.{Spot, strings, units, functions, unitsIn, chunk, stringStart, pieceAt, isEnd, nextOf, pieces, after, steps, spotOf, Good, Gives, batch, GivesAll}
+use Rattle.lister.proofs.PieceLaws.{after-falls}
 
 -- a piece that ends somewhere, and a point to go on from
 abbrev pub piece : ℕ → Point → Piece
@@ -204,3 +205,8 @@ module _ (p : Places) (s out₀ : List ℕ) (x₀ : Point) where
   going-last out x at i g h =
       let e : batch - i ≡ 0 = omega arith in
       record { wrote = (let k : at + length (pieces (p .layout) s 0 (spotOf x)) ≡ length (pieces (p .layout) s batch (spotOf x₀)) = rw e at (g .size) in omega arith, rw e at (g .text)); next = rw e at (g .to); good = g .good; most = omega (arith, g .room, g .same) }
+
+-- fewer steps are left behind a batch of pieces, so that a loop over batches ends
+pub batch-falls : (p : Places) (s old new : List ℕ) (x : Point) (r : Piece) → GivesAll p s old x r new → (b : Bool) → b ≡ isEnd (spotOf x) → not b ≡ true
+    → steps (p .layout) s (spotOf (r .next)) < steps (p .layout) s (spotOf x)
+batch-falls p s old new x r g b e h = rw (g .next) (after-falls (p .layout) s batch (spotOf x) (omega arith) (sym e ∙ not-true b h))
