@@ -8,7 +8,13 @@ const LENGTH: usize = 220;
 
 fn main() {
     let mut image = [0u8; LENGTH];
-    let answer = serialize::build_minimal_modern(97, b"abc", &[1, 3], b"\x01\x02\x03\x04", &mut image);
+    let answer = serialize::build_minimal_modern(
+        97,
+        b"abc",
+        &[1, 3],
+        b"\x01\x02\x03\x04",
+        &mut image,
+    );
     if let Answer::Length(_) = answer {
         io::write_all(STDOUT_FILENO, &image);
     }
