@@ -2,7 +2,7 @@
 use mathlib.Core.Path.{_≡_, refl, ap, sym, _∙_}
 use mathlib.Core.Bool.{Bool, true, false}
 use mathlib.Core.Logic.{_⊎_, inl, inr}
-use mathlib.Core.List.{List, [], _∷_, _++_}
+use mathlib.Core.List.{List, [], _∷_, _++_, append-assoc}
 use Prim.Native.Nat.{ℕ, zero, suc, _+_, _*_, _/_, _%_, _^_, _≤_, _<_}
 use native.Mathlib.Nat.{add-assoc}
 use native.Mathlib.Omega.{arith}
@@ -13,7 +13,7 @@ use lib.Seq.{sets}
 use Rattle.bits.specs.Choice.{pick}
 use Rattle.bits.proofs.TestLaws.{below-or}
 use Rattle.bits.proofs.WriteLaws.{sets-then}
-use Rattle.text.specs.Text.{digit, decimalOf, decimal, Wrote}
+use Rattle.text.specs.Text.{digit, decimalOf, decimal, space, spaced, Wrote}
 
 -- steps past the number change nothing
 same : (n m x : ℕ) → x < n → x < m → decimalOf n x ≡ decimalOf m x
@@ -69,3 +69,13 @@ wrote-then l m n a b at r q w v = (v .0 ∙ rw (w .0) (add-assoc at (length a) (
 
 pub wrote-byte : (l m a : List ℕ) (at r b : ℕ) → Wrote l at a r m → Wrote l at (a ++ (b ∷ [])) (r + 1) (set m r b)
 wrote-byte l m a at r b w = wrote-then l m (set m r b) a (b ∷ []) at r (r + 1) w (refl, refl)
+
+spaced-snoc : (ws : List (List ℕ)) (w : List ℕ) → spaced (ws ++ (w ∷ [])) ≡ spaced ws ++ (w ++ (space ∷ []))
+unfolding spaced
+spaced-snoc [] w = refl
+spaced-snoc (v ∷ ws) w = rw (spaced-snoc ws w) (sym (append-assoc v (space ∷ spaced ws) (w ++ (space ∷ []))))
+
+-- one more word of a line
+pub wrote-word : (l m n : List ℕ) (ws : List (List ℕ)) (w : List ℕ) (at r q : ℕ) → Wrote l at (spaced ws) r m → Wrote m r (w ++ (space ∷ [])) q n
+    → Wrote l at (spaced (ws ++ (w ∷ []))) q n
+wrote-word l m n ws w at r q a b = rw (spaced-snoc ws w) (wrote-then l m n (spaced ws) (w ++ (space ∷ [])) at r q a b)

@@ -1,0 +1,236 @@
+// The listing of an image, a piece at a time: what is printed can be far larger than the image, since
+// strings may share storage. A piece goes to a lent buffer, and a point says where the listing goes
+// on. The points carry along what a pass over the strings counts, so that each table is read once.
+use admission::Admission;
+use format::Layout;
+use input_records::ImageHead;
+use reader::Cursor;
+use reader::StringPlace;
+use sections::Places;
+ghost use mathlib.Core.Path.{_≡_};
+ghost use Prim.Native.Nat.{_+_, _≤_};
+ghost use lib.Dec.{ltb};
+ghost use lib.ListN.{length};
+ghost use Rattle.bits.specs.Choice.{pick};
+ghost use Rattle.image.specs.Admitted.{Admitted};
+ghost use Rattle.sections.specs.Places.{Placed};
+ghost use Rattle.input_records.specs.declared.ImageHead.the-variants.{Image};
+ghost use Rattle.reader.specs.Reading.{CursorOf};
+ghost use Rattle.lister.specs.declared.Point.the-variants.{Counts, Strings, Units, Functions};
+ghost use Rattle.lister.specs.Pieces.{openedRecord, opened, isEnd, spotOf, Good, Gives, GivesAll};
+
+// What an input is: one record with an admitted image, or refused.
+pub enum Opened {
+    Listed(Places),
+    Refused(u8),
+}
+
+// Where a listing has come to: before line 1, before the line of a string, in that line before a unit
+// (with the string's place, and where the pass goes on behind it), before the line of a function, at
+// the end.
+pub enum Point {
+    Counts,
+    Strings(Cursor),
+    Units(StringPlace, usize, Cursor),
+    Functions(usize),
+    End,
+}
+
+// Where a piece ends in the buffer, and where the listing goes on.
+pub struct Piece {
+    pub end: usize,
+    pub next: Point,
+}
+
+// The most units of a piece, which has at most 256 bytes.
+const CHUNK: usize = 64;
+
+// How many pieces are made at a time, and the room that they need.
+const PIECES: usize = 256;
+
+pub const ROOM: usize = 65536;
+
+// Judges a record whose head was read: it ends where the input does, and its image is admitted.
+fn open_image(input: &[u8], layout: Layout, length: usize) -> Opened
+    ensures { λ r. ⌜ r ≡ openedRecord (Image layout length) (now (input .entry)) ⌝ }
+{
+    let from = input_records::IMAGE_HEAD;
+    if input.len() < from {
+        return Opened::Refused(input_records::MALFORMED);
+    }
+    if input.len() - from != length {
+        return Opened::Refused(input_records::MALFORMED);
+    }
+    let answer = admission::admit(&input[from..], layout);
+    let Admission::Laid(p) = answer else {
+        return Opened::Refused(admission::number_of(answer));
+    };
+    Opened::Listed(p)
+}
+
+// Judges an input: 15 for a record that is not well formed or does not end where the input does,
+// then 1 to 6.
+pub fn open(input: &[u8]) -> Opened
+    ensures { λ r. ⌜ r ≡ opened (now (input .entry)) ⌝ }
+{
+    let head = input_records::image_head(input);
+    match head {
+        ImageHead::Refused(number) => Opened::Refused(number),
+        ImageHead::Image(layout, length) => open_image(input, layout, length),
+    }
+}
+
+// ---- pieces, one for each kind of point
+
+fn least(a: usize, b: usize) -> usize
+    ensures { λ r. ⌜ r ≡ pick (ltb a b) a b ⌝ }
+{
+    if a < b { a } else { b }
+}
+
+fn put_counts(image: &[u8], p: Places, out: &mut [u8], at: usize) -> Piece
+    requires { ⌜ Placed p (now image) ⌝ }
+    requires { ⌜ at + 256 ≤ length (now out) ⌝ }
+    ensures { λ r. ⌜ Gives p (now (image .entry)) (now (out .entry)) at Counts r (now (out .exit)) ⌝ }
+{
+    let end = lines::put_counts(
+        out,
+        at,
+        image.len() as u64,
+        p.strings as u64,
+        p.functions as u64,
+    );
+    Piece {
+        end,
+        next: Point::Strings(reader::first_string()),
+    }
+}
+
+// The line of a string before its units, or nothing where all strings are listed.
+fn put_string(image: &[u8], p: Places, string: Cursor, out: &mut [u8], at: usize) -> Piece
+    requires { ⌜ Placed p (now image) × Admitted (p .layout) (now image) ⌝ }
+    requires { ⌜ CursorOf p (now image) string ⌝ }
+    requires { ⌜ at + 256 ≤ length (now out) ⌝ }
+    ensures { λ r. ⌜ Gives p (now (image .entry)) (now (out .entry)) at (Strings string) r (now (out .exit)) ⌝ }
+{
+    if p.strings <= string.id {
+        return Piece {
+            end: at,
+            next: Point::Functions(0),
+        };
+    }
+    let step = reader::string_at(image, p, string);
+    let place = step.place;
+    let next = step.next;
+    let id = string.id as u64;
+    let count = place.count as u64;
+    let end = lines::put_string(out, at, id, place.wide, place.identifier, count);
+    Piece {
+        end,
+        next: Point::Units(place, 0, next),
+    }
+}
+
+// Some units of a string, or the end of its line where all are listed.
+fn put_units(
+    image: &[u8],
+    p: Places,
+    place: StringPlace,
+    unit: usize,
+    next: Cursor,
+    out: &mut [u8],
+    at: usize,
+) -> Piece
+    requires { ⌜ Placed p (now image) × Admitted (p .layout) (now image) ⌝ }
+    requires { ⌜ Good p (now image) (Units place unit next) ⌝ }
+    requires { ⌜ at + 256 ≤ length (now out) ⌝ }
+    ensures { λ r. ⌜ Gives p (now (image .entry)) (now (out .entry)) at (Units place unit next) r (now (out .exit)) ⌝ }
+{
+    if place.count <= unit {
+        return Piece {
+            end: lines::put_closing(out, at, place.count),
+            next: Point::Strings(next),
+        };
+    }
+    let n = least(place.count - unit, CHUNK);
+    let end = lines::put_units(out, at, image, place.start, place.wide, unit, n);
+    Piece {
+        end,
+        next: Point::Units(place, unit + CHUNK, next),
+    }
+}
+
+// The line of a function, or nothing where all functions are listed.
+fn put_function(image: &[u8], p: Places, i: usize, out: &mut [u8], at: usize) -> Piece
+    requires { ⌜ Placed p (now image) × Admitted (p .layout) (now image) ⌝ }
+    requires { ⌜ at + 256 ≤ length (now out) ⌝ }
+    ensures { λ r. ⌜ Gives p (now (image .entry)) (now (out .entry)) at (Functions i) r (now (out .exit)) ⌝ }
+{
+    if p.functions <= i {
+        return Piece {
+            end: at,
+            next: Point::End,
+        };
+    }
+    let f = reader::function_of(image, p, i);
+    let end = lines::put_function(out, at, i as u64, f.large, f.begin as u64, f.size as u64);
+    Piece {
+        end,
+        next: Point::Functions(i + 1),
+    }
+}
+
+// The piece at a point.
+fn put_piece(image: &[u8], p: Places, point: Point, out: &mut [u8], at: usize) -> Piece
+    requires { ⌜ Placed p (now image) × Admitted (p .layout) (now image) ⌝ }
+    requires { ⌜ Good p (now image) point ⌝ }
+    requires { ⌜ at + 256 ≤ length (now out) ⌝ }
+    ensures { λ r. ⌜ Gives p (now (image .entry)) (now (out .entry)) at point r (now (out .exit)) ⌝ }
+{
+    match point {
+        Point::Counts => put_counts(image, p, out, at),
+        Point::Strings(string) => put_string(image, p, string, out, at),
+        Point::Units(place, unit, next) => put_units(image, p, place, unit, next, out, at),
+        Point::Functions(i) => put_function(image, p, i, out, at),
+        Point::End => Piece {
+            end: at,
+            next: Point::End,
+        },
+    }
+}
+
+// Whether all is listed.
+pub fn is_end(point: Point) -> bool
+    ensures { λ r. ⌜ r ≡ isEnd (spotOf point) ⌝ }
+{
+    match point {
+        Point::Counts => false,
+        Point::Strings(_) => false,
+        Point::Units(_, _, _) => false,
+        Point::Functions(_) => false,
+        Point::End => true,
+    }
+}
+
+// The next pieces, from the buffer's front on.
+pub fn put_pieces(image: &[u8], p: Places, from: Point, out: &mut [u8]) -> Piece
+    requires { ⌜ Placed p (now image) × Admitted (p .layout) (now image) ⌝ }
+    requires { ⌜ Good p (now image) from ⌝ }
+    requires { ⌜ 65536 ≤ length (now out) ⌝ }
+    ensures { λ r. ⌜ GivesAll p (now (image .entry)) (now (out .entry)) from r (now (out .exit)) ⌝ }
+{
+    let mut point = from;
+    let mut at = 0;
+    let mut i = 0;
+    while i < PIECES {
+        let piece = put_piece(image, p, point, out, at);
+        at = piece.end;
+        let next = piece.next;
+        point = next;
+        i += 1;
+    }
+    Piece {
+        end: at,
+        next: point,
+    }
+}
