@@ -6,18 +6,17 @@ use Prim.Native.Nat.{ℕ, zero, suc, _+_, _-_, _*_, _≤_, _<_}
 use native.Mathlib.Nat.{not-suc-le-zero, add-zero, zero-add, suc-add, add-suc}
 use native.Mathlib.Numerals.{add-one}
 use native.Mathlib.Omega.{arith}
-use borrow.Author.Tests.{eqb-true, eq-eqb, ne-eqb}
+use borrow.Author.Tests.{eq-eqb, ne-eqb}
 use lib.Dec.{eqb}
 use lib.ListN.{length, getD, drop, length-append}
 use lib.Seq.{ext-getD}
 use Rattle.bits.specs.Choice.{pick, both}
 use Rattle.bits.specs.Bytes.{bytesAt}
-use Rattle.bits.proofs.TestLaws.{both-0, both-1}
+use Rattle.bits.proofs.TestLaws.{both-1}
 use Rattle.footer.specs.Footer.{same}
-use Rattle.format.specs.declared.Layout.{Layout}
 use Rattle.format.specs.Entry as entry
 use Rattle.image.specs.Sections.{stringsIn, storageAt}
-use Rattle.image.specs.Strings.{Str, unitSize, sizeOf, placeAt, stringOf, unitsOf}
+use Rattle.image.specs.Strings.{unitSize, sizeOf, stringOf, unitsOf}
 use Rattle.unicode.specs.declared.Reading.{Reading}
 use Rattle.unicode.specs.Utf8.{between, nextByte, completes, unitsFrom, utf16}
 use Rattle.unicode.proofs.UnitLaws.{rest, units-end}

@@ -1,12 +1,12 @@
 -- The overlap of two places, and the pass over all of them.
-use mathlib.Core.Path.{_≡_, refl, ap, sym, _∙_}
+use mathlib.Core.Path.{_≡_, ap, _∙_}
 use mathlib.Core.Bool.{Bool, true, false, not}
 use mathlib.Core.List.{List}
 use Prim.Native.Nat.{ℕ, _+_, _≤_, _<_}
 use native.Mathlib.Omega.{arith}
 use borrow.Author.Tests.{lt-ltb, le-ltb, eq-eqb, ne-eqb}
 use lib.Dec.{ltb, eqb}
-use Rattle.bits.specs.Choice.{both, implies, allBelow}
+use Rattle.bits.specs.Choice.{implies, allBelow}
 use Rattle.bits.proofs.PassLaws.{pass-next, pass-stop, pass-end}
 use Rattle.format.specs.Entry as entry
 use Rattle.image.specs.Strings.{sizeOf, placeAt}

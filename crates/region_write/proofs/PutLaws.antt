@@ -2,7 +2,7 @@
 use mathlib.Core.Path.{_≡_, refl, ap, sym, _∙_, subst⁻¹}
 use mathlib.Core.Bool.{Bool, true, false}
 use mathlib.Core.List.{List}
-use Prim.Native.Nat.{ℕ, suc, _+_, _-_, _*_, _≤_, _<_}
+use Prim.Native.Nat.{ℕ, _+_, _-_, _*_, _≤_, _<_}
 use native.Mathlib.Numerals.{add-one}
 use native.Mathlib.Omega.{arith}
 use lib.Dec.{eqb}
@@ -14,14 +14,13 @@ use Rattle.format.specs.Entry as entry
 use Rattle.unicode.specs.Utf8.{utf16, unitBytes}
 use Rattle.footer.specs.Finalize.{sizeLimit}
 use Rattle.image.specs.Sections.{stringsIn, storageAt}
-use Rattle.image.specs.Strings.{Str, sizeOf, placeAt, stringOf}
+use Rattle.image.specs.Strings.{Str, sizeOf, stringOf}
 use Rattle.image.specs.Rebuild.{layFrom, storeOf, overs, region, padded}
 use Rattle.sections.specs.declared.Places.{Places}
 use Rattle.sections.specs.Places.{Placed}
 use Rattle.sections.proofs.SectionLaws.{Sectioned, sectioned}
 use Rattle.string_tables.specs.declared.Place.{Place}
 use Rattle.string_tables.specs.Strings.{asPlace}
-use Rattle.walk.specs.Places.{Stands}
 use Rattle.string_region.specs.declared.Shape.{Shape}
 use Rattle.string_region.specs.declared.Cursor.{Cursor}
 use Rattle.string_region.specs.declared.Turn.{Turn}

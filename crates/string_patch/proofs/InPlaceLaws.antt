@@ -1,28 +1,25 @@
 -- The value over the bytes of its string.
-use mathlib.Core.Path.{_≡_, refl, ap, sym, _∙_}
+use mathlib.Core.Path.{_≡_, ap, sym, _∙_}
 use mathlib.Core.Bool.{Bool, true, false, not}
-use mathlib.Core.List.{List, [], _∷_}
-use Prim.Native.Nat.{ℕ, _+_, _-_, _*_, _≤_, _<_}
+use mathlib.Core.List.{List}
+use Prim.Native.Nat.{ℕ, _+_, _-_, _≤_, _<_}
 use native.Mathlib.Omega.{arith}
 use borrow.Author.Tests.{not-true, not-false, eq-eqb, ne-eqb, eqb-true, le-ltb}
-use lib.Dec.{eqb, ltb}
+use lib.Dec.{eqb}
 use lib.ListN.{length, take, drop}
 use borrow.Rule.Slice.PartMut.{putMid}
 use lib.Seq.{sets, length-sets}
-use Rattle.bits.specs.Choice.{pick, both, either, judge}
+use Rattle.bits.specs.Choice.{both, judge}
 use Rattle.bits.specs.Bytes.{ascii}
 use Rattle.bits.specs.Outcome.{Answers, made, roomed}
 use Rattle.bits.specs.declared.Answer.{Answer}
 use Rattle.bits.specs.declared.Answer.the-variants.{Refused}
 use Rattle.bits.proofs.TestLaws.{both-0, both-1}
 use Rattle.bits.proofs.WriteLaws.{sets-all}
-use Rattle.format.specs.declared.Layout.{Layout}
 use Rattle.format.specs.Entry as entry
 use Rattle.footer.specs.Finalize.{leastLength, sizeLimit}
 use Rattle.image.specs.Sections.{storageAt}
 use Rattle.image.specs.Strings.{sizeOf, placeAt}
-use Rattle.image.specs.Admitted.{Admitted}
-use Rattle.image.specs.Fit.{fieldsFit}
 use Rattle.sections.specs.declared.Places.{Places}
 use Rattle.sections.specs.Places.{Placed}
 use Rattle.sections.proofs.SectionLaws.{Sectioned, sectioned}
@@ -30,7 +27,7 @@ use Rattle.overlap.specs.Overlap.{isAlone}
 use Rattle.string_tables.specs.declared.Place.{Place}
 use Rattle.string_tables.specs.Strings.{asPlace}
 use Rattle.walk.specs.Places.{Stands}
-use Rattle.string_patch.specs.Patch.{fitsInPlace, inPlace, changed, finished, patched, newLength, patchFits, resultChecks, movedBy, patchKnown}
+use Rattle.string_patch.specs.Patch.{fitsInPlace, inPlace, changed, finished, patched, newLength, patchFits, patchKnown}
 use Rattle.string_patch.proofs.FinishLaws.{answers-over, length-finished, room-short, room-written}
 
 -- ---- the test

@@ -1,28 +1,26 @@
 -- Refusals 11 to 13 of a rebuild, by the measured sizes.
-use mathlib.Core.Path.{_≡_, refl, ap, sym, _∙_}
+use mathlib.Core.Path.{_≡_, refl, ap, _∙_}
 use mathlib.Core.Bool.{Bool, true, false, not}
 use mathlib.Core.List.{List, _++_}
 use Prim.Native.Nat.{ℕ, _+_, _-_, _*_, _≤_, _<_}
 use native.Mathlib.Omega.{arith}
 use borrow.Author.Tests.{lt-ltb, le-ltb, eq-eqb, not-true, not-false}
-use lib.Dec.{eqb}
 use borrow.Rule.Slice.PartMut.{putMid}
 use lib.ListN.{length, take, drop, length-append}
-use Rattle.bits.specs.Choice.{pick, either, judge}
+use Rattle.bits.specs.Choice.{judge}
 use Rattle.bits.specs.Bytes.{up4, wordsOf, zerosTo4}
 use Rattle.bits.specs.Outcome.{Outcome, Answers, refused, made, roomed}
 use Rattle.bits.specs.declared.Answer.{Answer}
 use Rattle.bits.specs.declared.Answer.the-variants.{Refused}
 use Rattle.format.specs.Move.{moved}
 use Rattle.format.proofs.MoveLaws.{moved-high}
-use Rattle.footer.specs.Finalize.{leastLength, sizeLimit}
+use Rattle.footer.specs.Finalize.{sizeLimit}
 use Rattle.image.specs.Sections.{stringsIn, smallAt, tailAt}
-use Rattle.image.specs.Strings.{Str, unitSize, stringOf}
+use Rattle.image.specs.Strings.{Str, unitSize}
 use Rattle.image.specs.Fit.{fieldsFit}
-use Rattle.image.specs.Rebuild.{layFrom, storeOf, smallsFrom, pairsFor, region, padded, rebuild}
+use Rattle.image.specs.Rebuild.{layFrom, storeOf, smallsFrom, pairsFor, region, padded}
 use Rattle.image.proofs.RebuildLaws.{length-rebuilt}
 use Rattle.sections.specs.declared.Places.{Places}
-use Rattle.sections.specs.Places.{Placed}
 use Rattle.sections.proofs.SectionLaws.{Sectioned, sectioned}
 use Rattle.string_region.specs.declared.Shape.{Shape}
 use Rattle.string_region.specs.declared.Sizes.{Sizes}
@@ -30,9 +28,9 @@ use Rattle.string_region.specs.Strings.{asString, stringWith, stringsWith, newT
 use Rattle.string_region.specs.Pass.{Measured}
 use Rattle.string_region.proofs.ListLaws.{size-room}
 use Rattle.string_region.proofs.PassLaws.{tail-is}
-use Rattle.string_patch.specs.Patch.{fitsInPlace, changed, patched, newLength, patchFits, resultChecks, patchKnown}
+use Rattle.string_patch.specs.Patch.{changed, patched, newLength, patchFits, patchKnown}
 use Rattle.string_patch.proofs.FinishLaws.{length-finished, room-short, room-written}
-use Rattle.string_rebuild.specs.Ready.{Asked, Ready}
+use Rattle.string_rebuild.specs.Ready.{Asked}
 use Rattle.string_rebuild.proofs.RebuildLaws.{newStrings}
 
 pub refuses : (o : Outcome) (k : ℕ) (out : List ℕ) → o ≡ refused k → Answers (roomed (length out) o) (Refused k) out out

@@ -1,26 +1,21 @@
 -- The rebuilt image as the code writes it: what stands around the strings, the strings, the counts, what moves, the end of every patch.
-use mathlib.Core.Path.{_≡_, refl, ap, sym, _∙_, subst, subst⁻¹}
-use mathlib.Core.Bool.{true, false}
+use mathlib.Core.Path.{_≡_, ap, sym, _∙_, subst, subst⁻¹}
 use mathlib.Core.List.{List, [], _∷_}
-use Prim.Native.Nat.{ℕ, _+_, _-_, _*_, _≤_, _<_}
+use Prim.Native.Nat.{ℕ, _+_, _-_, _*_, _≤_}
 use native.Mathlib.Omega.{arith}
 use lib.ListN.{length}
 use lib.Seq.{sets}
-use Rattle.bits.specs.Choice.{pick}
 use Rattle.bits.specs.Bytes.{up4}
 use Rattle.bits.specs.Outcome.{Answers, made}
 use Rattle.bits.specs.declared.Answer.{Answer}
-use Rattle.format.specs.declared.Layout.{Layout}
 use Rattle.format.specs.Table as table
-use Rattle.footer.specs.Finalize.{leastLength, sizeLimit}
+use Rattle.footer.specs.Finalize.{sizeLimit}
 use Rattle.image.specs.Sections.{smallAt, tailAt}
 use Rattle.image.specs.Strings.{Str}
-use Rattle.image.specs.Admission.{headersIn}
 use Rattle.image.specs.Edit.{word, writeAll, splice}
-use Rattle.image.specs.Rebuild.{layFrom, storeOf, overs, region, padded, rebuild}
+use Rattle.image.specs.Rebuild.{region, padded, rebuild}
 use Rattle.image.proofs.CheckLaws.{headers-in}
 use Rattle.sections.specs.declared.Places.{Places}
-use Rattle.sections.specs.Places.{Placed}
 use Rattle.sections.proofs.SectionLaws.{Sectioned, sectioned}
 use Rattle.relocate.specs.declared.Move.{Move}
 use Rattle.relocate.specs.declared.Patch.the-variants.{Strings}
@@ -31,9 +26,9 @@ use Rattle.string_region.specs.declared.Shape.{Shape}
 use Rattle.string_region.specs.declared.Sizes.{Sizes}
 use Rattle.string_region.specs.Strings.{asString, stringsWith, newTail}
 use Rattle.string_region.proofs.PassLaws.{storage-is, overflows-are, tail-is}
-use Rattle.string_patch.specs.Patch.{fitsInPlace, inPlace, changed, finished, patched}
+use Rattle.string_patch.specs.Patch.{changed, finished, patched}
 use Rattle.string_patch.proofs.FinishLaws.{answers-over, length-finished}
-use Rattle.string_rebuild.specs.Ready.{Asked, Ready}
+use Rattle.string_rebuild.specs.Ready.{Ready}
 
 -- the strings of the new image
 abbrev pub newStrings : Places → List ℕ → List ℕ → ℕ → List Str

@@ -6,7 +6,6 @@ use relocate::Patch;
 use sections::Places;
 use string_region::Shape;
 use string_region::Sizes;
-ghost use mathlib.Core.Path.{_≡_};
 ghost use lib.ListN.{length};
 ghost use Rattle.bits.specs.Outcome.{Answers, made, roomed};
 ghost use Rattle.string_patch.specs.Patch.{patched, patchKnown};

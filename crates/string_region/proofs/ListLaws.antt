@@ -1,19 +1,17 @@
 -- Strings packed one behind the other, and their tables, with one string more.
-use mathlib.Core.Path.{_≡_, refl, ap, sym, _∙_}
-use mathlib.Core.Bool.{Bool, true, false}
+use mathlib.Core.Path.{_≡_, refl, ap, _∙_}
 use mathlib.Core.List.{List, [], _∷_, _++_, append-assoc, append-nil}
 use mathlib.Core.Logic.{inl, inr}
 use Prim.Native.Nat.{ℕ, zero, suc, _+_, _*_, _≤_, _<_}
 use native.Mathlib.Nat.{add-zero, zero-add, add-assoc}
 use native.Mathlib.Omega.{arith}
 use lib.ListN.{length, length-append}
-use Rattle.bits.specs.Choice.{pick}
 use Rattle.bits.specs.Bytes.{wordsOf}
 use Rattle.bits.proofs.TestLaws.{below}
 use Rattle.bits.proofs.ByteLaws.{length-words}
 use Rattle.format.specs.Entry.{Place, bit, isOver, smallWord}
 use Rattle.image.specs.Strings.{Str}
-use Rattle.image.specs.Rebuild.{countOf, layFrom, storeOf, smallsFrom, pairOf, pairsFor, overs}
+use Rattle.image.specs.Rebuild.{layFrom, storeOf, smallsFrom, pairOf, pairsFor, overs}
 use Rattle.image.proofs.TableLaws.{length-smalls, length-pairs, length-lay}
 use Rattle.string_region.specs.Strings.{tabulate, placed}
 

@@ -1,18 +1,18 @@
 -- A turn of the pass over the strings.
 use mathlib.Core.Path.{_≡_, refl, ap, sym, _∙_, subst, subst⁻¹}
 use mathlib.Core.Bool.{Bool, true, false}
-use mathlib.Core.List.{List, _++_}
+use mathlib.Core.List.{List}
 use Prim.Native.Nat.{ℕ, _+_, _-_, _*_, _≤_, _<_}
 use native.Mathlib.Omega.{arith}
 use lib.Dec.{eqb}
 use lib.ListN.{length, length-append, length-replicate}
 use Rattle.bits.specs.Choice.{pick}
-use Rattle.bits.specs.Bytes.{up4, zerosTo4}
+use Rattle.bits.specs.Bytes.{up4}
 use Rattle.format.specs.Table.{ifSet}
 use Rattle.format.specs.Entry as entry
 use Rattle.footer.specs.Finalize.{sizeLimit}
 use Rattle.image.specs.Sections.{stringsIn, smallAt}
-use Rattle.image.specs.Strings.{Str, isFull, overBefore, smallIn, sizeOf}
+use Rattle.image.specs.Strings.{Str, isFull, smallIn, sizeOf}
 use Rattle.image.specs.Rebuild.{layFrom, storeOf, overs, region, padded}
 use Rattle.sections.specs.declared.Places.{Places}
 use Rattle.sections.specs.Places.{Placed}
@@ -23,8 +23,7 @@ use Rattle.walk.specs.Places.{Stands}
 use Rattle.walk.proofs.WalkLaws.{over-none, over-most, over-next}
 use Rattle.string_region.specs.declared.Shape.{Shape}
 use Rattle.string_region.specs.declared.Cursor.{Cursor}
-use Rattle.string_region.specs.declared.Turn.{Turn}
-use Rattle.string_region.specs.Strings.{Shaped, tabulate, stringWith, stringsWith, newTail, placeWith}
+use Rattle.string_region.specs.Strings.{Shaped, stringWith, stringsWith, newTail, placeWith}
 use Rattle.string_region.specs.declared.Sizes.{Sizes}
 use Rattle.string_region.specs.Pass.{Reached, Turned, Measured}
 use Rattle.string_region.proofs.ListLaws.{size-smalls, size-pairs}

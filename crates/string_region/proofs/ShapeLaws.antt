@@ -18,7 +18,7 @@ use Rattle.image.specs.Sections.{storageAt}
 use Rattle.image.specs.Strings.{Str, unitSize, sizeOf, placeAt, stringOf}
 use Rattle.image.specs.Rebuild.{countOf, layFrom, storeOf, overs}
 use Rattle.string_region.specs.declared.Shape.{Shape}
-use Rattle.string_region.specs.Strings.{asString, tabulate, stringWith, firsts, placed, Shaped, placeWith, Sums}
+use Rattle.string_region.specs.Strings.{asString, tabulate, stringWith, placed, Shaped, placeWith, Sums}
 use Rattle.string_region.proofs.ListLaws.{size-next, overs-next}
 
 -- ---- a value

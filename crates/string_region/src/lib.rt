@@ -3,7 +3,6 @@ use sections::Places;
 use string_tables::Place;
 ghost use mathlib.Core.Path.{_≡_};
 ghost use Prim.Native.Nat.{_+_, _*_, _≤_, _<_};
-ghost use lib.ListN.{length};
 ghost use Rattle.bits.specs.Bytes.{up4};
 ghost use Rattle.format.specs.Entry.{isOver};
 ghost use Rattle.footer.specs.Finalize.{sizeLimit};

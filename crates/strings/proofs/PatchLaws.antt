@@ -1,5 +1,5 @@
 -- The order of refusals, by id and by value: where none is given before a string is known, the patch of a known string decides.
-use mathlib.Core.Path.{_≡_, refl, ap, sym, _∙_}
+use mathlib.Core.Path.{_≡_, refl, ap, _∙_}
 use mathlib.Core.Bool.{Bool, true, false, not}
 use mathlib.Core.List.{List, _∷_, _++_}
 use Prim.Native.Nat.{ℕ, _≤_, _<_}
@@ -7,8 +7,8 @@ use native.Mathlib.Omega.{arith}
 use borrow.Author.Tests.{le-leb, lt-leb, ne-eqb, not-true, not-false}
 use lib.Dec.{leb, eqb}
 use lib.ListN.{length}
-use Rattle.bits.specs.Choice.{pick, Check, check, judge}
-use Rattle.bits.specs.Outcome.{Outcome, Answers, refused, made, roomed}
+use Rattle.bits.specs.Choice.{Check, check, judge}
+use Rattle.bits.specs.Outcome.{Answers, roomed}
 use Rattle.bits.specs.declared.Answer.{Answer}
 use Rattle.bits.specs.declared.Answer.the-variants.{Refused}
 use Rattle.format.specs.declared.Layout.{Layout}

@@ -3,7 +3,6 @@ use admission::Admission;
 use bits::Answer;
 use format::Layout;
 use sections::Places;
-ghost use mathlib.Core.Path.{_≡_};
 ghost use Prim.Native.Nat.{_<_};
 ghost use lib.ListN.{length};
 ghost use Rattle.bits.specs.Outcome.{Answers, roomed};

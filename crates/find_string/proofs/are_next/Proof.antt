@@ -1,7 +1,7 @@
 use borrow.Author.Needs.{needs}
 use Rattle.find_string.proofs.are_next.Statement.{statement}
 use Rattle.find_string.proofs.are_next.Tie as tie
-use Prim.Native.Nat.{_+_, _≤_}
+use Prim.Native.Nat.{_+_}
 use native.Mathlib.Omega.{arith}
 use Rattle.find_string.proofs.FindLaws.{none-next, one-next, two-differ, two-next, room-one, room-first, room-second, room-low}
 

@@ -1,6 +1,6 @@
 use Rattle.find_string.proofs.are_units.Statement.{statement}
 use Rattle.find_string.proofs.are_units.Tie as tie
-use mathlib.Core.Path.{_≡_, refl, sym, _∙_, subst}
+use mathlib.Core.Path.{_≡_, sym, subst}
 use Prim.Native.Nat.{_+_, _≤_, _-_}
 use native.Mathlib.Omega.{arith}
 use lib.ListN.{length, drop}

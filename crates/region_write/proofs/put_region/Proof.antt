@@ -1,7 +1,7 @@
 use borrow.Author.Needs.{needs}
 use Rattle.region_write.proofs.put_region.Statement.{statement}
 use Rattle.region_write.proofs.put_region.Tie as tie
-use mathlib.Core.Path.{_≡_, refl}
+use mathlib.Core.Path.{refl}
 use Rattle.region_write.proofs.PutLaws.{roomy, region-put}
 
 put-strings-requires : tie.Need-put-strings-requires

@@ -1,10 +1,7 @@
 use borrow.Author.Needs.{needs}
 use Rattle.region_write.proofs.put_string.Statement.{statement}
 use Rattle.region_write.proofs.put_string.Tie as tie
-use mathlib.Core.Path.{_≡_, sym, _∙_}
-use Prim.Native.Nat.{_+_, _≤_}
 use native.Mathlib.Omega.{arith}
-use lib.ListN.{length}
 use Rattle.region_write.proofs.PutLaws.{old-few, old-in, places-low, entry-room, place-low, bytes-room, string-put}
 
 size-of-requires : tie.Need-size-of-requires

@@ -4,10 +4,10 @@ use mathlib.Core.Path.{_≡_, refl, _∙_}
 use Prim.Native.Nat.{_≤_, _-_}
 use native.Mathlib.Omega.{arith}
 use lib.ListN.{length}
-use Rattle.string_region.specs.Strings.{asString, stringWith, stringsWith, firsts}
+use Rattle.string_region.specs.Strings.{asString, stringWith, firsts}
 use Rattle.string_region.specs.Pass.{Reached}
 use Rattle.string_region.proofs.PassLaws.{reached-none}
-use Rattle.region_write.specs.Region.{laid, Roomy}
+use Rattle.region_write.specs.Region.{laid}
 use Rattle.region_write.proofs.RegionLaws.{laid-none}
 use Rattle.region_write.proofs.PutLaws.{laid-further, all-strings}
 

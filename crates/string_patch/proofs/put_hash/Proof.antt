@@ -2,7 +2,6 @@ use borrow.Author.Needs.{needs}
 use Rattle.string_patch.proofs.put_hash.Statement.{statement}
 use Rattle.string_patch.proofs.put_hash.Tie as tie
 use mathlib.Core.Path.{sym, _∙_}
-use mathlib.Core.Bool.{true}
 use native.Mathlib.Omega.{arith}
 use borrow.Author.Tests.{not-false}
 use Rattle.unicode.specs.Utf8.{utf16}

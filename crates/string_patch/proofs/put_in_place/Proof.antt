@@ -3,7 +3,6 @@ use Rattle.string_patch.proofs.put_in_place.Statement.{statement}
 use Rattle.string_patch.proofs.put_in_place.Tie as tie
 use native.Mathlib.Omega.{arith}
 use Rattle.sections.proofs.SectionLaws.{sectioned}
-use Rattle.string_patch.proofs.FinishLaws.{long-enough}
 use Rattle.string_patch.proofs.InPlaceLaws.{value-in, in-place}
 
 put-bytes-requires-2 : tie.Need-put-bytes-requires-2

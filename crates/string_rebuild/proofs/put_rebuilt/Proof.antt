@@ -1,8 +1,7 @@
 use borrow.Author.Needs.{needs}
 use Rattle.string_rebuild.proofs.put_rebuilt.Statement.{statement}
 use Rattle.string_rebuild.proofs.put_rebuilt.Tie as tie
-use mathlib.Core.Path.{_≡_, refl, sym, _∙_}
-use Prim.Native.Nat.{_≤_}
+use mathlib.Core.Path.{refl, _∙_}
 use Rattle.string_rebuild.proofs.RebuildLaws.{around-room, region-room, header-room, finish-room, movable, patch-put}
 
 copy-around-requires : tie.Need-copy-around-requires

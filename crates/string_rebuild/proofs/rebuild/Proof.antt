@@ -1,8 +1,7 @@
 use borrow.Author.Needs.{needs}
 use Rattle.string_rebuild.proofs.rebuild.Statement.{statement}
 use Rattle.string_rebuild.proofs.rebuild.Tie as tie
-use mathlib.Core.Path.{_≡_, refl, sym, _∙_}
-use Prim.Native.Nat.{_≤_, _<_, _+_, _-_}
+use Prim.Native.Nat.{_+_, _-_}
 use native.Mathlib.Omega.{arith}
 use lib.ListN.{length}
 use Rattle.image.proofs.CheckLaws.{headers-in}

@@ -1,6 +1,5 @@
 use Rattle.string_region.proofs.measure.Statement.{statement}
 use Rattle.string_region.proofs.measure.Tie as tie
-use mathlib.Core.Path.{_≡_}
 use Prim.Native.Nat.{_≤_, _-_}
 use native.Mathlib.Omega.{arith}
 use Rattle.string_region.specs.Pass.{Reached}

@@ -1,7 +1,5 @@
 use Rattle.string_region.proofs.new_place.Statement.{statement}
 use Rattle.string_region.proofs.new_place.Tie as tie
-use Rattle.string_region.specs.Strings.{placeWith}
-use Rattle.string_tables.specs.Strings.{asPlace}
 
 returns : tie.Need-returns
 returns c = rw (c .if1 .taken)
