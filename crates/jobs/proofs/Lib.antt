@@ -1,1 +1,4 @@
 pub mod JobLaws
+pub mod RecordLaws
+pub mod CloseLaws
+pub mod PieceLaws

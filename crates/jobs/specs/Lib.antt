@@ -1,1 +1,2 @@
 pub mod Job
+pub mod Pieces

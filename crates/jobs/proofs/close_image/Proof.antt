@@ -1,0 +1,16 @@
+use borrow.Author.Needs.{needs}
+use Rattle.jobs.proofs.close_image.Statement.{statement}
+use Rattle.jobs.proofs.close_image.Tie as tie
+use native.Mathlib.Omega.{arith}
+use Rattle.jobs.proofs.CloseLaws.{close-kept, close-sealed}
+
+returns : tie.Need-returns
+returns c = let a = c .before .before .before .before .before .before .before .args in close-sealed (a .length) (a .place) _ (a .image .now) (c .before .before .before .before .before .least .ensures .0) (c .before .before .before .before .before .least .ensures .1) _ _ (c .before .before .before .before .if1 .taken) (c .before .before .finalize-raw-image .ensures)
+
+returns-2 : tie.Need-returns-2
+returns-2 c = let a = c .before .before .before .args in close-kept (a .length) (a .place) _ (a .image .now) (c .before .least .ensures .0) (c .before .least .ensures .1) (c .if1 .left)
+
+pub close-image-spec : {M : Type 1} → statement M
+close-image-spec =
+    tie.close
+    (tie.spec (λ c κs. search needs) (λ c. search needs) (λ c. search needs) (λ c. search needs) (λ c κs. search needs) (λ c. search needs) returns returns-2)

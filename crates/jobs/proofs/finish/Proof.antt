@@ -1,0 +1,16 @@
+use borrow.Author.Needs.{needs}
+use Rattle.jobs.proofs.finish.Statement.{statement}
+use Rattle.jobs.proofs.finish.Tie as tie
+use native.Mathlib.Omega.{arith}
+use Rattle.jobs.proofs.CloseLaws.{close-as, close-refused}
+
+returns : tie.Need-returns
+returns c = let a = c .before .before .before .before .before .before .before .before .args in close-as (a .progress) (a .image .now) _ _ _ _ _ (c .before .before .before .before .before .progress .given .1) (c .before .before .close-image .ensures)
+
+returns-2 : tie.Need-returns-2
+returns-2 c = let a = c .before .before .before .before .before .before .before .before .args in close-refused (a .progress) (a .image .now) _ _ _ _ (c .before .before .before .before .before .progress2 .given .1) (c .before .before .put-refused .ensures .0) (c .before .before .put-refused .ensures .1) (c .before .before .before .before .before .before .before .before .pre)
+
+pub finish-spec : {M : Type 1} → statement M
+finish-spec =
+    tie.close
+    (tie.spec (λ c. search needs) (λ c κs. search needs) (λ c. search needs) (λ c. search needs) (λ c κs. search needs) (λ c. search needs) returns (λ c. search needs) returns-2)
