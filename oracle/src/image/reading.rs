@@ -230,6 +230,7 @@ impl Small {
 }
 
 /// Where a string lies in storage.
+#[derive(Clone)]
 pub struct Stored {
     pub wide: bool,
     pub start: u64,

@@ -108,7 +108,11 @@ fn judge_string(patch: &Patch, reading: &Reading) -> Judgement {
         // It finds a string by its decoded text, in which what is no character is U+FFFD.
         let Some(id) = decoded else { return unlisted() };
         let as_stated = plain == rust::by_id(reading, id as u32, new);
-        return if as_stated { departed(answer, Departure::DecodedTextCompared) } else { unlisted() };
+        return if as_stated {
+            departed(answer, Departure::DecodedTextCompared)
+        } else {
+            unlisted()
+        };
     }
     match found {
         Some(id) => held(answer, reading, id as u32, new, plain),
@@ -130,9 +134,11 @@ fn by_id(patch: &Patch, reading: &Reading, id: usize, value: &str) -> Result<Vec
     }
     let is_over = |place: u64| place - old_tail + new_tail > FIELD;
     let small = |function: &Function| function.header.is_none();
-    if reading.functions().filter(small).any(|function| {
-        is_over(function.body.0) || (function.info != 0 && is_over(function.info))
-    }) {
+    if reading
+        .functions()
+        .filter(small)
+        .any(|function| is_over(function.body.0) || (function.info != 0 && is_over(function.info)))
+    {
         return Err(12);
     }
     let new_length = length - old_tail + new_tail;
@@ -219,7 +225,11 @@ fn judge_body(patch: &Patch, reading: &Reading) -> Judgement {
         };
     }
     if length > LIMIT {
-        return refused(11, plain == rust::forced(reading, id, patch.new), Some(Departure::NoSizeLimit));
+        return refused(
+            11,
+            plain == rust::forced(reading, id, patch.new),
+            Some(Departure::NoSizeLimit),
+        );
     }
     agreed(roomed(patch, length, || plain))
 }

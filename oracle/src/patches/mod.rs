@@ -99,6 +99,11 @@ fn run(kind: Kind, a: &[u32; ARGUMENTS], buffer: &mut [u8]) -> Answered {
     Ok(vec![image.len() as u32])
 }
 
+/// The length of a call's output.
+fn room(call: &Call) -> usize {
+    Patch::of(Kind::ById, &call.arguments, &call.buffer).room
+}
+
 /// The departure of the Rust that a call shows.
 pub fn departure(call: &Call) -> Option<Departure> {
     let kind = [Kind::ById, Kind::ByValue, Kind::Body][call.function.number as usize - 32];

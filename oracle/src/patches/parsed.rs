@@ -16,7 +16,9 @@ pub fn parsed(reading: &Reading) -> BytecodeFile {
         raw_bytes: Some(image.to_vec()),
         header: header(reading),
         sections: sections(reading),
-        function_headers: (0..reading.functions().count()).map(|id| function(reading, id)).collect(),
+        function_headers: (0..reading.functions().count())
+            .map(|id| function(reading, id))
+            .collect(),
         strings: strings(reading),
         instruction_offset: tail as u32,
         instructions: image[tail..].to_vec(),

@@ -102,7 +102,8 @@ pub fn forced(reading: &Reading, id: usize, body: &[u8]) -> Rust {
             let at = moved(pointer) as usize;
             if at as u64 != pointer {
                 // A pointer that moves is written whole: the legacy one has 25 bits of place for 16.
-                let cleared = if layout.is_modern() { record } else { record::OFFSET.set(record, 0) };
+                let cleared =
+                    if layout.is_modern() { record } else { record::OFFSET.set(record, 0) };
                 record = set_pointer(layout.pointer(), cleared, at as u64);
             }
             // An empty body can lie within the words: what the Rust reads is then no longer what was there.

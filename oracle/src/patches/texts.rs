@@ -22,7 +22,8 @@ pub fn units(reading: &Reading, string: &Stored) -> Vec<u16> {
 pub fn identifiers(reading: &Reading) -> Vec<bool> {
     let kinds = reading.places().kinds as usize;
     let words = (0..reading.count(KINDS) as usize).map(|i| word(reading.image, kinds + 4 * i));
-    let run = |word: u32| std::iter::repeat_n(word & IDENTIFIER != 0, (word & !IDENTIFIER) as usize);
+    let run =
+        |word: u32| std::iter::repeat_n(word & IDENTIFIER != 0, (word & !IDENTIFIER) as usize);
     words.flat_map(run).collect()
 }
 
