@@ -4,7 +4,7 @@ use std::panic::{catch_unwind, AssertUnwindSafe};
 
 use crate::random::Random;
 use crate::stream::{Answer, Call, ARGUMENTS};
-use crate::{builder, image, leaves};
+use crate::{builder, image, leaves, patches};
 
 pub const DONE: u32 = 0;
 /// The Rust stopped with a panic.
@@ -60,7 +60,8 @@ pub struct Departure {
     pub explains: fn(&Call, &Answer, &Answer) -> bool,
 }
 
-pub static FAMILIES: [&Family; 3] = [&leaves::FAMILY, &builder::FAMILY, &image::FAMILY];
+pub static FAMILIES: [&Family; 4] =
+    [&leaves::FAMILY, &builder::FAMILY, &image::FAMILY, &patches::FAMILY];
 
 impl Family {
     /// The family that the program's first argument names, and the arguments after it.

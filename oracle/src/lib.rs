@@ -5,5 +5,6 @@ pub mod builder;
 pub mod family;
 pub mod image;
 pub mod leaves;
+pub mod patches;
 pub mod random;
 pub mod stream;

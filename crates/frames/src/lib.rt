@@ -154,3 +154,8 @@ pub fn write(answer: Answer, buffer: &[u8]) -> bool {
     put_results(&mut frame, results);
     io::write_all(STDOUT_FILENO, &frame) && io::write_all(STDOUT_FILENO, buffer)
 }
+
+// Writes what is left of an answer's buffer, where a call keeps its buffer in two parts.
+pub fn write_rest(bytes: &[u8]) -> bool {
+    io::write_all(STDOUT_FILENO, bytes)
+}

@@ -312,7 +312,13 @@ fn borrowed(
 }
 
 /// The record of a function and the words of its large header; all other bits are anything.
-fn put_function(random: &mut Random, layout: Layout, image: &mut [u8], id: usize, f: &Function) {
+pub fn put_function(
+    random: &mut Random,
+    layout: Layout,
+    image: &mut [u8],
+    id: usize,
+    f: &Function,
+) {
     let mut number = u128::from(random.next()) << 64 | u128::from(random.next());
     let flags = random.below(256) & !LARGE_FLAG;
     if let Some(header) = f.header {

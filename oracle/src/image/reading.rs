@@ -230,18 +230,19 @@ impl Small {
 }
 
 /// Where a string lies in storage.
-struct Stored {
-    wide: bool,
-    start: u64,
-    end: u64,
+#[derive(Clone)]
+pub struct Stored {
+    pub wide: bool,
+    pub start: u64,
+    pub end: u64,
 }
 
 /// What a record says, with its large header if it has one. Places are starts and ends.
-struct Function {
-    id: usize,
-    header: Option<(u64, u64)>,
-    body: (u64, u64),
-    info: u64,
+pub struct Function {
+    pub id: usize,
+    pub header: Option<(u64, u64)>,
+    pub body: (u64, u64),
+    pub info: u64,
 }
 
 /// Which bytes of an image the words of large headers hold.
@@ -332,7 +333,7 @@ impl Reading<'_> {
         size
     }
 
-    fn strings(&self) -> Vec<Stored> {
+    pub fn strings(&self) -> Vec<Stored> {
         let pairs = self.places().overflow as usize;
         let mut overflows = 0;
         let mut strings = vec![];
@@ -354,11 +355,11 @@ impl Reading<'_> {
         strings
     }
 
-    fn functions(&self) -> impl Iterator<Item = Function> + '_ {
+    pub fn functions(&self) -> impl Iterator<Item = Function> + '_ {
         self.ids(FUNCTIONS).map(|id| self.function(id))
     }
 
-    fn function(&self, id: usize) -> Function {
+    pub fn function(&self, id: usize) -> Function {
         let size = self.layout.record();
         let record = number(self.image, HEADER + id * size, size);
         let field = |field: Field| u64::from(field.get(record));

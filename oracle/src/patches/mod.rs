@@ -1,0 +1,111 @@
+//! Calls 32 to 34: the patches, by the Rust on a file that the judge parses, and by a second reading of
+//! document 01 for what is refused.
+
+pub mod draw;
+pub mod judgement;
+mod parsed;
+mod rust;
+pub mod small;
+mod texts;
+
+use crate::family::Argument::*;
+use crate::family::{Answered, Family, Function};
+use crate::image::layout::Layout;
+use crate::stream::{Call, ARGUMENTS};
+use judgement::{judge, Departure};
+
+/// The longest inputs of a call, and the longest output.
+const LONGEST: usize = 131_072;
+
+pub static FAMILY: Family = Family {
+    name: "patches",
+    functions: &FUNCTIONS,
+    longest_buffer: 2 * LONGEST,
+    fixed: draw::fixed,
+    random: draw::random,
+    // The judge itself recognises them: its answers are what document 01 asks for.
+    departures: &[],
+};
+
+#[derive(Clone, Copy, PartialEq)]
+pub enum Kind {
+    ById,
+    ByValue,
+    Body,
+}
+
+macro_rules! function {
+    ($number:literal, $name:literal, $kind:ident) => {
+        Function {
+            number: $number,
+            name: $name,
+            arguments: &[
+                Word("layout"),
+                Word("id"),
+                Word("length of the old value"),
+                Word("length of the new value or body"),
+                Word("length of the image"),
+            ],
+            run: |a, buffer| run(Kind::$kind, a, buffer),
+        }
+    };
+}
+
+static FUNCTIONS: [Function; 3] = [
+    function!(32, "patch_string_by_id", ById),
+    function!(33, "patch_string_replace", ByValue),
+    function!(34, "patch_function_bytes", Body),
+];
+
+/// A patch: what the buffer of a call holds before its output, and the output's length. By id and in a
+/// body patch there is no old value.
+#[derive(Clone, Copy)]
+pub struct Patch<'a> {
+    pub kind: Kind,
+    pub layout: Layout,
+    pub id: u32,
+    pub old: &'a [u8],
+    pub new: &'a [u8],
+    pub image: &'a [u8],
+    pub room: usize,
+}
+
+impl Patch<'_> {
+    fn of<'a>(kind: Kind, a: &[u32; ARGUMENTS], buffer: &'a [u8]) -> Patch<'a> {
+        let (old, rest) = buffer.split_at(a[2] as usize);
+        let (new, rest) = rest.split_at(a[3] as usize);
+        let (image, out) = rest.split_at(a[4] as usize);
+        Patch { kind, layout: Layout(a[0] as u8), id: a[1], old, new, image, room: out.len() }
+    }
+
+    /// The call, with bytes that fill its room. None where it is too long for a call.
+    pub fn call(&self, out: Vec<u8>) -> Option<Call> {
+        let inputs = [self.old, self.new, self.image].concat();
+        if inputs.len() > LONGEST || out.len() > LONGEST {
+            return None;
+        }
+        let lengths = [self.old, self.new, self.image].map(|part| part.len() as u32);
+        let arguments = [&[self.layout.0.into(), self.id], &lengths[..]].concat();
+        let function = &FUNCTIONS[self.kind as usize];
+        Some(Call::new(function, &arguments, [inputs, out].concat()))
+    }
+}
+
+fn run(kind: Kind, a: &[u32; ARGUMENTS], buffer: &mut [u8]) -> Answered {
+    let patch = Patch::of(kind, a, buffer);
+    let image = judge(&patch).answer?;
+    let at = buffer.len() - patch.room;
+    buffer[at..at + image.len()].copy_from_slice(&image);
+    Ok(vec![image.len() as u32])
+}
+
+/// The length of a call's output.
+fn room(call: &Call) -> usize {
+    Patch::of(Kind::ById, &call.arguments, &call.buffer).room
+}
+
+/// The departure of the Rust that a call shows.
+pub fn departure(call: &Call) -> Option<Departure> {
+    let kind = [Kind::ById, Kind::ByValue, Kind::Body][call.function.number as usize - 32];
+    judge(&Patch::of(kind, &call.arguments, &call.buffer)).departure
+}
