@@ -22,96 +22,95 @@ pub struct Field {
     pub sources: usize,
 }
 
-// A row of the table: the four numbers of a field, in that order.
-pub struct Row(pub usize, pub usize, pub usize, pub usize);
-
 // What the first 8 bytes of every image hold.
 pub const MAGIC_NUMBER: u64 = 0x1F1903C103BC1FC6;
 
-// The one table. The names of its rows follow below, in the same order.
-pub const FIELDS: [Row; 70] = [
+// The one table. A row is the four numbers of a field as groups of decimal digits, in the order of
+// `Field`: 92_04_8_4 stands at 92, is 4 wide, and is pushed by 8 and by 4. A row that is one number
+// costs nothing where its name is a constant. The names of the rows follow below, in the same order.
+pub const FIELDS: [usize; 70] = [
     // Header fields of every layout, in bytes.
-    Row(0, 8, 0, 0), // magic
-    Row(8, 4, 0, 0), // version
-    Row(12, 20, 0, 0), // source hash
-    Row(32, 4, 0, 0), // file length
-    Row(36, 4, 0, 0), // global code index
-    Row(40, 4, 0, 0), // function count
-    Row(44, 4, 0, 0), // kind count
-    Row(48, 4, 0, 0), // identifier count
-    Row(52, 4, 0, 0), // string count
-    Row(56, 4, 0, 0), // overflow count
-    Row(60, 4, 0, 0), // storage size
+    0_08_0_0, // magic
+    8_04_0_0, // version
+    12_20_0_0, // source hash
+    32_04_0_0, // file length
+    36_04_0_0, // global code index
+    40_04_0_0, // function count
+    44_04_0_0, // kind count
+    48_04_0_0, // identifier count
+    52_04_0_0, // string count
+    56_04_0_0, // overflow count
+    60_04_0_0, // storage size
     // The other fields of a modern header, in bytes.
-    Row(64, 4, 0, 0), // modern big int count
-    Row(68, 4, 0, 0), // modern big int storage
-    Row(72, 4, 0, 0), // modern reg exp count
-    Row(76, 4, 0, 0), // modern reg exp storage
-    Row(80, 4, 0, 0), // modern literal values
-    Row(84, 4, 0, 0), // modern obj keys
-    Row(88, 4, 0, 0), // modern obj shapes
-    Row(92, 4, 0, 0), // modern string switches
-    Row(96, 4, 0, 0), // modern segment id
-    Row(100, 4, 0, 0), // modern cjs modules
-    Row(104, 4, 0, 0), // modern function sources
-    Row(108, 4, 0, 0), // modern debug
-    Row(112, 4, 0, 0), // modern options
+    64_04_0_0, // modern big int count
+    68_04_0_0, // modern big int storage
+    72_04_0_0, // modern reg exp count
+    76_04_0_0, // modern reg exp storage
+    80_04_0_0, // modern literal values
+    84_04_0_0, // modern obj keys
+    88_04_0_0, // modern obj shapes
+    92_04_0_0, // modern string switches
+    96_04_0_0, // modern segment id
+    100_04_0_0, // modern cjs modules
+    104_04_0_0, // modern function sources
+    108_04_0_0, // modern debug
+    112_04_0_0, // modern options
     // The other fields of a legacy header, in bytes. The first two stand there only with big integers, the
     // function source count only with function sources.
-    Row(64, 4, 0, 0), // legacy big int count
-    Row(68, 4, 0, 0), // legacy big int storage
-    Row(64, 4, 8, 0), // legacy reg exp count
-    Row(68, 4, 8, 0), // legacy reg exp storage
-    Row(72, 4, 8, 0), // legacy array buffer
-    Row(76, 4, 8, 0), // legacy obj keys
-    Row(80, 4, 8, 0), // legacy obj values
-    Row(84, 4, 8, 0), // legacy segment id
-    Row(88, 4, 8, 0), // legacy cjs modules
-    Row(92, 4, 8, 0), // legacy function sources
-    Row(92, 4, 8, 4), // legacy debug
-    Row(96, 1, 8, 4), // legacy options
+    64_04_0_0, // legacy big int count
+    68_04_0_0, // legacy big int storage
+    64_04_8_0, // legacy reg exp count
+    68_04_8_0, // legacy reg exp storage
+    72_04_8_0, // legacy array buffer
+    76_04_8_0, // legacy obj keys
+    80_04_8_0, // legacy obj values
+    84_04_8_0, // legacy segment id
+    88_04_8_0, // legacy cjs modules
+    92_04_8_0, // legacy function sources
+    92_04_8_4, // legacy debug
+    96_01_8_4, // legacy options
     // Function records, in bytes: where the first one starts, and the size of each.
-    Row(128, 12, 0, 0), // modern record
-    Row(128, 16, 0, 0), // legacy record
+    128_12_0_0, // modern record
+    128_16_0_0, // legacy record
     // Fields of a legacy record, in bits.
-    Row(0, 25, 0, 0), // legacy offset
-    Row(25, 7, 0, 0), // legacy params
-    Row(32, 15, 0, 0), // legacy size
-    Row(47, 17, 0, 0), // legacy name
-    Row(64, 25, 0, 0), // legacy info
-    Row(89, 7, 0, 0), // legacy frame
-    Row(96, 8, 0, 0), // legacy environment
-    Row(104, 8, 0, 0), // legacy read cache
-    Row(112, 8, 0, 0), // legacy write cache
-    Row(120, 8, 0, 0), // legacy flags
-    Row(0, 16, 0, 0), // legacy pointer low
+    0_25_0_0, // legacy offset
+    25_07_0_0, // legacy params
+    32_15_0_0, // legacy size
+    47_17_0_0, // legacy name
+    64_25_0_0, // legacy info
+    89_07_0_0, // legacy frame
+    96_08_0_0, // legacy environment
+    104_08_0_0, // legacy read cache
+    112_08_0_0, // legacy write cache
+    120_08_0_0, // legacy flags
+    0_16_0_0, // legacy pointer low
     // Fields of a modern record, in bits.
-    Row(0, 25, 0, 0), // modern offset
-    Row(32, 14, 0, 0), // modern size
-    Row(88, 8, 0, 0), // modern flags
-    Row(0, 24, 0, 0), // modern pointer low
-    Row(46, 8, 0, 0), // modern pointer high
+    0_25_0_0, // modern offset
+    32_14_0_0, // modern size
+    88_08_0_0, // modern flags
+    0_24_0_0, // modern pointer low
+    46_08_0_0, // modern pointer high
     // A bit of a record's flags, 0x20: a large header.
-    Row(5, 1, 0, 0), // large flag
+    5_01_0_0, // large flag
     // Fields of a small string entry, in bits.
-    Row(0, 1, 0, 0), // entry wide
-    Row(1, 23, 0, 0), // entry offset
-    Row(24, 8, 0, 0), // entry length
+    0_01_0_0, // entry wide
+    1_23_0_0, // entry offset
+    24_08_0_0, // entry length
     // Fields of a kind word, in bits.
-    Row(0, 31, 0, 0), // kind run
-    Row(31, 1, 0, 0), // kind identifier
+    0_31_0_0, // kind run
+    31_01_0_0, // kind identifier
     // Entries of the sections after the records, in bytes: the size of each.
-    Row(0, 4, 0, 0), // kind entry
-    Row(0, 4, 0, 0), // hash entry
-    Row(0, 4, 0, 0), // small entry
-    Row(0, 8, 0, 0), // overflow entry
+    0_04_0_0, // kind entry
+    0_04_0_0, // hash entry
+    0_04_0_0, // small entry
+    0_08_0_0, // overflow entry
     // Words of a large header, in bytes from its pointer; then all of its words.
-    Row(0, 4, 0, 0), // large offset
-    Row(12, 4, 0, 0), // modern large size
-    Row(8, 4, 0, 0), // legacy large size
-    Row(16, 4, 0, 0), // legacy large info
-    Row(0, 16, 0, 0), // modern large
-    Row(0, 20, 0, 0), // legacy large
+    0_04_0_0, // large offset
+    12_04_0_0, // modern large size
+    8_04_0_0, // legacy large size
+    16_04_0_0, // legacy large info
+    0_16_0_0, // modern large
+    0_20_0_0, // legacy large
 ];
 
 pub const MAGIC: usize = 0;
@@ -259,12 +258,12 @@ pub fn get(k: usize) -> Field
     requires { ⌜ k < rowCount ⌝ }
     ensures { λ r. ⌜ r ≡ rowOf k ⌝ }
 {
-    let f = FIELDS[k];
+    let row = FIELDS[k];
     Field {
-        at: f.0,
-        width: f.1,
-        big: f.2,
-        sources: f.3,
+        at: row / 10000,
+        width: row / 100 % 100,
+        big: row / 10 % 10,
+        sources: row % 10,
     }
 }
 
