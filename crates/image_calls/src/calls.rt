@@ -15,22 +15,11 @@ pub fn answer_call(head: &[u8; HEAD], image: &[u8]) -> Answer {
     }
 }
 
-// The layout of a byte of document 01 that is at most 4: 0 modern; 1 legacy, 2 with big integers, 3
-// with sources, 4 both.
-fn layout_of(byte: u8) -> Layout {
-    if byte == 0 {
-        return Layout::Modern;
-    }
-    Layout::Legacy {
-        big_integers: byte == 2 || byte == 4,
-        function_sources: byte >= 3,
-    }
-}
-
 fn if_set(set: bool, then: u32, other: u32) -> u32 {
     if set { then } else { other }
 }
 
+// The byte of a layout in document 01: 0 modern; 1 legacy, 2 with big integers, 3 with sources, 4 both.
 fn layout_byte(layout: Layout) -> u32 {
     match layout {
         Layout::Modern => 0,
@@ -54,7 +43,7 @@ fn admitted(head: &[u8; HEAD], image: &[u8], counts: bool) -> Answer {
     if byte > 4 {
         return frames::bare(Status::Unknown);
     }
-    let answer = admission::admit(image, layout_of(byte));
+    let answer = admission::admit(image, input_records::layout_of(byte));
     match answer {
         Admission::Laid(p) => { if counts { counts_of(p) } else { starts_of(p) } }
         Admission::Refused(number) => frames::bare(Status::Refused(number)),

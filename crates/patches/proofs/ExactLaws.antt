@@ -21,6 +21,8 @@ use Rattle.image.specs.Admission.{checks, refusal}
 use Rattle.image.proofs.AdmitLaws.{admitted}
 use Rattle.image.proofs.FaultLaws as faults
 use Rattle.unicode.specs.Utf8.{isUtf8, utf16}
+use Rattle.find_string.specs.Find.{findId}
+use Rattle.string_patch.specs.Patch as string
 use Rattle.strings.specs.Patch as strings
 use Rattle.functions.specs.Patch as functions
 use Rattle.patches.specs.Patches.{Patch, byId, byValue, toBody, outcomeOf, Step, stepOf, targetOf}
@@ -35,12 +37,12 @@ use Rattle.patches.proofs.RefusalLaws.{size-wrong, size-failed, fields-
 -- ---- the checks of a step: those of the patch, and the room
 
 abbrev ownChecks : Layout → List ℕ → Patch → List Check
-ownChecks l s (byId id value) = check 7 (leb (stringsIn s) id) ∷ check 8 (not (isUtf8 value)) ∷ strings.resultChecks l s id value
+ownChecks l s (byId id value) = check 7 (leb (stringsIn s) id) ∷ check 8 (not (isUtf8 value)) ∷ string.resultChecks l s id value
 ownChecks l s (byValue old new) =
     check 8 (not (isUtf8 old))
     ∷ check 8 (not (isUtf8 new))
-    ∷ check 14 (leb (stringsIn s) (strings.findId l s (utf16 old)))
-    ∷ strings.resultChecks l s (strings.findId l s (utf16 old)) new
+    ∷ check 14 (leb (stringsIn s) (findId l s (utf16 old)))
+    ∷ string.resultChecks l s (findId l s (utf16 old)) new
 ownChecks l s (toBody id body) =
     check 7 (leb (functionsIn s) id)
     ∷ check 9 (not (functions.bodyAlone l s id))
@@ -61,8 +63,8 @@ module _ (l : Layout) (s : List ℕ) (room : ℕ) where
 
   -- ---- a check that is met is a fault
 
-  limit-shown : (id : ℕ) (value : List ℕ) (p : Patch) → goesTo l s p (length s) ≡ strings.newLength l s id value → ltb 67_108_864 (strings.newLength l s id value) ≡ true → PatchFault l s room p 11
-  limit-shown id value p e t = overLimit p (rw e (ltb-true 67_108_864 (strings.newLength l s id value) t))
+  limit-shown : (id : ℕ) (value : List ℕ) (p : Patch) → goesTo l s p (length s) ≡ string.newLength l s id value → ltb 67_108_864 (string.newLength l s id value) ≡ true → PatchFault l s room p 11
+  limit-shown id value p e t = overLimit p (rw e (ltb-true 67_108_864 (string.newLength l s id value) t))
 
   share-shown : (id : ℕ) (body : List ℕ) → functions.bodyAlone l s id ≡ false → PatchFault l s room (toBody id body) 9
   share-shown id body e =
@@ -75,16 +77,16 @@ module _ (l : Layout) (s : List ℕ) (room : ℕ) where
       (λ t. noString id value (leb-true (stringsIn s) id t))
       also (λ t. badValue id value (not-true (isUtf8 value) t))
       also (λ t. limit-shown id value (byId id value) (sym (new-length l s id value)) t)
-      also (λ t. let (j, h, u, w) = patch-wrong l s id value (not-true (strings.patchFits l s id value) t) in overField (byId id value) j h u w)
+      also (λ t. let (j, h, u, w) = patch-wrong l s id value (not-true (string.patchFits l s id value) t) in overField (byId id value) j h u w)
       also (λ t. noRoom (byId id value) (ltb-true room _ t))
       also nothing
   own-shows (byValue old new) =
-      let id : ℕ = strings.findId l s (utf16 old) in
+      let id : ℕ = findId l s (utf16 old) in
       (λ t. badOld old new (not-true (isUtf8 old) t))
       also (λ t. badNew old new (not-true (isUtf8 new) t))
       also (λ t. absent old new (λ i h. find-least l s (utf16 old) i (omega (arith, leb-true (stringsIn s) id t))))
       also (λ t. limit-shown id new (byValue old new) (sym (new-length l s id new)) t)
-      also (λ t. let (j, h, u, w) = patch-wrong l s id new (not-true (strings.patchFits l s id new) t) in overField (byValue old new) j h u w)
+      also (λ t. let (j, h, u, w) = patch-wrong l s id new (not-true (string.patchFits l s id new) t) in overField (byValue old new) j h u w)
       also (λ t. noRoom (byValue old new) (ltb-true room _ t))
       also nothing
   own-shows (toBody id body) =
@@ -121,13 +123,13 @@ module _ (l : Layout) (s : List ℕ) (room : ℕ) where
   own-gives p n (wasEmpty id body x y) = given-last n (checks l s) _ (rw (eq-eqb (funcOf l s id .size) 0 x, lt-ltb 0 (length body) y))
   own-gives p n (absent old new h) = given-last n (checks l s) _ (rw (le-leb (stringsIn s) _ (find-none l s (utf16 old) h)))
   own-gives p n (overLimit (byId id value) h) =
-      given-last n (checks l s) _ (simp (lt-ltb 67_108_864 (strings.newLength l s id value) (rw (new-length l s id value) h), either-true))
+      given-last n (checks l s) _ (simp (lt-ltb 67_108_864 (string.newLength l s id value) (rw (new-length l s id value) h), either-true))
   own-gives p n (overLimit (byValue old new) h) =
-      let id : ℕ = strings.findId l s (utf16 old) in
-      given-last n (checks l s) _ (simp (lt-ltb 67_108_864 (strings.newLength l s id new) (rw (new-length l s id new) h), either-true))
+      let id : ℕ = findId l s (utf16 old) in
+      given-last n (checks l s) _ (simp (lt-ltb 67_108_864 (string.newLength l s id new) (rw (new-length l s id new) h), either-true))
   own-gives p n (overLimit (toBody id body) h) = given-last n (checks l s) _ (simp (lt-ltb 67_108_864 (functions.movedBy l s id body (length s)) h, either-true))
   own-gives p n (overField (byId id value) j h u w) = given-last n (checks l s) _ (simp (patch-failed l s id value (j, h, u, w), either-true))
-  own-gives p n (overField (byValue old new) j h u w) = given-last n (checks l s) _ (simp (patch-failed l s (strings.findId l s (utf16 old)) new (j, h, u, w), either-true))
+  own-gives p n (overField (byValue old new) j h u w) = given-last n (checks l s) _ (simp (patch-failed l s (findId l s (utf16 old)) new (j, h, u, w), either-true))
   own-gives p n (overField (toBody id body) j h u w) = given-last n (checks l s) _ (simp (fields-failed l s (functions.movedBy l s id body) (j, h, u, w), either-true))
   own-gives p n (overSize id body t h) = given-last n (checks l s) _ (simp (size-failed l s id body t h, either-true))
   own-gives p n (noRoom q h) =
@@ -150,8 +152,8 @@ roomed-judged xs t m room n num long some = rw (judge-append xs (check 13 (ltb r
 
 -- what a patch makes where it is accepted
 abbrev resultOf : Layout → List ℕ → Patch → List ℕ
-resultOf l s (byId id value) = strings.patched l s id value
-resultOf l s (byValue old new) = strings.patched l s (strings.findId l s (utf16 old)) new
+resultOf l s (byId id value) = string.patched l s id value
+resultOf l s (byValue old new) = string.patched l s (findId l s (utf16 old)) new
 resultOf l s (toBody id body) = functions.patched l s id body
 
 module _ (l : Layout) (s : List ℕ) (bytes : AllBelow 256 s) (p : Step) (in-bytes : InBytes (p .patch)) where

@@ -13,7 +13,7 @@ use Rattle.format.specs.declared.Layout.{Layout}
 use Rattle.footer.specs.Footer.{same}
 use Rattle.image.specs.Sections.{stringsIn}
 use Rattle.image.specs.Strings.{stringOf, unitsOf}
-use Rattle.strings.specs.Patch.{findFrom, findId}
+use Rattle.find_string.specs.Find.{findFrom, findId}
 
 -- two lists of numbers are the same exactly where the test says so
 same-is : (xs ys : List ℕ) → same xs ys ≡ true → xs ≡ ys

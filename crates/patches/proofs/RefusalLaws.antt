@@ -24,8 +24,8 @@ use Rattle.image.specs.Faults.{ShareByte}
 use Rattle.image.proofs.FaultLaws.{share, shows, gives}
 use Rattle.image.proofs.SlotLaws.{SmallFits, small-fits, modern-info}
 use Rattle.functions.specs.Patch.{threshold, sharesWith, bodyAlone, infosOutside, debugPast, sizeFits}
-use Rattle.strings.specs.Patch.{fitsInPlace, newTail, newLength, patchFits}
-use Rattle.string_region.specs.Strings.{asString, stringsWith}
+use Rattle.string_region.specs.Strings.{asString, stringsWith, newTail}
+use Rattle.string_patch.specs.Patch.{fitsInPlace, newLength, patchFits}
 use Rattle.format.specs.Move.{moved}
 use Rattle.patches.specs.Faults.{sizeMost}
 use Rattle.patches.specs.Patches.{aString}

@@ -20,6 +20,8 @@ use Rattle.image.specs.Admission.{checks}
 use Rattle.image.specs.Admitted.{Admitted}
 use Rattle.image.specs.Fit.{fieldsFit}
 use Rattle.unicode.specs.Utf8.{isUtf8, utf16}
+use Rattle.find_string.specs.Find.{findId}
+use Rattle.string_patch.specs.Patch as string
 use Rattle.strings.specs.Patch as strings
 use Rattle.functions.specs.Patch as functions
 use Rattle.patches.specs.Patches.{Patch, byId, byValue, toBody, outcomeOf, Step, stepOf, Target, aString, aBody, targetOf}
@@ -56,12 +58,12 @@ later l s ys e = go (eqb (judge (checks l s)) 0) refl (sym (judge-append (checks
     go false h e = absurd (let z : eqb (judge (checks l s)) 0 ≡ true = rw e in let y : _≡_ {A = ℕ} 0 1 = cc in omega arith)
 
 module _ (l : Layout) (s : List ℕ) (ad : Admitted l s) where
-  result : (id : ℕ) (value : List ℕ) → id < stringsIn s → AllBelow 256 value → judge (strings.resultChecks l s id value) ≡ 0
-      → Promise l s (strings.patched l s id value) (aString id value)
+  result : (id : ℕ) (value : List ℕ) → id < stringsIn s → AllBelow 256 value → judge (string.resultChecks l s id value) ≡ 0
+      → Promise l s (string.patched l s id value) (aString id value)
   result id value known bytes e =
       let (limit, e₁) = judge-pass _ _ (omega arith) e in
       let (field, e₂) = judge-pass _ _ (omega arith) e₁ in
-      string-promise l s ad id value known bytes (ltb-false sizeLimit (strings.newLength l s id value) limit) (not-false (strings.patchFits l s id value) field)
+      string-promise l s ad id value known bytes (ltb-false sizeLimit (string.newLength l s id value) limit) (not-false (string.patchFits l s id value) field)
 
   by-id : (id : ℕ) (value t : List ℕ) → AllBelow 256 value → strings.patchById l s id value ≡ made t → Promise l s t (aString id value)
   unfolding strings.patchById strings.byIdRefusal
@@ -72,10 +74,10 @@ module _ (l : Layout) (s : List ℕ) (ad : Admitted l s) where
       let (valid, f₂) = judge-pass _ _ (omega arith) f₁ in
       subst (λ (x : List ℕ). Promise l s x (aString id value)) p (result id value (leb-false (stringsIn s) id known) bytes f₂)
 
-  by-value : (old new t : List ℕ) → AllBelow 256 new → strings.patchByValue l s old new ≡ made t → Promise l s t (aString (strings.findId l s (utf16 old)) new)
+  by-value : (old new t : List ℕ) → AllBelow 256 new → strings.patchByValue l s old new ≡ made t → Promise l s t (aString (findId l s (utf16 old)) new)
   unfolding strings.patchByValue strings.byValueRefusal
   by-value old new t bytes e =
-      let id : ℕ = strings.findId l s (utf16 old) in
+      let id : ℕ = findId l s (utf16 old) in
       let (n, p) = made-of _ _ _ e in
       let f = later l s _ n in
       let (first, f₁) = judge-pass _ _ (omega arith) f in

@@ -39,8 +39,9 @@ use Rattle.image.proofs.RebuildLaws.{Rebuilds, rebuiltPlace, length-rebuilt, co
 use Rattle.image.proofs.StringLaws.{tail-is, rebuilt-debug, rebuilt-string}
 use Rattle.image.proofs.KeepLaws.{rebuilt-admitted}
 use Rattle.unicode.specs.Utf8.{utf16}
-use Rattle.string_region.specs.Strings.{asString, stringsWith}
-use Rattle.strings.specs.Patch.{overlap, isAlone, fitsInPlace, inPlace, rehashed, patched, newTail, newLength, patchFits}
+use Rattle.string_region.specs.Strings.{asString, stringsWith, newTail}
+use Rattle.overlap.specs.Overlap.{overlap, isApart, isAlone}
+use Rattle.string_patch.specs.Patch.{fitsInPlace, inPlace, rehashed, changed, finished, patched, newLength, patchFits}
 use Rattle.patches.specs.Patches.{Target, aString}
 use Rattle.patches.specs.Promise.{stringAfter, hashAfter, placeAfter, functionAfter, Kept, Promise}
 use Rattle.patches.proofs.CalmLaws.{Calm, calm, final-calm, final-hash, final-sealed, kept-after}
@@ -81,7 +82,7 @@ module _ (l : Layout) (s : List ℕ) (ad : Admitted l s) (id : ℕ) (value : Lis
     sized = eqb-true (length value) (sizeOf (placeAt l s id)) (both-0 (eqb (length value) (sizeOf (placeAt l s id))) (isAlone l s id) last)
 
     alone : (j : ℕ) → j < stringsIn s → j ≢ id → overlap (placeAt l s id) (placeAt l s j) ≡ false
-    unfolding isAlone
+    unfolding isAlone isApart
     alone j h d =
         let t : isAlone l s id ≡ true = both-1 (eqb (length value) (sizeOf (placeAt l s id))) (isAlone l s id) last in
         not-true (overlap (placeAt l s id) (placeAt l s j))
@@ -280,7 +281,7 @@ module _ (l : Layout) (s : List ℕ) (ad : Admitted l s) (id : ℕ) (value : Lis
   -- ---- both ways
 
   pub string-promise : newLength l s id value ≤ sizeLimit → patchFits l s id value ≡ true → Promise l s (patched l s id value) c
-  unfolding patched
+  unfolding patched finished changed
   string-promise limit field = go (fitsInPlace l s id value) refl
     where
       go : (b : Bool) → fitsInPlace l s id value ≡ b

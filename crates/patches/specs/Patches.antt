@@ -4,7 +4,8 @@ use Prim.Native.Nat.{ℕ}
 use Rattle.bits.specs.Outcome.{Outcome, refused, made, roomed}
 use Rattle.format.specs.declared.Layout.{Layout}
 use Rattle.unicode.specs.Utf8.{utf16}
-use Rattle.strings.specs.Patch.{findId, patchById, patchByValue}
+use Rattle.find_string.specs.Find.{findId}
+use Rattle.strings.specs.Patch.{patchById, patchByValue}
 use Rattle.functions.specs.Patch.{patchBody}
 
 -- a string by its id, a string by its value (old, new), a body by its id

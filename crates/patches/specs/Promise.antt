@@ -19,8 +19,8 @@ use Rattle.image.specs.Kinds.{isIdentifier, rankOf, hashIn}
 use Rattle.image.specs.Functions.{Func, funcOf, bodyOf}
 use Rattle.image.specs.Admitted.{Disjoint, Admitted}
 use Rattle.unicode.specs.Utf8.{utf16}
-use Rattle.string_region.specs.Strings.{asString, stringsWith}
-use Rattle.strings.specs.Patch.{fitsInPlace, newTail}
+use Rattle.string_region.specs.Strings.{asString, stringsWith, newTail}
+use Rattle.string_patch.specs.Patch.{fitsInPlace}
 use Rattle.functions.specs.Patch.{threshold}
 use Rattle.patches.specs.Patches.{Target, aString, aBody}
 

@@ -42,6 +42,9 @@ module _ (l : Layout) (s : List ℕ) (id : ℕ) where
   place-flag = refl
 
   -- by the walk or in a pass, it is the same one
+  pub same-read : (q o : StringPlace) → ReadAs l s id q → ReadAs l s id o → q ≡ o
+  same-read q o r t = r .is ∙ sym (t .is)
+
   module _ (q : StringPlace) (r : ReadAs l s id q) where
     pub read-string : standing s q ≡ stringOf l s id
     read-string = ap (λ (y : StringPlace). standing s y) (r .is) ∙ place-standing

@@ -121,19 +121,9 @@ pub fn string_at(image: &[u8], p: Places, at: Cursor) -> Step
     }
 }
 
-// How many units a string has whose bytes are those in `bytes`.
-pub fn unit_count(bytes: &[u8], wide: bool) -> usize
-    ensures { λ r. ⌜ r ≡ length (unitsOf (record { wide = wide; bytes = now (bytes .entry) })) ⌝ }
-{
-    if wide {
-        return bytes.len() / 2;
-    }
-    bytes.len()
-}
-
 // ---- functions of an admitted image
 
-// Function `id` of an admitted image.
+// Function `id`, whose body ends before the footer.
 pub fn function_of(image: &[u8], p: Places, id: usize) -> Function
     requires { ⌜ Placed p (now image) × Admitted (p .layout) (now image) ⌝ }
     requires { ⌜ id < p .functions ⌝ }
@@ -143,7 +133,7 @@ pub fn function_of(image: &[u8], p: Places, id: usize) -> Function
     function_table::function_at(image, layout, id)
 }
 
-// The debug offset of an admitted image.
+// The debug offset.
 pub fn debug_of(image: &[u8], p: Places) -> usize
     requires { ⌜ Placed p (now image) ⌝ }
     ensures { λ r. ⌜ (r ≡ debugIn (p .layout) (now (image .entry))) × (r < 4294967296) ⌝ }
@@ -180,6 +170,16 @@ pub fn string_bytes(image: &[u8], layout: Layout, id: usize) -> &[u8]
     let start = place.start;
     let end = start + place.size;
     &image[start..end]
+}
+
+// How many units a string has whose bytes are those in `bytes`.
+pub fn unit_count(bytes: &[u8], wide: bool) -> usize
+    ensures { λ r. ⌜ r ≡ length (unitsOf (record { wide = wide; bytes = now (bytes .entry) })) ⌝ }
+{
+    if wide {
+        return bytes.len() / 2;
+    }
+    bytes.len()
 }
 
 // Unit `i` of a string, whose bytes are those in `bytes`; the end where there is none.

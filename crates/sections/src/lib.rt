@@ -65,8 +65,8 @@ pub fn record_at(layout: Layout, i: usize) -> usize
 }
 
 // The next multiple of 4.
-fn round_up(n: usize) -> usize
-    requires { ⌜ n < 1099511627776 ⌝ }
+pub fn round_up(n: usize) -> usize
+    requires { ⌜ n < 9223372036854775808 ⌝ }
     ensures { λ r. ⌜ r ≡ up4 n ⌝ }
 {
     (n + 3) / 4 * 4

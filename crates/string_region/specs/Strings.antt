@@ -2,7 +2,7 @@
 use mathlib.Core.Path.{_≡_}
 use mathlib.Core.Bool.{Bool, true, false}
 use mathlib.Core.List.{List, [], _∷_}
-use Prim.Native.Nat.{ℕ, zero, suc, _*_}
+use Prim.Native.Nat.{ℕ, zero, suc, _+_, _*_}
 use lib.Dec.{eqb}
 use lib.ListN.{length}
 use Rattle.bits.specs.Choice.{pick}
@@ -10,9 +10,9 @@ use Rattle.bits.specs.Bytes.{ascii}
 use Rattle.format.specs.declared.Layout.{Layout}
 use Rattle.format.specs.Entry.{Place}
 use Rattle.unicode.specs.Utf8.{utf16, unitBytes}
-use Rattle.image.specs.Sections.{stringsIn}
+use Rattle.image.specs.Sections.{stringsIn, smallAt}
 use Rattle.image.specs.Strings.{Str, unitSize, stringOf}
-use Rattle.image.specs.Rebuild.{countOf, layFrom, storeOf, overs}
+use Rattle.image.specs.Rebuild.{countOf, layFrom, storeOf, overs, region, padded}
 use Rattle.string_region.specs.declared.Shape.{Shape}
 
 -- a value as a string: "the value is narrow if ASCII, else UTF-16"
@@ -36,6 +36,10 @@ unfoldable pub stringsWith : Layout → List ℕ → ℕ → Str → List Str
 stringsWith l s id t = firsts l s id t (stringsIn s)
 
 -- ---- how much room they take
+
+-- the tail's new start after a rebuild with some strings
+unfoldable pub newTail : Layout → List Str → List ℕ → ℕ
+newTail l ts s = smallAt l s + length (padded (smallAt l s) (region ts))
 
 -- where a string stands that is packed at an offset
 abbrev pub placed : ℕ → Str → Place

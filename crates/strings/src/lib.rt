@@ -1,1 +1,79 @@
-// String patches. The definitions stand in specs/.
+// String patches: the label that is read gets another value, by its id or by what it was.
+use admission::Admission;
+use bits::Answer;
+use format::Layout;
+use sections::Places;
+ghost use mathlib.Core.Path.{_≡_};
+ghost use Prim.Native.Nat.{_<_};
+ghost use lib.ListN.{length};
+ghost use Rattle.bits.specs.Outcome.{Answers, roomed};
+ghost use Rattle.image.specs.Admitted.{Admitted};
+ghost use Rattle.sections.specs.Places.{Placed};
+ghost use Rattle.string_patch.specs.Patch.{patchKnown};
+ghost use Rattle.strings.specs.Patch.{patchById, patchByValue};
+
+// A string of an admitted image gets a value: in place where it fits there, else by a rebuild.
+fn patch_known<'a>(out: &mut [u8], image: &'a [u8], value: &'a [u8], p: Places, id: usize) -> Answer
+    requires { ⌜ Placed p (now image) × Admitted (p .layout) (now image) × (id < p .strings) ⌝ }
+    ensures { λ r. ⌜ Answers (roomed (length (now (out .entry))) (patchKnown (p .layout) (now (image .entry)) id (now (value .entry)))) r (now (out .entry)) (now (out .exit)) ⌝ }
+{
+    let own = walk::locate(image, p, id);
+    if string_patch::fits_in_place(image, p, id, own, value) {
+        return string_patch::patch_in_place(out, image, p, id, own, value);
+    }
+    string_rebuild::rebuild(out, image, value, p, id)
+}
+
+// String `id` gets a value. Answers the new length; the image is at the front of `out`. Refused with
+// 1 to 6 where the image is not admitted, 7 where there is no such string, 8 where the value is not
+// UTF-8, 11 where the image would be too long, 12 where a place that moves does not fit its record,
+// 13 where `out` has no room: then no byte changes.
+pub fn patch_string_by_id<'a>(
+    image: &'a [u8],
+    layout: Layout,
+    id: usize,
+    value: &'a [u8],
+    out: &mut [u8],
+) -> Answer
+    ensures { λ r. ⌜ Answers (roomed (length (now (out .entry))) (patchById layout (now (image .entry)) id (now (value .entry)))) r (now (out .entry)) (now (out .exit)) ⌝ }
+{
+    let admitted = admission::admit(image, layout);
+    let Admission::Laid(p) = admitted else {
+        return Answer::Refused(admission::number_of(admitted));
+    };
+    if p.strings <= id {
+        return Answer::Refused(7);
+    }
+    if !unicode::is_utf8(value) {
+        return Answer::Refused(8);
+    }
+    patch_known(out, image, value, p, id)
+}
+
+// The lowest string that has the units of `old` gets the value `new`. Refused as by id, but for 8
+// where either value is not UTF-8, and 14 where no string has those units.
+pub fn patch_string_replace<'a>(
+    image: &'a [u8],
+    layout: Layout,
+    old: &[u8],
+    new: &'a [u8],
+    out: &mut [u8],
+) -> Answer
+    ensures { λ r. ⌜ Answers (roomed (length (now (out .entry))) (patchByValue layout (now (image .entry)) (now (old .entry)) (now (new .entry)))) r (now (out .entry)) (now (out .exit)) ⌝ }
+{
+    let admitted = admission::admit(image, layout);
+    let Admission::Laid(p) = admitted else {
+        return Answer::Refused(admission::number_of(admitted));
+    };
+    if !unicode::is_utf8(old) {
+        return Answer::Refused(8);
+    }
+    if !unicode::is_utf8(new) {
+        return Answer::Refused(8);
+    }
+    let id = find_string::find(image, p, old);
+    if p.strings <= id {
+        return Answer::Refused(14);
+    }
+    patch_known(out, image, new, p, id)
+}

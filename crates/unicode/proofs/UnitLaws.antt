@@ -116,7 +116,7 @@ next-weight r b =
 -- ---- turns of the loops; `q` is the reading after byte i, `us` the units that it completes, `x` what the loop is to give
 
 module _ (r q : Reading) (s us : List ℕ) (i : ℕ) (h : i < length s) (n : q ≡ nextByte r (getD s i 0)) (u : us ≡ completes q) where
-  rest : unitsFrom r (drop i s) ≡ us ++ unitsFrom q (drop (i + 1) s)
+  pub rest : unitsFrom r (drop i s) ≡ us ++ unitsFrom q (drop (i + 1) s)
   rest =
       units-next r s i h
       ∙ subst (λ (z : Reading). completes z ++ unitsFrom z (drop (i + 1) s) ≡ us ++ unitsFrom q (drop (i + 1) s)) n

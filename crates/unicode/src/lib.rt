@@ -36,7 +36,7 @@ fn wide(b: u8) -> u32
 }
 
 // A code point of which `need` bytes are to come, from the common range.
-fn further(need: u32, point: u32) -> Reading
+pub fn further(need: u32, point: u32) -> Reading
     ensures { λ r. ⌜ r ≡ Utf8·further need point ⌝ }
 {
     Reading {
@@ -120,7 +120,7 @@ fn goes_on(r: Reading, b: u8) -> Reading
 }
 
 // Where the reader stands after one more byte.
-fn next_byte(r: Reading, b: u8) -> Reading
+pub fn next_byte(r: Reading, b: u8) -> Reading
     requires { ⌜ Small r ⌝ }
     ensures { λ q. ⌜ (q ≡ nextByte r b) × Small q ⌝ }
 {
@@ -134,7 +134,7 @@ fn next_byte(r: Reading, b: u8) -> Reading
 }
 
 // The units of the code point that ended with the last byte, if one did.
-fn completed(r: Reading) -> Units
+pub fn completed(r: Reading) -> Units
     requires { ⌜ Small r ⌝ }
     ensures { λ u. ⌜ listOf u ≡ completes r ⌝ }
 {
@@ -165,7 +165,7 @@ pub fn is_utf8(value: &[u8]) -> bool
 }
 
 // How many units that is.
-fn count_of(units: Units) -> usize
+pub fn count_of(units: Units) -> usize
     ensures { λ n. ⌜ (n ≡ length (listOf units)) × (n ≤ 2) ⌝ }
 {
     match units {

@@ -1,12 +1,17 @@
 //! sharp: an honest look at the fixed calls of admission. For each mistake of `reading::Slip` it counts
-//! those that a program with that mistake would answer otherwise. Ends with 1 where there are none.
+//! those that a program with that mistake would answer otherwise. Ends with 1 where there are none, or where
+//! an image that was made whole is refused.
 
 use std::process::ExitCode;
 
 use oracle::image::reading::{slips, Slip, TESTS};
-use oracle::image::{finds, FAMILY};
+use oracle::image::{finds, makes_whole_images, FAMILY};
 
 fn main() -> ExitCode {
+    if !makes_whole_images() {
+        println!("oracle: image: an image that was made whole is refused");
+        return ExitCode::FAILURE;
+    }
     let calls = (FAMILY.fixed)();
     let mut missed = 0;
     let slips = slips();

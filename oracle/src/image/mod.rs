@@ -119,6 +119,18 @@ fn random(random: &mut Random) -> Call {
     }
 }
 
+/// Whether images that are made whole are admitted: a maker that made bad ones would hide what damage does.
+pub fn makes_whole_images() -> bool {
+    let mut random = Random(31);
+    let whole = |random: &mut Random| {
+        let shape = random.pick(&[SMALL, MIDDLE, LARGE]);
+        let layout = random.pick(&LAYOUTS);
+        let made = make(random, layout, shape);
+        Reading { layout: made.layout, image: &made.image, slip: None }.refusal() == 0
+    };
+    (0..2000).all(|_| whole(&mut random))
+}
+
 /// Whether the reading with a slip answers a call otherwise.
 pub fn finds(call: &Call, slip: reading::Slip) -> bool {
     let layout = Layout(call.arguments[0] as u8);

@@ -1,5 +1,5 @@
 // Hashes a buffer with our SHA-1 or with the sha1 crate's, and prints the digest:
-//   bench ours|theirs SIZE REPEATS
+//   sha1 ours|theirs SIZE REPEATS
 use sha1::{Digest, Sha1};
 
 extern "C" {

@@ -1,0 +1,1 @@
+// The job: an image, then patches of it, as records. The definition stands in specs/.

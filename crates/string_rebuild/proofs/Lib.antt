@@ -1,0 +1,2 @@
+pub mod RebuildLaws
+pub mod JudgeLaws

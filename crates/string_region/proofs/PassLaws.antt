@@ -1,0 +1,112 @@
+-- A turn of the pass over the strings.
+use mathlib.Core.Path.{_≡_, refl, ap, sym, _∙_, subst, subst⁻¹}
+use mathlib.Core.Bool.{Bool, true, false}
+use mathlib.Core.List.{List, _++_}
+use Prim.Native.Nat.{ℕ, _+_, _-_, _*_, _≤_, _<_}
+use native.Mathlib.Omega.{arith}
+use lib.Dec.{eqb}
+use lib.ListN.{length, length-append, length-replicate}
+use Rattle.bits.specs.Choice.{pick}
+use Rattle.bits.specs.Bytes.{up4, zerosTo4}
+use Rattle.format.specs.Table.{ifSet}
+use Rattle.format.specs.Entry as entry
+use Rattle.footer.specs.Finalize.{sizeLimit}
+use Rattle.image.specs.Sections.{stringsIn, smallAt}
+use Rattle.image.specs.Strings.{Str, isFull, overBefore, smallIn, sizeOf}
+use Rattle.image.specs.Rebuild.{layFrom, storeOf, overs, region, padded}
+use Rattle.sections.specs.declared.Places.{Places}
+use Rattle.sections.specs.Places.{Placed}
+use Rattle.sections.proofs.SectionLaws.{Sectioned, sectioned}
+use Rattle.string_tables.specs.declared.Place.{Place}
+use Rattle.string_tables.specs.Strings.{asPlace}
+use Rattle.walk.specs.Places.{Stands}
+use Rattle.walk.proofs.WalkLaws.{over-none, over-most, over-next}
+use Rattle.string_region.specs.declared.Shape.{Shape}
+use Rattle.string_region.specs.declared.Cursor.{Cursor}
+use Rattle.string_region.specs.declared.Turn.{Turn}
+use Rattle.string_region.specs.Strings.{Shaped, tabulate, stringWith, stringsWith, newTail, placeWith}
+use Rattle.string_region.specs.declared.Sizes.{Sizes}
+use Rattle.string_region.specs.Pass.{Reached, Turned, Measured}
+use Rattle.string_region.proofs.ListLaws.{size-smalls, size-pairs}
+use Rattle.string_region.proofs.ShapeLaws.{sums-none, sums-next}
+
+set-bit : (b : Bool) → ifSet b 1 ≡ entry.bit b
+set-bit true = refl
+set-bit false = refl
+
+-- before the first string
+pub reached-none : (p : Places) (s : List ℕ) (id : ℕ) (x : Shape) → Reached (p .layout) s id x (record { string = 0; full = 0; over = 0; at = 0 })
+reached-none p s id x =
+    record { full = over-none (smallIn (p .layout) s); sums = sums-none (p .layout) s id x; few = omega arith; low = omega arith }
+
+module _ (p : Places) (s : List ℕ) (pl : Placed p s) (id : ℕ) (x : Shape) (c : Cursor) (b : c .string < p .strings) (rc : Reached (p .layout) s id x c) (small : x .count ≤ sizeLimit) where
+  -- the numbers are small
+  pub strings-few : p .strings ≤ 16777216
+  strings-few = let z : Sectioned p s = sectioned p s pl in omega arith
+
+  pub full-few : c .full ≤ c .string
+  full-few = rw (rc .full) (over-most (smallIn (p .layout) s) (c .string))
+
+  module _ (o n : Place) (st : Stands p s (c .string) o) (e : asPlace n ≡ placeWith (eqb (c .string) id) x (asPlace o) (c .at)) where
+    old-count : o .count ≤ sizeLimit
+    old-count = let z : Sectioned p s = sectioned p s pl in omega (arith, st .count, st .stored)
+
+    pub count-small : n .count ≤ sizeLimit
+    count-small = subst⁻¹ (λ (q : entry.Place). q .count ≤ sizeLimit) e (go (eqb (c .string) id))
+      where
+        go : (b : Bool) → pick b (x .count) (o .count) ≤ sizeLimit
+        go true = small
+        go false = old-count
+
+    -- the turn, by what the code found
+    pub turned : (y f v z : ℕ) (t : Bool) → y ≡ smallIn (p .layout) s (c .string) → f ≡ c .full + entry.bit (isFull y)
+        → t ≡ entry.isOver (asPlace n) → v ≡ ifSet t 1 → v ≤ 1 → z ≡ sizeOf (asPlace n) → z ≤ n .count * 2
+        → Turned p s id x c (record { old = o; new = n; next = record { string = c .string + 1; full = f; over = c .over + v; at = c .at + z } })
+    turned y f v z t ye fe te ve vm ze zm =
+        let o1 : v ≡ entry.bit (entry.isOver (asPlace n)) = ve ∙ set-bit t ∙ ap entry.bit te in
+        let cs : n .count ≤ sizeLimit = count-small in
+        let lo : c .at ≤ c .string * (sizeLimit * 2) = rc .low in
+        record {
+          old = st;
+          new = e;
+          count = count-small;
+          string = refl;
+          over = ap (λ (k : ℕ). c .over + k) o1;
+          at = ap (λ (k : ℕ). c .at + k) ze;
+          reached = record {
+            full = over-next (smallIn (p .layout) s) (c .string) (c .full) y f (rc .full) ye fe;
+            sums = sums-next (p .layout) s id (c .string) (c .at) (c .over) z v x (asPlace o) (asPlace n) (rc .sums) (st .is) e ze o1;
+            few = omega (arith, rc .few);
+            low = omega arith;
+          };
+        }
+
+-- behind the last string
+pub measured : (p : Places) (s : List ℕ) (id : ℕ) (x : Shape) (c : Cursor) → c .string ≡ p .strings → Reached (p .layout) s id x c
+    → Measured p s id x (record { storage = c .at; overflows = c .over })
+measured p s id x c e rc = record { sums = rw e at (rc .sums); few = omega (arith, rc .few); low = rw e at (rc .low) }
+
+-- ---- the tail behind them
+
+module _ (p : Places) (s : List ℕ) (pl : Placed p s) (id : ℕ) (x : Shape) (z : Sizes) (m : Measured p s id x z) (t : Str) (sh : Shaped x t) where
+  pub storage-is : z .storage ≡ length (storeOf (stringsWith (p .layout) s id t))
+  unfolding stringsWith
+  storage-is = rw (sectioned p s pl .strings) at (m .sums t sh .0)
+
+  pub overflows-are : z .overflows ≡ overs (layFrom 0 (stringsWith (p .layout) s id t))
+  unfolding stringsWith
+  overflows-are = rw (sectioned p s pl .strings) at (m .sums t sh .1)
+
+  pub length-region : p .«small_at» + length (region (stringsWith (p .layout) s id t)) ≡ p .«over_at» + z .overflows * 8 + z .storage
+  unfolding region stringsWith
+  length-region =
+      let sc : Sectioned p s = sectioned p s pl in
+      let f : ℕ → Str = stringWith (p .layout) s id t in
+      rw (length-append, length-append, size-smalls f (stringsIn s), size-pairs f (stringsIn s), ← overflows-are, ← storage-is) (omega arith)
+
+  pub tail-is : up4 (p .«over_at» + z .overflows * 8 + z .storage) ≡ newTail (p .layout) (stringsWith (p .layout) s id t) s
+  unfolding newTail padded
+  tail-is =
+      let n : ℕ = p .«over_at» + z .overflows * 8 + z .storage in
+      let e : smallAt (p .layout) s + length (region (stringsWith (p .layout) s id t)) ≡ n = ap (λ (a : ℕ). a + length (region (stringsWith (p .layout) s id t))) (sym (sectioned p s pl .smallFrom)) ∙ length-region in
+      rw (length-append, e, length-replicate) (omega (arith, e))

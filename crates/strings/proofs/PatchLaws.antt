@@ -1,0 +1,107 @@
+-- The order of refusals, by id and by value: where none is given before a string is known, the patch of a known string decides.
+use mathlib.Core.Path.{_≡_, refl, ap, sym, _∙_}
+use mathlib.Core.Bool.{Bool, true, false, not}
+use mathlib.Core.List.{List, _∷_, _++_}
+use Prim.Native.Nat.{ℕ, _≤_, _<_}
+use native.Mathlib.Omega.{arith}
+use borrow.Author.Tests.{le-leb, lt-leb, ne-eqb, not-true, not-false}
+use lib.Dec.{leb, eqb}
+use lib.ListN.{length}
+use Rattle.bits.specs.Choice.{pick, Check, check, judge}
+use Rattle.bits.specs.Outcome.{Outcome, Answers, refused, made, roomed}
+use Rattle.bits.specs.declared.Answer.{Answer}
+use Rattle.bits.specs.declared.Answer.the-variants.{Refused}
+use Rattle.format.specs.declared.Layout.{Layout}
+use Rattle.unicode.specs.Utf8.{isUtf8, utf16}
+use Rattle.image.specs.Sections.{stringsIn}
+use Rattle.image.specs.Admission.{checks}
+use Rattle.sections.specs.declared.Places.{Places}
+use Rattle.sections.specs.Places.{placesOf}
+use Rattle.admission.specs.declared.Admission.{Admission}
+use Rattle.admission.specs.declared.Admission.the-variants as answer
+use Rattle.admission.specs.Admission.{admission, numberOf}
+use Rattle.admission.proofs.AnswerLaws.{refused-is, refused-then, laid-is, laid-then, laid-layout}
+use Rattle.find_string.specs.Find.{findId}
+use Rattle.string_patch.specs.Patch.{resultChecks, outcomeFor, patched, patchKnown}
+use Rattle.strings.specs.Patch.{byIdRefusal, patchById, byValueRefusal, patchByValue}
+
+module _ (l : Layout) (s : List ℕ) (r : Admission) (e : r ≡ admission l s) where
+  -- not admitted: what comes behind does not count
+  refused-all : (ds : List Check) (new out : List ℕ) (k n : ℕ) → r ≡ answer.Refused k → n ≡ numberOf r
+      → Answers (roomed (length out) (outcomeFor (judge (checks l s ++ ds)) new)) (Refused n) out out
+  unfolding roomed
+  refused-all ds new out k n f g =
+      let m : n ≡ k = g ∙ ap numberOf f in
+      let z : eqb k 0 ≡ false = ne-eqb k 0 (λ y. omega (arith, refused-is l s r e k f .1)) in
+      rw (refused-then l s r e k f ds, z, m) (refl, refl)
+
+  pub id-refused : (id : ℕ) (value out : List ℕ) (k n : ℕ) → r ≡ answer.Refused k → n ≡ numberOf r → Answers (roomed (length out) (patchById l s id value)) (Refused n) out out
+  unfolding patchById byIdRefusal
+  id-refused id value out k n f g = refused-all _ (patched l s id value) out k n f g
+
+  pub value-refused : (old new out : List ℕ) (k n : ℕ) → r ≡ answer.Refused k → n ≡ numberOf r → Answers (roomed (length out) (patchByValue l s old new)) (Refused n) out out
+  unfolding patchByValue byValueRefusal
+  value-refused old new out k n f g = refused-all _ (patched l s (findId l s (utf16 old)) new) out k n f g
+
+  -- admitted: what comes behind decides
+  module _ (p : Places) (f : r ≡ answer.Laid p) where
+    strings-is : p .strings ≡ stringsIn s
+    unfolding placesOf
+    strings-is = ap (λ (q : Places). q .strings) (laid-is l s r e p f .1)
+
+    module _ (id : ℕ) (value out : List ℕ) where
+      behind : patchById l s id value ≡ outcomeFor (judge (check 7 (leb (stringsIn s) id) ∷ check 8 (not (isUtf8 value)) ∷ resultChecks l s id value)) (patched l s id value)
+      unfolding patchById byIdRefusal
+      behind = ap (λ (n : ℕ). outcomeFor n (patched l s id value)) (laid-then l s r e p f _)
+
+      pub id-absent : p .strings ≤ id → Answers (roomed (length out) (patchById l s id value)) (Refused 7) out out
+      unfolding judge roomed
+      id-absent h = rw (behind, ← strings-is, le-leb (p .strings) id h) (refl, refl)
+
+      module _ (h : id < p .strings) (b : Bool) (g : b ≡ isUtf8 value) where
+        pub id-value : not b ≡ true → Answers (roomed (length out) (patchById l s id value)) (Refused 8) out out
+        unfolding judge roomed
+        id-value t = rw (behind, ← strings-is, lt-leb (p .strings) id h, ← g, not-true b t) (refl, refl)
+
+        known-is : not b ≡ false → patchById l s id value ≡ patchKnown l s id value
+        unfolding patchKnown judge
+        known-is t = behind ∙ rw (← strings-is, lt-leb (p .strings) id h, ← g, not-false b t)
+
+        pub id-known : not b ≡ false → (a : Answer) (o : List ℕ) → Answers (roomed (length out) (patchKnown (p .layout) s id value)) a out o
+            → Answers (roomed (length out) (patchById l s id value)) a out o
+        id-known t a o k = rw (known-is t) (rw (laid-layout l s r e p f) at k)
+
+    module _ (old new out : List ℕ) where
+      abbrev at : ℕ
+      at = findId l s (utf16 old)
+
+      after : patchByValue l s old new
+          ≡ outcomeFor (judge (check 8 (not (isUtf8 old)) ∷ check 8 (not (isUtf8 new)) ∷ check 14 (leb (stringsIn s) at) ∷ resultChecks l s at new)) (patched l s at new)
+      unfolding patchByValue byValueRefusal
+      after = ap (λ (n : ℕ). outcomeFor n (patched l s at new)) (laid-then l s r e p f _)
+
+      module _ (b : Bool) (g : b ≡ isUtf8 old) where
+        pub old-value : not b ≡ true → Answers (roomed (length out) (patchByValue l s old new)) (Refused 8) out out
+        unfolding judge roomed
+        old-value t = rw (after, ← g, not-true b t) (refl, refl)
+
+        module _ (t : not b ≡ false) (c : Bool) (d : c ≡ isUtf8 new) where
+          pub new-value : not c ≡ true → Answers (roomed (length out) (patchByValue l s old new)) (Refused 8) out out
+          unfolding judge roomed
+          new-value u = rw (after, ← g, not-false b t, ← d, not-true c u) (refl, refl)
+
+          module _ (u : not c ≡ false) (id : ℕ) (i : id ≡ findId (p .layout) s (utf16 old)) where
+            id-is : id ≡ at
+            id-is = i ∙ rw (laid-layout l s r e p f)
+
+            pub value-absent : p .strings ≤ id → Answers (roomed (length out) (patchByValue l s old new)) (Refused 14) out out
+            unfolding judge roomed
+            value-absent h = rw (after, ← g, not-false b t, ← d, not-false c u, ← id-is, ← strings-is, le-leb (p .strings) id h) (refl, refl)
+
+            found-is : id < p .strings → patchByValue l s old new ≡ patchKnown l s id new
+            unfolding patchKnown judge
+            found-is h = after ∙ rw (← g, not-false b t, ← d, not-false c u, ← id-is, ← strings-is, lt-leb (p .strings) id h)
+
+            pub value-known : id < p .strings → (a : Answer) (o : List ℕ) → Answers (roomed (length out) (patchKnown (p .layout) s id new)) a out o
+                → Answers (roomed (length out) (patchByValue l s old new)) a out o
+            value-known h a o k = rw (found-is h) (rw (laid-layout l s r e p f) at k)

@@ -1,0 +1,133 @@
+//! Limits that no stream of calls reaches, since they take inputs of 8 to 70 MB: the archive of our exports is
+//! linked and held to the Rust, and to document 01 where the Rust has no limit. Ends with 1 at the first difference.
+
+use std::process::ExitCode;
+
+use hbc_decomp::write::serialize::{build_minimal_modern, finalize_raw_image};
+
+extern "C" {
+    fn nepuladrim_finalize(image: *mut u8, length: usize) -> usize;
+    #[allow(clippy::too_many_arguments)]
+    fn nepuladrim_build(
+        version: u32,
+        text: *const u8,
+        text_length: usize,
+        ends: *const u32,
+        ends_length: usize,
+        body: *const u8,
+        body_length: usize,
+        out: *mut u8,
+        out_length: usize,
+    ) -> usize;
+}
+
+/// 01, refusals 1 and 11.
+const LIMIT: usize = 67_108_864;
+/// 01, refusal 12.
+const FAR: usize = 0x80_0000;
+/// The length of an image with no strings and an empty body: 144 bytes of sections, 40 of a large header, the footer.
+const EMPTY: usize = 204;
+/// What `out` holds before a call.
+const OLD: u8 = 0xa5;
+
+struct Job {
+    text: Vec<u8>,
+    ends: Vec<u32>,
+    body: Vec<u8>,
+}
+
+impl Job {
+    fn ours(&self, out: &mut [u8]) -> usize {
+        let Job { text, ends, body } = self;
+        unsafe {
+            nepuladrim_build(
+                98,
+                text.as_ptr(),
+                text.len(),
+                ends.as_ptr(),
+                ends.len(),
+                body.as_ptr(),
+                body.len(),
+                out.as_mut_ptr(),
+                out.len(),
+            )
+        }
+    }
+
+    fn theirs(&self) -> Option<Vec<u8>> {
+        let mut start = 0;
+        let mut string = |end: &u32| {
+            let bytes = &self.text[start..*end as usize];
+            start = *end as usize;
+            String::from_utf8(bytes.to_vec()).unwrap()
+        };
+        let strings: Vec<String> = self.ends.iter().map(&mut string).collect();
+        build_minimal_modern(98, &strings, &self.body).ok()
+    }
+
+    /// The image is the Rust's, in a buffer with one byte to spare.
+    fn is_built(&self) -> bool {
+        let image = self.theirs().unwrap();
+        let mut out = vec![OLD; image.len() + 1];
+        self.ours(&mut out) == image.len() && out[..image.len()] == image && out[image.len()] == OLD
+    }
+
+    /// Refused with that number, in a buffer of any length, and nothing is written.
+    fn is_refused(&self, number: usize, room: usize) -> bool {
+        let mut out = vec![OLD; room];
+        self.ours(&mut out) == number && out.iter().all(|byte| *byte == OLD)
+    }
+}
+
+/// Strings of 254 bytes up to an offset, and then one more of a length.
+fn strings(offset: usize, last: usize) -> Job {
+    let text = vec![b'x'; offset + last];
+    let full = (1..).map(|i| 254 * i).take_while(|end| *end < offset);
+    let ends = full.chain([offset, offset + last]).map(|end| end as u32).collect();
+    Job { text, ends, body: vec![1, 2, 3] }
+}
+
+fn body(length: usize) -> Job {
+    Job { text: vec![], ends: vec![], body: vec![0x5c; length] }
+}
+
+fn empty_strings(count: usize) -> Job {
+    Job { text: vec![], ends: vec![0; count], body: vec![] }
+}
+
+fn is_finalized(length: usize) -> bool {
+    let image: Vec<u8> = (0..length).map(|i| (i * 31 + i / 127) as u8).collect();
+    let mut ours = image.clone();
+    let answer = unsafe { nepuladrim_finalize(ours.as_mut_ptr(), ours.len()) };
+    if length > LIMIT {
+        return answer == 1 && ours == image;
+    }
+    answer == length && ours == finalize_raw_image(image).unwrap()
+}
+
+fn main() -> ExitCode {
+    let most_strings = (LIMIT - EMPTY) / 4;
+    let checks: [(&str, fn(usize) -> bool, usize); 9] = [
+        ("finalize at the limit", is_finalized, LIMIT),
+        ("finalize past the limit: 1", is_finalized, LIMIT + 1),
+        ("a string just before offset 0x800000", |at| strings(at, 254).is_built(), FAR - 1),
+        ("a string at offset 0x800000: 12", |at| strings(at, 1).is_refused(12, 300), FAR),
+        ("an empty string there too: 12", |at| strings(at, 0).is_refused(12, 300), FAR),
+        ("a body up to the limit", |length| body(length).is_built(), LIMIT - EMPTY),
+        ("a body past the limit: 11", |length| body(length).is_refused(11, 300), LIMIT - EMPTY + 1),
+        ("11 comes before 13", |length| body(length).is_refused(11, 0), LIMIT - EMPTY + 1),
+        (
+            "empty strings past the limit: 11",
+            |count| empty_strings(count).is_refused(11, 300),
+            most_strings + 1,
+        ),
+    ];
+    for (name, holds, size) in &checks {
+        if !holds(*size) {
+            println!("oracle: limits: {name}: differs");
+            return ExitCode::FAILURE;
+        }
+    }
+    println!("oracle: limits: {} inputs of up to 70 MB: as they should be", checks.len());
+    ExitCode::SUCCESS
+}
