@@ -1,13 +1,10 @@
 -- What an admitted image gives to a body patch.
-use mathlib.Core.Path.{_≡_, refl, ap, sym, _∙_}
-use mathlib.Core.Bool.{Bool, true, false}
+use mathlib.Core.Path.{_≡_, ap, sym, _∙_}
 use mathlib.Core.List.{List}
 use Prim.Native.Nat.{ℕ, _+_, _≤_, _<_}
 use native.Mathlib.Omega.{arith}
-use borrow.Author.Tests.{ltb-false, eqb-true, not-false}
-use lib.Dec.{eqb}
+use borrow.Author.Tests.{ltb-false, not-false}
 use lib.ListN.{length}
-use Rattle.bits.specs.Choice.{pick}
 use Rattle.bits.proofs.JudgeLaws.{judge-pass}
 use Rattle.format.specs.declared.Layout.{Layout}
 use Rattle.footer.specs.Footer.{footerLength}
@@ -19,31 +16,9 @@ use Rattle.image.proofs.PlaceLaws.{ordered}
 use Rattle.image.proofs.CheckLaws.{bodies-in}
 use Rattle.sections.specs.declared.Places.{Places}
 use Rattle.sections.specs.Places.{placesOf, Fits, Placed}
-use Rattle.admission.specs.declared.Admission.{Admission}
-use Rattle.admission.specs.declared.Admission.the-variants.{Laid, Refused}
-use Rattle.admission.specs.Admission.{admission}
 use Rattle.function_table.specs.declared.Function.{Function}
 use Rattle.body_checks.specs.Checks.{Target}
 use Rattle.functions.specs.Stages.{Admits}
-
--- ---- the answer of admission
-
-module _ (l : Layout) (s : List ℕ) (a : Admission) (e : a ≡ admission l s) where
-  pub laid-is : (p : Places) → a ≡ Laid p → (refusal l s ≡ 0) × (p ≡ placesOf l s)
-  unfolding admission
-  laid-is p h = go (eqb (refusal l s) 0) refl (sym e ∙ h)
-    where
-      go : (b : Bool) → eqb (refusal l s) 0 ≡ b → pick b (Laid (placesOf l s)) (Refused (refusal l s)) ≡ Laid p → (refusal l s ≡ 0) × (p ≡ placesOf l s)
-      go true t q = (eqb-true (refusal l s) 0 t, cc)
-      go false t q = let z : _≡_ {A = ℕ} 0 1 = cc in absurd (omega arith)
-
-  pub refused-is : (n : ℕ) → a ≡ Refused n → (eqb (refusal l s) 0 ≡ false) × (n ≡ refusal l s)
-  unfolding admission
-  refused-is n h = go (eqb (refusal l s) 0) refl (sym e ∙ h)
-    where
-      go : (b : Bool) → eqb (refusal l s) 0 ≡ b → pick b (Laid (placesOf l s)) (Refused (refusal l s)) ≡ Refused n → (eqb (refusal l s) 0 ≡ false) × (n ≡ refusal l s)
-      go true t q = let z : _≡_ {A = ℕ} 0 1 = cc in absurd (omega arith)
-      go false t q = (t, cc)
 
 -- ---- what an image has that is not refused
 

@@ -4,7 +4,7 @@ use mathlib.Core.Bool.{Bool, true, false, not}
 use mathlib.Core.List.{List, _∷_}
 use Prim.Native.Nat.{ℕ, _+_, _-_, _≤_, _<_}
 use native.Mathlib.Omega.{arith}
-use borrow.Author.Tests.{le-leb, lt-leb, ltb-false, leb-false, eq-eqb, eqb-true, eqb-false, not-true, not-false}
+use borrow.Author.Tests.{le-leb, lt-leb, ltb-false, leb-false, eq-eqb, ne-eqb, eqb-true, eqb-false, not-true, not-false}
 use lib.Dec.{leb, ltb, eqb}
 use lib.ListN.{length}
 use lib.Seq.{sets, length-sets}
@@ -13,7 +13,7 @@ use Rattle.bits.specs.Outcome.{refused, made, answered}
 use Rattle.bits.specs.declared.Answer.{Answer}
 use Rattle.bits.specs.declared.Answer.the-variants as answer
 use Rattle.bits.proofs.TestLaws.{both-0, both-1}
-use Rattle.bits.proofs.JudgeLaws.{judge-pass, judge-append}
+use Rattle.bits.proofs.JudgeLaws.{judge-pass}
 use Rattle.format.specs.declared.Layout.{Layout}
 use Rattle.format.specs.Move.{moved}
 use Rattle.format.proofs.MoveLaws.{moved-high}
@@ -30,13 +30,14 @@ use Rattle.sections.specs.declared.Places.{Places}
 use Rattle.sections.specs.Places.{placesOf, Placed}
 use Rattle.admission.specs.declared.Admission.{Admission}
 use Rattle.admission.specs.declared.Admission.the-variants.{Laid, Refused}
-use Rattle.admission.specs.Admission.{admission}
+use Rattle.admission.specs.Admission.{admission, numberOf}
+use Rattle.admission.proofs.AnswerLaws.{judged-then, refused-is, laid-is}
 use Rattle.function_table.specs.declared.Function.{Function}
 use Rattle.function_table.specs.Functions.{asFunc, WordSized}
 use Rattle.body_checks.specs.Checks.{threshold, bodyAlone, infosOutside, debugPast, fromNothing, movedBy, sizeFits, Target}
 use Rattle.functions.specs.Patch.{bodied, patched, bodyChecks, bodyRefusal, patchBody, answerFor}
-use Rattle.functions.specs.Stages.{numberOf, Admits, Accepted}
-use Rattle.functions.proofs.AdmitLaws.{laid-is, refused-is, admits, body-ends, body-starts, layout-is, functions-are, is-placed}
+use Rattle.functions.specs.Stages.{Admits, Accepted}
+use Rattle.functions.proofs.AdmitLaws.{admits, body-ends, body-starts, layout-is, functions-are, is-placed}
 
 -- ---- two tests of number 9 in one
 
@@ -166,14 +167,15 @@ module _ (l : Layout) (s : List ℕ) (id : ℕ) (body : List ℕ) where
       go false = refl
 
   in-order : bodyRefusal l s id body ≡ pick (eqb (refusal l s) 0) (judge (check 7 (leb (functionsIn s) id) ∷ bodyChecks l s id body)) (refusal l s)
-  unfolding bodyRefusal refusal checks
-  in-order = judge-append (checks l s) (check 7 (leb (functionsIn s) id) ∷ bodyChecks l s id body) refl
+  unfolding bodyRefusal
+  in-order = judged-then l s (check 7 (leb (functionsIn s) id) ∷ bodyChecks l s id body)
 
   module _ (a : Admission) (e : a ≡ admission l s) where
-    pub image-refused : (n : ℕ) → a ≡ Refused n → (r : Answer) → r ≡ numberOf a → r ≡ answered (patchBody l s id body)
-    image-refused n h r k =
-        let z = refused-is l s a e n h in
-        k ∙ ap numberOf h ∙ sym (answer-is ∙ rw (in-order, z .0, z .1, z .0))
+    pub image-refused : (k : ℕ) → a ≡ Refused k → (n : ℕ) → n ≡ numberOf a → answer.Refused n ≡ answered (patchBody l s id body)
+    image-refused k h n g =
+        let (z, some) = refused-is l s a e k h in
+        let y : eqb k 0 ≡ false = ne-eqb k 0 (λ q. omega arith) in
+        ap answer.Refused (g ∙ ap numberOf h) ∙ sym (answer-is ∙ rw (in-order, z, y, y))
 
     module _ (p : Places) (h : a ≡ Laid p) where
       passed : refusal l s ≡ 0

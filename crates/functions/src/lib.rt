@@ -16,17 +16,7 @@ ghost use Rattle.image.specs.Sections.{functionsIn};
 ghost use Rattle.sections.specs.Places.{Placed};
 ghost use Rattle.body_checks.specs.Checks.{movedBy, Target};
 ghost use Rattle.functions.specs.Patch.{bodied, patched, bodyChecks, patchBody, answerFor};
-ghost use Rattle.functions.specs.Stages.{Admits, Accepted, numberOf};
-
-// The number of an image that is not admitted.
-fn refused(admitted: Admission) -> Answer
-    ensures { λ r. ⌜ r ≡ numberOf admitted ⌝ }
-{
-    match admitted {
-        Admission::Laid(_) => Answer::Refused(0),
-        Admission::Refused(n) => Answer::Refused(n),
-    }
-}
+ghost use Rattle.functions.specs.Stages.{Admits, Accepted};
 
 // Numbers 9 to 12 for the body of function `id`, which is `f`, or the length of the result.
 fn judge_body(image: &[u8], p: Places, id: usize, f: Function, body: &[u8]) -> Answer
@@ -65,7 +55,7 @@ fn measure(image: &[u8], layout: Layout, id: usize, body: &[u8]) -> Answer
 {
     let admitted = admission::admit(image, layout);
     let Admission::Laid(p) = admitted else {
-        return refused(admitted);
+        return Answer::Refused(admission::number_of(admitted));
     };
     if p.functions <= id {
         return Answer::Refused(7);

@@ -1,11 +1,12 @@
 use borrow.Author.Needs.{needs}
 use Rattle.functions.proofs.measure.Statement.{statement}
 use Rattle.functions.proofs.measure.Tie as tie
-use Rattle.functions.proofs.AdmitLaws.{admits, laid-is}
+use Rattle.admission.proofs.AnswerLaws.{laid-is}
+use Rattle.functions.proofs.AdmitLaws.{admits}
 use Rattle.functions.proofs.JudgeLaws.{image-refused, no-function, is-known, body-asked, body-judged}
 
 returns : tie.Need-returns
-returns c = let a = c .before .before .before .before .before .before .args in image-refused (a .layout) (a .image .now) (a .id) (a .body .now) _ (c .before .before .before .admit .ensures) _ (c .before .enum-told .given .1) _ (c .refused .ensures)
+returns c = let a = c .before .before .before .before .before .before .args in image-refused (a .layout) (a .image .now) (a .id) (a .body .now) _ (c .before .before .before .admit .ensures) _ (c .before .enum-told .given .1) _ (c .number-of .ensures)
 
 returns-2 : tie.Need-returns-2
 returns-2 c = let a = c .before .before .before .before .before .before .before .before .args in no-function (a .layout) (a .image .now) (a .id) (a .body .now) _ (c .before .before .before .before .before .admit .ensures) _ (c .before .before .before .admitted .given .1) (c .if1 .taken)
