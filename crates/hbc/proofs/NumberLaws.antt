@@ -1,16 +1,20 @@
 -- The number of admission's answer.
-use mathlib.Core.Path.{_≡_, refl, sym, _∙_, ap}
+use mathlib.Core.Path.{_≡_, refl, sym, _∙_, ap, subst}
 use mathlib.Core.Bool.{Bool, true, false}
 use mathlib.Core.List.{List}
-use Prim.Native.Nat.{ℕ, _≤_, _<_}
+use Prim.Native.Nat.{ℕ, _+_, _≤_, _<_}
 use lib.Dec.{eqb}
 use borrow.Author.Tests.{lt-ltb, le-ltb, eqb-true}
 use Rattle.format.specs.declared.Layout.{Layout}
+use Rattle.footer.specs.Finalize.{finalizeOf}
 use Rattle.image.specs.Admission.{refusal}
 use Rattle.input_records.specs.Heads.{layoutOf}
 use Rattle.admission.specs.declared.Admission.{Admission}
 use Rattle.admission.specs.Admission.{answerFor, admission, numberOf}
-use Rattle.hbc.specs.Numbers.{admitNumber}
+use Rattle.bits.specs.Outcome.{Outcome, refused, made, answered, written, roomed, Answers}
+use Rattle.bits.specs.declared.Answer.{Answer}
+use Rattle.bits.specs.declared.Answer.the-variants.{Refused}
+use Rattle.hbc.specs.Numbers.{admitNumber, numbered, coded, Codes, stated}
 
 -- a byte over 4
 pub no-layout : (byte : ℕ) (s : List ℕ) → 4 < byte → 15 ≡ admitNumber byte s
@@ -31,3 +35,36 @@ pub layout-stated : (byte : ℕ) (s : List ℕ) → byte ≤ 4 → (l : Layout) 
 unfolding admitNumber
 layout-stated byte s h l e a f r g =
     rw (le-ltb 4 byte h) (g ∙ ap numberOf f ∙ number-of-answer l s ∙ ap (λ (x : Layout). refusal x s) e)
+
+-- ---- functions that write
+
+pub refused-number : (a : Answer) (n r : ℕ) → a ≡ Refused n → r ≡ n → 4294967296 + r ≡ numbered a
+refused-number a n r e f = ap (λ (x : ℕ). 4294967296 + x) f ∙ sym (ap numbered e)
+
+-- the number of an answer is the number of its outcome
+number-of-outcome : (o : Outcome) → numbered (answered o) ≡ coded o
+number-of-outcome (refused n) = refl
+number-of-outcome (made new) = refl
+
+codes : (o : Outcome) (a : Answer) (r : ℕ) (old new : List ℕ) → Answers o a old new → r ≡ numbered a → Codes o r old new
+codes o a r old new (e, w) f = (f ∙ ap numbered e ∙ number-of-outcome o, w)
+
+pub finalize-codes : (s : List ℕ) (a : Answer) (r : ℕ) (old new : List ℕ) → Answers (finalizeOf s) a old new → r ≡ numbered a
+    → Codes (finalizeOf s) r old new
+finalize-codes s = codes (finalizeOf s)
+
+pub roomed-codes : (room : ℕ) (o : Outcome) (a : Answer) (r : ℕ) (old new : List ℕ) → Answers (roomed room o) a old new → r ≡ numbered a
+    → Codes (roomed room o) r old new
+roomed-codes room o = codes (roomed room o)
+
+-- a byte over 4
+pub no-layout-codes : (byte : ℕ) (o : Layout → Outcome) (old : List ℕ) → 4 < byte → Codes (stated byte o) 4294967311 old old
+unfolding stated
+no-layout-codes byte o old h = rw (lt-ltb 4 byte h) (refl, refl)
+
+-- any other
+pub layout-codes : (byte : ℕ) (o : Layout → Outcome) (l : Layout) (a : Answer) (r : ℕ) (old new : List ℕ) → byte ≤ 4 → l ≡ layoutOf byte
+    → Answers (o l) a old new → r ≡ numbered a → Codes (stated byte o) r old new
+unfolding stated
+layout-codes byte o l a r old new h e g f =
+    rw (le-ltb 4 byte h) (subst (λ (x : Layout). Codes (o x) r old new) e (codes (o l) a r old new g f))

@@ -1,12 +1,14 @@
--- Answers as one number, for callers in C and in Rust. 01: "A refusal answers its number", "Acceptance answers the new length".
-use mathlib.Core.Path.{_≡_}
+-- Answers as one number, for callers in C and in Rust. 01: "A refusal answers its number".
 use mathlib.Core.List.{List}
-use Prim.Native.Nat.{ℕ}
+use mathlib.Core.Path.{_≡_}
+use Prim.Native.Nat.{ℕ, _+_}
 use lib.Dec.{ltb}
+use lib.ListN.{length}
 use Rattle.bits.specs.Choice.{pick}
-use Rattle.bits.specs.Outcome.{Outcome, answered, written}
+use Rattle.bits.specs.Outcome.{Outcome, refused, made, written}
 use Rattle.bits.specs.declared.Answer.{Answer}
 use Rattle.bits.specs.declared.Answer.the-variants.{Length, Refused}
+use Rattle.format.specs.declared.Layout.{Layout}
 use Rattle.image.specs.Admission.{refusal}
 use Rattle.input_records.specs.Heads.{malformed, layoutOf}
 
@@ -14,11 +16,19 @@ use Rattle.input_records.specs.Heads.{malformed, layoutOf}
 unfoldable pub admitNumber : ℕ → List ℕ → ℕ
 admitNumber byte s = pick (ltb 4 byte) malformed (refusal (layoutOf byte) s)
 
--- a new length, or the number of a refusal
-abbrev pub numberOf : Answer → ℕ
-numberOf (Length n) = n
-numberOf (Refused n) = n
+-- an answer that is a length or a refusal, as one number of 64 bits: the length, or 2^32 and the refusal's number. No image is so long
+abbrev pub numbered : Answer → ℕ
+numbered (Length n) = n
+numbered (Refused n) = 4294967296 + n
 
--- what an export that writes promises: the number of its outcome, and what the buffer holds afterwards
-abbrev pub Numbered : Outcome → ℕ → List ℕ → List ℕ → Type 0
-Numbered o r old new = (r ≡ numberOf (answered o)) × (new ≡ written o old)
+abbrev pub coded : Outcome → ℕ
+coded (refused n) = 4294967296 + n
+coded (made new) = length new
+
+-- what every function here that writes promises: its number, and what the buffer holds afterwards
+abbrev pub Codes : Outcome → ℕ → List ℕ → List ℕ → Type 0
+Codes o r old new = (r ≡ coded o) × (new ≡ written o old)
+
+-- the outcome under the layout that a byte states. 01, refusal 15: "layout byte over 4"
+unfoldable pub stated : ℕ → (Layout → Outcome) → Outcome
+stated byte o = pick (ltb 4 byte) (refused malformed) (o (layoutOf byte))

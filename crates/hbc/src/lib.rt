@@ -1,15 +1,14 @@
 // The product for callers in C and in Rust: numbers and slices in, one number out. Each function here
 // hands on to the one that it is named for.
-//
-// Where bytes are written, the number is their length or the refusal's. No length is as small as a
-// refusal's number, so that one number tells both.
 use bits::Answer;
 ghost use mathlib.Core.Path.{_≡_};
 ghost use lib.ListN.{length};
 ghost use Rattle.bits.specs.Outcome.{roomed};
 ghost use Rattle.footer.specs.Finalize.{finalizeOf};
 ghost use Rattle.serialize.specs.Builder.{built};
-ghost use Rattle.hbc.specs.Numbers.{admitNumber, numberOf, Numbered};
+ghost use Rattle.strings.specs.Patch.{patchById, patchByValue};
+ghost use Rattle.functions.specs.Patch.{patchBody};
+ghost use Rattle.hbc.specs.Numbers.{admitNumber, numbered, Codes, stated};
 
 // A layout byte is at most that.
 const LAST_LAYOUT: u8 = 4;
@@ -28,25 +27,37 @@ pub extern "C" fn nepuladrim_admit(image: &[u8], layout: u8) -> u8
     admission::number_of(admission::admit(image, input_records::layout_of(layout)))
 }
 
-// A new length, or the number of a refusal.
-fn number_of(answer: Answer) -> usize
-    ensures { λ r. ⌜ r ≡ numberOf answer ⌝ }
+// What is added to the number of a refusal, so that it is no length.
+const REFUSED: u64 = 4294967296;
+
+// The number of a layout byte over 4, where the answer could be a length.
+const NO_LAYOUT: u64 = 4294967311;
+
+fn wide(n: u8) -> u64
+    ensures { λ r. ⌜ r ≡ n ⌝ }
+{
+    n as u64
+}
+
+// The number of an answer: its length, or 2^32 and the refusal's number.
+fn number(answer: Answer) -> u64
+    ensures { λ r. ⌜ r ≡ numbered answer ⌝ }
 {
     match answer {
-        Answer::Length(length) => length,
-        Answer::Refused(number) => number as usize,
+        Answer::Length(length) => length as u64,
+        Answer::Refused(n) => REFUSED + wide(n),
     }
 }
 
 // Puts file length and footer into an image.
 #[no_mangle]
-pub extern "C" fn nepuladrim_finalize(image: &mut [u8]) -> usize
-    ensures { λ r. ⌜ Numbered (finalizeOf (now (image .entry))) r (now (image .entry)) (now (image .exit)) ⌝ }
+pub extern "C" fn nepuladrim_finalize(image: &mut [u8]) -> u64
+    ensures { λ r. ⌜ Codes (finalizeOf (now (image .entry))) r (now (image .entry)) (now (image .exit)) ⌝ }
 {
-    number_of(footer::finalize_raw_image(image))
+    number(footer::finalize_raw_image(image))
 }
 
-// Builds a minimal modern image in `out`.
+// The smallest modern image of strings, which are one text and their ends, and one body.
 #[no_mangle]
 pub extern "C" fn nepuladrim_build(
     version: u32,
@@ -54,8 +65,71 @@ pub extern "C" fn nepuladrim_build(
     ends: &[u32],
     body: &[u8],
     out: &mut [u8],
-) -> usize
-    ensures { λ r. ⌜ Numbered (roomed (length (now (out .entry))) (built version (now (text .entry)) (now (ends .entry)) (now (body .entry)))) r (now (out .entry)) (now (out .exit)) ⌝ }
+) -> u64
+    ensures { λ r. ⌜ Codes (roomed (length (now (out .entry))) (built version (now (text .entry)) (now (ends .entry)) (now (body .entry)))) r (now (out .entry)) (now (out .exit)) ⌝ }
 {
-    number_of(serialize::build_minimal_modern(version, text, ends, body, out))
+    number(serialize::build_minimal_modern(version, text, ends, body, out))
+}
+
+// String `id` gets a value.
+#[no_mangle]
+pub extern "C" fn nepuladrim_patch_string_by_id<'a>(
+    image: &'a [u8],
+    layout: u8,
+    id: u32,
+    value: &'a [u8],
+    out: &mut [u8],
+) -> u64
+    ensures { λ r. ⌜ Codes (stated layout (λ l. roomed (length (now (out .entry))) (patchById l (now (image .entry)) id (now (value .entry))))) r (now (out .entry)) (now (out .exit)) ⌝ }
+{
+    if LAST_LAYOUT < layout {
+        return NO_LAYOUT;
+    }
+    number(strings::patch_string_by_id(
+        image,
+        input_records::layout_of(layout),
+        id as usize,
+        value,
+        out,
+    ))
+}
+
+// The lowest string that has the units of `old` gets the value `new`.
+#[no_mangle]
+pub extern "C" fn nepuladrim_patch_string_replace<'a>(
+    image: &'a [u8],
+    layout: u8,
+    old: &[u8],
+    new: &'a [u8],
+    out: &mut [u8],
+) -> u64
+    ensures { λ r. ⌜ Codes (stated layout (λ l. roomed (length (now (out .entry))) (patchByValue l (now (image .entry)) (now (old .entry)) (now (new .entry))))) r (now (out .entry)) (now (out .exit)) ⌝ }
+{
+    if LAST_LAYOUT < layout {
+        return NO_LAYOUT;
+    }
+    number(strings::patch_string_replace(image, input_records::layout_of(layout), old, new, out))
+}
+
+// The body of function `id` is replaced.
+#[no_mangle]
+pub extern "C" fn nepuladrim_patch_function_bytes(
+    image: &[u8],
+    layout: u8,
+    id: u32,
+    body: &[u8],
+    out: &mut [u8],
+) -> u64
+    ensures { λ r. ⌜ Codes (stated layout (λ l. roomed (length (now (out .entry))) (patchBody l (now (image .entry)) id (now (body .entry))))) r (now (out .entry)) (now (out .exit)) ⌝ }
+{
+    if LAST_LAYOUT < layout {
+        return NO_LAYOUT;
+    }
+    number(functions::patch_function_bytes(
+        image,
+        input_records::layout_of(layout),
+        id as usize,
+        body,
+        out,
+    ))
 }

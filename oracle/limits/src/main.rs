@@ -6,7 +6,7 @@ use std::process::ExitCode;
 use hbc_decomp::write::serialize::{build_minimal_modern, finalize_raw_image};
 
 extern "C" {
-    fn nepuladrim_finalize(image: *mut u8, length: usize) -> usize;
+    fn nepuladrim_finalize(image: *mut u8, length: usize) -> u64;
     #[allow(clippy::too_many_arguments)]
     fn nepuladrim_build(
         version: u32,
@@ -18,9 +18,11 @@ extern "C" {
         body_length: usize,
         out: *mut u8,
         out_length: usize,
-    ) -> usize;
+    ) -> u64;
 }
 
+/// What an answer adds to the number of a refusal.
+const REFUSED: u64 = 1 << 32;
 /// 01, refusals 1 and 11.
 const LIMIT: usize = 67_108_864;
 /// 01, refusal 12.
@@ -37,7 +39,7 @@ struct Job {
 }
 
 impl Job {
-    fn ours(&self, out: &mut [u8]) -> usize {
+    fn ours(&self, out: &mut [u8]) -> u64 {
         let Job { text, ends, body } = self;
         unsafe {
             nepuladrim_build(
@@ -69,13 +71,13 @@ impl Job {
     fn is_built(&self) -> bool {
         let image = self.theirs().unwrap();
         let mut out = vec![OLD; image.len() + 1];
-        self.ours(&mut out) == image.len() && out[..image.len()] == image && out[image.len()] == OLD
+        self.ours(&mut out) == image.len() as u64 && out[..image.len()] == image && out[image.len()] == OLD
     }
 
     /// Refused with that number, in a buffer of any length, and nothing is written.
-    fn is_refused(&self, number: usize, room: usize) -> bool {
+    fn is_refused(&self, number: u64, room: usize) -> bool {
         let mut out = vec![OLD; room];
-        self.ours(&mut out) == number && out.iter().all(|byte| *byte == OLD)
+        self.ours(&mut out) == REFUSED + number && out.iter().all(|byte| *byte == OLD)
     }
 }
 
@@ -100,9 +102,9 @@ fn is_finalized(length: usize) -> bool {
     let mut ours = image.clone();
     let answer = unsafe { nepuladrim_finalize(ours.as_mut_ptr(), ours.len()) };
     if length > LIMIT {
-        return answer == 1 && ours == image;
+        return answer == REFUSED + 1 && ours == image;
     }
-    answer == length && ours == finalize_raw_image(image).unwrap()
+    answer == length as u64 && ours == finalize_raw_image(image).unwrap()
 }
 
 fn main() -> ExitCode {
