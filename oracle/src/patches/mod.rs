@@ -3,7 +3,7 @@
 
 pub mod draw;
 pub mod judgement;
-mod parsed;
+pub mod parsed;
 mod rust;
 pub mod small;
 mod texts;
