@@ -24,7 +24,9 @@ fn image(counts: &[usize]) -> Vec<u8> {
     let mut image = vec![0; tail + 4 + 20];
     image[..8].copy_from_slice(&0x1F19_03C1_03BC_1FC6u64.to_le_bytes());
     let n = counts.len();
-    for (at, word) in [(40, 1), (44, 1), (52, n), (56, pairs), (60, size), (128, tail), (132, 4), (144, n)] {
+    for (at, word) in
+        [(40, 1), (44, 1), (52, n), (56, pairs), (60, size), (128, tail), (132, 4), (144, n)]
+    {
         put(&mut image, at, word);
     }
     let mut pair = 0;
@@ -44,7 +46,7 @@ fn image(counts: &[usize]) -> Vec<u8> {
     image
 }
 
-/// The offset of the string after the patched one ends up below, at and past 0x800000, and the image past 32 MiB.
+/// Strings end up below, at and past offset 0x800000, by their own patch or by that of one before.
 pub fn compare() {
     let cases: [(&[usize], usize); 8] = [
         (&[8_388_600, 1, 3, 4], 8),
@@ -65,7 +67,10 @@ pub fn compare() {
             let mut out = vec![0; image.len() + 9_000_000];
             let ours = job.ours(&mut out);
             let theirs = job.theirs(&mut parsed(&job.reading()));
-            assert!(out.get(..ours as usize) == Some(&theirs[..]), "{counts:?}, {length}, {id}: {ours}");
+            assert!(
+                out.get(..ours as usize) == Some(&theirs[..]),
+                "{counts:?}, {length}, {id}: {ours}"
+            );
             count += 1;
         }
     }
