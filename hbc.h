@@ -1,0 +1,41 @@
+// Nepuladrim for callers in C: the proved functions of crate `hbc`. `rt staticlib hbc` writes the archive,
+// target/staticlib/libhbc.a, for x86-64.
+//
+// A slice is a pointer and a length; the pointer of an empty one must not be null. What a function reads and what it writes must
+// not overlap. `layout` is 0 modern; 1 legacy, 2 with big integers, 3 with function sources, 4 both. Strings and functions go by
+// their ids from 0.
+//
+// A function that writes answers the new length, and the image is at the front of `out`, all later bytes as they were; or it
+// answers NEPULADRIM_REFUSED and the number of the refusal, as document 01 has it, and no byte is changed.
+#ifndef NEPULADRIM_HBC_H
+#define NEPULADRIM_HBC_H
+
+#include <stddef.h>
+#include <stdint.h>
+
+#define NEPULADRIM_REFUSED (UINT64_C(1) << 32)
+
+// 0 where the bytes are an image of the layout, else the number of the refusal: 1 to 6, or 15 for another layout byte.
+uint8_t nepuladrim_admit(const uint8_t *image, size_t image_length, uint8_t layout);
+
+// File length and footer, in the lent image. Refused with 1.
+uint64_t nepuladrim_finalize(uint8_t *image, size_t image_length);
+
+// A minimal modern image: strings as one text and their end places, and the body of one function. Refused with 15, 8, 12, 11, 13.
+uint64_t nepuladrim_build(uint32_t version, const uint8_t *text, size_t text_length, const uint32_t *ends, size_t ends_length,
+                          const uint8_t *body, size_t body_length, uint8_t *out, size_t out_length);
+
+// String `id` becomes a value, which is UTF-8. Refused with 15, 1 to 8, 11, 12, 13.
+uint64_t nepuladrim_patch_string_by_id(const uint8_t *image, size_t image_length, uint8_t layout, uint32_t id,
+                                       const uint8_t *value, size_t value_length, uint8_t *out, size_t out_length);
+
+// The lowest string that has the old value becomes the new one. Refused with 15, 1 to 6, 8, 14, 11, 12, 13.
+uint64_t nepuladrim_patch_string_replace(const uint8_t *image, size_t image_length, uint8_t layout, const uint8_t *old_value,
+                                         size_t old_length, const uint8_t *new_value, size_t new_length, uint8_t *out,
+                                         size_t out_length);
+
+// The body of function `id` becomes other bytes. Refused with 15, 1 to 7, 9 to 13.
+uint64_t nepuladrim_patch_function_bytes(const uint8_t *image, size_t image_length, uint8_t layout, uint32_t id,
+                                         const uint8_t *body, size_t body_length, uint8_t *out, size_t out_length);
+
+#endif

@@ -1,0 +1,76 @@
+// Calls each function of hbc.h from C, to success and to a refusal. Ends with 1 at the first answer that is not as it should be.
+#include "../../hbc.h"
+
+#include <stdio.h>
+#include <stdlib.h>
+#include <string.h>
+
+static uint8_t image[256], out[256];
+
+// What is asked for is there, else the line says what is not.
+#define is(what)                                                                                                              \
+    do {                                                                                                                      \
+        if (!(what)) {                                                                                                        \
+            printf("tests/c: not so, line %d: %s\n", __LINE__, #what);                                                        \
+            exit(1);                                                                                                          \
+        }                                                                                                                     \
+    } while (0)
+
+#define BYTES(text) (const uint8_t *)(text), sizeof(text) - 1
+
+// The buffer holds what it held before a call.
+static int untouched(void) {
+    for (size_t i = 0; i < sizeof out; i++)
+        if (out[i] != 0xa5) return 0;
+    return 1;
+}
+
+static uint64_t refused(uint64_t number) { return NEPULADRIM_REFUSED + number; }
+
+int main(void) {
+    const uint32_t ends[] = {1, 3}, wrong[] = {3, 1};
+
+    // the example of document 01, rows j and k
+    memset(image, 0xa5, sizeof image);
+    is(nepuladrim_build(97, BYTES("abc"), wrong, 2, BYTES("\1\2\3\4"), image, sizeof image) == refused(15));
+    is(nepuladrim_build(97, BYTES("abc"), ends, 2, BYTES("\1\2\3\4"), image, 219) == refused(13));
+    is(image[0] == 0xa5);
+    is(nepuladrim_build(97, BYTES("abc"), ends, 2, BYTES("\1\2\3\4"), image, sizeof image) == 220);
+    is(memcmp(image + 144, "\0\0\0\1\2\0\0\2", 8) == 0 && memcmp(image + 156, "\1\2\3\4", 4) == 0 && image[220] == 0xa5);
+
+    is(nepuladrim_admit(image, 220, 0) == 0);
+    is(nepuladrim_admit(image, 220, 5) == 15);
+    is(nepuladrim_admit(image, 147, 0) == 1);
+
+    memset(out, 0xa5, sizeof out);
+    is(nepuladrim_patch_string_by_id(image, 220, 0, 2, BYTES("x"), out, sizeof out) == refused(7));
+    is(nepuladrim_patch_string_by_id(image, 220, 0, 0, BYTES("\377"), out, sizeof out) == refused(8));
+    is(nepuladrim_patch_string_by_id(image, 220, 0, 0, BYTES("aaaaa"), out, 223) == refused(13));
+    is(nepuladrim_patch_string_by_id(image, 220, 9, 0, BYTES("aaaaa"), out, sizeof out) == refused(15));
+    is(untouched());
+    is(nepuladrim_patch_string_by_id(image, 220, 0, 0, BYTES("aaaaa"), out, sizeof out) == 224);
+    is(memcmp(out + 144, "\0\0\0\5\12\0\0\2" "aaaaabc\0" "\1\2\3\4", 20) == 0 && out[60] == 7 && out[224] == 0xa5);
+
+    // an accented value of as many bytes: two bytes of a wide string
+    memset(out, 0xa5, sizeof out);
+    is(nepuladrim_patch_string_replace(image, 220, 0, BYTES("cb"), BYTES("x"), out, sizeof out) == refused(14));
+    is(untouched());
+    is(nepuladrim_patch_string_replace(image, 220, 0, BYTES("bc"), BYTES("\303\251"), out, sizeof out) == 220);
+    is(memcmp(out + 144, "\0\0\0\1\3\0\0\1" "a\351\0\0", 12) == 0);
+
+    memset(out, 0xa5, sizeof out);
+    is(nepuladrim_patch_function_bytes(image, 220, 0, 1, BYTES("x"), out, sizeof out) == refused(7));
+    is(untouched());
+    is(nepuladrim_patch_function_bytes(image, 220, 0, 0, BYTES("\5\6\7\10\11"), out, sizeof out) == 221);
+    is(memcmp(out + 156, "\5\6\7\10\11", 5) == 0 && nepuladrim_admit(out, 221, 0) == 0);
+
+    // a stale file length and footer are put right
+    memcpy(image, out, 221);
+    memset(out + 32, 0, 4);
+    memset(out + 201, 0, 20);
+    is(nepuladrim_finalize(out, 35) == refused(1));
+    is(nepuladrim_finalize(out, 221) == 221 && memcmp(out, image, 221) == 0);
+
+    puts("tests/c: each function of hbc.h answers as it should");
+    return 0;
+}
