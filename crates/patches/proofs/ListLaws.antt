@@ -1,13 +1,14 @@
 -- A list of patches: the promise of each step, joined by induction.
-use mathlib.Core.Path.{_≡_, refl, _∙_}
+use mathlib.Core.Path.{_≡_, refl, _∙_, ap}
 use mathlib.Core.Logic.{_⊎_, inl, inr}
 use mathlib.Core.List.{List, [], _∷_}
 use Prim.Native.Nat.{ℕ, _<_}
 use Rattle.bits.specs.Outcome.{Outcome, refused, made}
 use Rattle.format.specs.declared.Layout.{Layout}
+use Rattle.image.specs.Strings.{Str}
 use Rattle.image.specs.Admitted.{Admitted}
 use Rattle.patches.specs.Patches.{Step, stepOf, imageAfter, run, targetOf, taken, carried}
-use Rattle.patches.specs.Promise.{Promise, Sealed}
+use Rattle.patches.specs.Promise.{Promise, Sealed, stringAfter, bodyAfter, hashAfter}
 use Rattle.patches.specs.Lists.{AllInBytes, Promised}
 use Rattle.patches.proofs.StepLaws.{step-promise}
 use Rattle.patches.proofs.ExactLaws.{refused-exactly}
@@ -58,10 +59,10 @@ promised l (p ∷ ps) s ad b = elim (either-way (stepOf l s p)) [
         kinds = rw e (r .kinds ∙ k .kinds);
         identifiers = rw e (r .identifiers ∙ k .identifiers);
         strings = rw e (r .strings ∙ k .strings);
-        string = λ i h. rw (e, ← k .string i h) (r .string i (rw (k .strings) h));
-        body = λ i h. rw (e, ← k .body i h) (r .body i (rw (k .functions) h));
+        string = λ i h. rw e (r .string i (rw (k .strings) h) ∙ ap (λ (x : Str). carried l (λ v c. stringAfter i c) ps u x) (k .string i h));
+        body = λ i h. rw e (r .body i (rw (k .functions) h) ∙ ap (λ (x : List ℕ). carried l (λ v c. bodyAfter i c) ps u x) (k .body i h));
         flag = λ i. rw e (r .flag i ∙ k .flag i);
-        hash = λ j h. rw (e, ← m .hash j h) (r .hash j (rw (k .identifiers) h));
+        hash = λ j h. rw e (r .hash j (rw (k .identifiers) h) ∙ ap (λ (x : ℕ). carried l (hashAfter l j) ps u x) (m .hash j h));
         sealed = rw e (elim (r .sealed) [ inl q ↦ inr (rw q (m .sealed)) | inr q ↦ inr q ]);
         steps = (λ t f. step-promise l s ad p t (b .0) f, refused-exactly l s (ad .bytes) p (b .0), rw e (r .steps));
       }
