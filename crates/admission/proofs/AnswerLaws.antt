@@ -1,15 +1,14 @@
 -- Admission's answer taken apart: what an image that is laid out promises, and how further checks follow those of admission.
 use mathlib.Core.Path.{_≡_, refl, sym, _∙_, ap, subst⁻¹}
 use mathlib.Core.Bool.{Bool, true, false}
-use mathlib.Core.List.{List, [], _∷_, _++_}
-use Prim.Native.Nat.{ℕ, _+_, _≤_, _<_}
+use mathlib.Core.List.{List, _++_}
+use Prim.Native.Nat.{ℕ, _<_}
 use native.Mathlib.Omega.{arith}
-use lib.Dec.{leb, eqb}
+use lib.Dec.{eqb}
 use lib.ListN.{getD}
-use borrow.Author.Tests.{leb-true, eqb-true, eqb-false, ne-eqb}
+use borrow.Author.Tests.{eqb-true, eqb-false, ne-eqb}
 use Rattle.bits.specs.Choice.{pick, Check, judge}
-use Rattle.bits.proofs.TestLaws.{both-0, both-1}
-use Rattle.bits.proofs.JudgeLaws.{rising}
+use Rattle.bits.proofs.JudgeLaws.{judge-append}
 use Rattle.format.specs.declared.Layout.{Layout}
 use Rattle.image.specs.Admission.{checks, refusal}
 use Rattle.image.specs.Admitted.{Admitted}
@@ -20,30 +19,11 @@ use Rattle.admission.specs.declared.Admission.{Admission}
 use Rattle.admission.specs.declared.Admission.the-variants.{Laid, Refused}
 use Rattle.admission.specs.Admission.{admission}
 
--- ---- checks behind checks
-
--- the second ones count where none of the first is met
-judge-then : (k m : ℕ) (cs ds : List Check) → 0 < k → rising k m cs ≡ true → judge (cs ++ ds) ≡ pick (eqb (judge cs) 0) (judge ds) (judge cs)
-unfolding judge
-judge-then k m [] ds h t = refl
-judge-then k m (c ∷ cs) ds h t =
-    let l : k ≤ c .number = leb-true k (c .number) (both-0 (leb k (c .number)) (rising (c .number) m cs) t) in
-    go (c .met) (omega arith) (judge-then (c .number) m cs ds (omega arith) (both-1 (leb k (c .number)) (rising (c .number) m cs) t))
-  where
-    go : (b : Bool) → 0 < c .number → judge (cs ++ ds) ≡ pick (eqb (judge cs) 0) (judge ds) (judge cs)
-        → pick b (c .number) (judge (cs ++ ds)) ≡ pick (eqb (pick b (c .number) (judge cs)) 0) (judge ds) (pick b (c .number) (judge cs))
-    go true l e = rw (ne-eqb (c .number) 0 (λ z. omega arith))
-    go false l e = e
-
 module _ (l : Layout) (s : List ℕ) where
-  numbers : rising 1 6 (checks l s) ≡ true
-  unfolding checks
-  numbers = refl
-
   -- those of a reading or a patch stand behind those of admission
   pub judged-then : (ds : List Check) → judge (checks l s ++ ds) ≡ pick (eqb (refusal l s) 0) (judge ds) (refusal l s)
-  unfolding refusal
-  judged-then ds = judge-then 1 6 (checks l s) ds (omega arith) numbers
+  unfolding refusal checks
+  judged-then ds = judge-append (checks l s) ds refl
 
   -- ---- the answer of admission
 

@@ -140,7 +140,7 @@ unfolding wordsOf
 length-words [] = refl
 length-words (w ∷ ws) = length-append (bytesOf 4 w) (wordsOf ws) ∙ rw (length-bytesOf 4 w, length-words ws) (omega arith)
 
-words-append : (a b : List ℕ) → wordsOf (a ++ b) ≡ wordsOf a ++ wordsOf b
+pub words-append : (a b : List ℕ) → wordsOf (a ++ b) ≡ wordsOf a ++ wordsOf b
 unfolding wordsOf
 words-append [] b = refl
 words-append (w ∷ a) b = rw (words-append a b, append-assoc)

@@ -10,7 +10,7 @@ use borrow.Rule.Slice.PartMut.{putMid}
 use lib.Dec.{eqb}
 use lib.ListN.{length, getD, set, take, drop, length-set, length-drop, take-append-drop, drop-of-length-le, replicate, length-replicate, getD-replicate}
 use native.Mathlib.Numerals.{add-one}
-use lib.Seq.{paste, paste-suc, take-all, sets, sets-eq, length-sets, set-append-left, length-take-le, getD-set-same, getD-set-other, set-getD, set-out}
+use lib.Seq.{set-comm, paste, paste-suc, take-all, sets, sets-eq, length-sets, set-append-left, length-take-le, getD-set-same, getD-set-other, set-getD, set-out}
 use Rattle.bits.specs.Bytes.{bytesAt, number, numberAt, bytesOf, wordsOf}
 use Rattle.bits.proofs.TestLaws.{which, below-or}
 use Rattle.bits.proofs.ByteLaws.{bytesAt-ext, bytesAt-is, length-bytesOf, number-back, length-words, words-next}
@@ -165,3 +165,14 @@ take-set (suc n) (y ∷ s) (suc i) x = ap (λ (l : List ℕ). y ∷ l) (take-set
 pub take-sets : (n : ℕ) (vs s : List ℕ) (at : ℕ) → take n (sets s at vs) ≡ sets (take n s) at vs
 take-sets n [] s at = refl
 take-sets n (v ∷ vs) s at = rw (take-sets n vs (set s at v) (suc at), take-set n s at v)
+
+-- ---- two writes that are apart, in either order
+
+set-sets : (b l : List ℕ) (i j x : ℕ) → i < j → set (sets l j b) i x ≡ sets (set l i x) j b
+set-sets [] l i j x h = refl
+set-sets (y ∷ b) l i j x h =
+    set-sets b (set l j y) i (suc j) x (omega arith) ∙ ap (λ (m : List ℕ). sets m (suc j) b) (sym (set-comm l i j x y (λ e. omega arith)))
+
+pub sets-comm : (a b l : List ℕ) (i j : ℕ) → i + length a ≤ j → sets (sets l j b) i a ≡ sets (sets l i a) j b
+sets-comm [] b l i j h = refl
+sets-comm (x ∷ a) b l i j h = rw (set-sets b l i j x (omega arith)) (sets-comm a b (set l i x) (suc i) j (omega arith))

@@ -5,11 +5,11 @@ use mathlib.Core.List.{List, [], _∷_, _++_, append-assoc, append-nil}
 use Prim.Native.Nat.{ℕ, suc, _+_, _-_, _*_, _≤_, _<_}
 use native.Mathlib.Omega.{arith}
 use lib.ListN.{length, set, replicate, length-append}
-use lib.Seq.{sets, set-comm}
+use lib.Seq.{sets}
 use Rattle.bits.specs.Choice.{pick}
 use Rattle.bits.specs.Bytes.{bytesOf, wordsOf, up4}
-use Rattle.bits.proofs.ByteLaws.{length-bytesOf, length-words}
-use Rattle.bits.proofs.WriteLaws.{sets-append}
+use Rattle.bits.proofs.ByteLaws.{length-bytesOf, length-words, words-append}
+use Rattle.bits.proofs.WriteLaws.{sets-append, sets-comm}
 use Rattle.format.specs.Entry.{Place, bit, isOver, smallWord}
 use Rattle.image.specs.Strings.{Str}
 use Rattle.image.specs.Rebuild.{layFrom, storeOf, smallsFrom, pairOf, pairsFor, overs, region, padded}
@@ -19,15 +19,6 @@ use Rattle.region_write.specs.declared.Target.{Target}
 use Rattle.region_write.specs.Region.{putEntry, putString, laid}
 
 -- ---- writes apart
-
-set-sets : (b l : List ℕ) (i j x : ℕ) → i < j → set (sets l j b) i x ≡ sets (set l i x) j b
-set-sets [] l i j x h = refl
-set-sets (y ∷ b) l i j x h =
-    set-sets b (set l j y) i (suc j) x (omega arith) ∙ ap (λ (m : List ℕ). sets m (suc j) b) (sym (set-comm l i j x y (λ e. omega arith)))
-
-sets-comm : (a b l : List ℕ) (i j : ℕ) → i + length a ≤ j → sets (sets l j b) i a ≡ sets (sets l i a) j b
-sets-comm [] b l i j h = refl
-sets-comm (x ∷ a) b l i j h = rw (set-sets b l i j x (omega arith)) (sets-comm a b (set l i x) (suc i) j (omega arith))
 
 -- three writes in turn, each made longer
 longer : (A a P p S s o : List ℕ) (x y z : ℕ) → x + length A + length a ≤ y → y + length P + length p ≤ z
@@ -43,11 +34,6 @@ longer A a P p S s o x y z h k =
     )
 
 -- ---- one string more
-
-words-append : (a b : List ℕ) → wordsOf (a ++ b) ≡ wordsOf a ++ wordsOf b
-unfolding wordsOf
-words-append [] b = refl
-words-append (w ∷ a) b = rw (words-append a b, append-assoc)
 
 one-word : (x : ℕ) → wordsOf (x ∷ []) ≡ bytesOf 4 x
 unfolding wordsOf

@@ -7,7 +7,7 @@ use native.Mathlib.Omega.{arith}
 use lib.ListN.{length, take, drop, length-drop, length-append}
 use lib.Seq.{sets, length-take-le, take-all}
 use Rattle.bits.specs.Bytes.{bytesOf, wordAt}
-use Rattle.bits.proofs.WriteLaws.{sets-append, sets-all}
+use Rattle.bits.proofs.WriteLaws.{sets-append, sets-all, sets-comm}
 use Rattle.format.specs.declared.Field.{Field}
 use Rattle.format.specs.declared.Layout.{Layout}
 use Rattle.format.specs.Table as table
@@ -20,7 +20,7 @@ use Rattle.image.proofs.PlaceLaws.{ordered}
 use Rattle.relocate.specs.declared.Patch.the-variants.{Strings, Body}
 use Rattle.relocate.specs.declared.Move.{Move}
 use Rattle.relocate.specs.Relocate.{placeAfter, debugWord, functionGroup, relocated, around, Movable}
-use Rattle.relocate.proofs.GroupLaws.{sets-comm, functions-apart}
+use Rattle.relocate.proofs.GroupLaws.{functions-apart}
 
 -- ---- words of the header
 

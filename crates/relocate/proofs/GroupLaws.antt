@@ -9,11 +9,12 @@ use native.Mathlib.Omega.{arith}
 use borrow.Author.Tests.{not-true, not-false}
 use lib.Dec.{eqb}
 use lib.ListN.{length, set}
-use lib.Seq.{sets, set-comm}
+use lib.Seq.{sets}
 use Rattle.bits.specs.Choice.{pick}
 use Rattle.bits.specs.Bytes.{bytesOf}
 use Rattle.bits.proofs.ByteLaws.{length-bytesOf}
 use Rattle.bits.proofs.TestLaws.{below-or}
+use Rattle.bits.proofs.WriteLaws.{sets-comm}
 use Rattle.format.specs.declared.Layout.{Layout}
 use Rattle.format.specs.declared.Layout.the-variants.{Modern, Legacy}
 use Rattle.format.specs.Table as table
@@ -106,15 +107,6 @@ unfolding groups
 groups-more g i o o₁ o₂ p q = rw (add-one, writes-append (groups i g) (g i) o, ← p) q
 
 -- ---- writes before a place and writes at or past it, in either order
-
-set-sets : (b l : List ℕ) (i j x : ℕ) → i < j → set (sets l j b) i x ≡ sets (set l i x) j b
-set-sets [] l i j x h = refl
-set-sets (y ∷ b) l i j x h =
-    set-sets b (set l j y) i (suc j) x (omega arith) ∙ ap (λ (m : List ℕ). sets m (suc j) b) (sym (set-comm l i j x y (λ e. omega arith)))
-
-pub sets-comm : (a b l : List ℕ) (i j : ℕ) → i + length a ≤ j → sets (sets l j b) i a ≡ sets (sets l i a) j b
-sets-comm [] b l i j h = refl
-sets-comm (x ∷ a) b l i j h = rw (set-sets b l i j x (omega arith)) (sets-comm a b (set l i x) (suc i) j (omega arith))
 
 abbrev pub Before : ℕ → List Write → Type 0
 Before n [] = Unit {0}
