@@ -5,7 +5,7 @@
 // not overlap. `layout` is 0 modern; 1 legacy, 2 with big integers, 3 with function sources, 4 both. Strings and functions go by
 // their ids from 0.
 //
-// A function that writes answers the new length, and the image is at the front of `out`, all later bytes as they were; or it
+// A function that writes answers the length of what it made, which is at the front of `out`, all later bytes as they were; or it
 // answers NEPULADRIM_REFUSED and the number of the refusal, as document 01 has it, and no byte is changed.
 #ifndef NEPULADRIM_HBC_H
 #define NEPULADRIM_HBC_H
@@ -24,6 +24,14 @@ uint64_t nepuladrim_finalize(uint8_t *image, size_t image_length);
 // A minimal modern image: strings as one text and their end places, and the body of one function. Refused with 15, 8, 12, 11, 13.
 uint64_t nepuladrim_build(uint32_t version, const uint8_t *text, size_t text_length, const uint32_t *ends, size_t ends_length,
                           const uint8_t *body, size_t body_length, uint8_t *out, size_t out_length);
+
+// The bytes of string `id` at the front of `out`: ASCII where it is narrow, else UTF-16, low byte first. Refused with 15, 1 to 7, 13.
+uint64_t nepuladrim_string(const uint8_t *image, size_t image_length, uint8_t layout, uint32_t id, uint8_t *out,
+                           size_t out_length);
+
+// The bytes of the body of function `id`. Refused with 15, 1 to 7, 13.
+uint64_t nepuladrim_body(const uint8_t *image, size_t image_length, uint8_t layout, uint32_t id, uint8_t *out,
+                         size_t out_length);
 
 // String `id` becomes a value, which is UTF-8. Refused with 15, 1 to 8, 11, 12, 13.
 uint64_t nepuladrim_patch_string_by_id(const uint8_t *image, size_t image_length, uint8_t layout, uint32_t id,

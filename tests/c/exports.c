@@ -51,6 +51,18 @@ int main(void) {
     is(nepuladrim_patch_string_by_id(image, 220, 0, 0, BYTES("aaaaa"), out, sizeof out) == 224);
     is(memcmp(out + 144, "\0\0\0\5\12\0\0\2" "aaaaabc\0" "\1\2\3\4", 20) == 0 && out[60] == 7 && out[224] == 0xa5);
 
+    memset(image, 0xa5, sizeof image);
+    memcpy(image, out, 224);
+    memset(out, 0xa5, sizeof out);
+    is(nepuladrim_string(image, 224, 0, 2, out, sizeof out) == refused(7));
+    is(nepuladrim_string(image, 224, 0, 0, out, 4) == refused(13));
+    is(nepuladrim_body(image, 224, 0, 1, out, sizeof out) == refused(7));
+    is(nepuladrim_body(image, 223, 0, 0, out, 3) == refused(13));
+    is(untouched());
+    is(nepuladrim_string(image, 224, 0, 0, out, sizeof out) == 5 && memcmp(out, "aaaaa\245", 6) == 0);
+    is(nepuladrim_body(image, 224, 0, 0, out, sizeof out) == 4 && memcmp(out, "\1\2\3\4a\245", 6) == 0);
+    is(nepuladrim_build(97, BYTES("abc"), ends, 2, BYTES("\1\2\3\4"), image, sizeof image) == 220);
+
     // an accented value of as many bytes: two bytes of a wide string
     memset(out, 0xa5, sizeof out);
     is(nepuladrim_patch_string_replace(image, 220, 0, BYTES("cb"), BYTES("x"), out, sizeof out) == refused(14));

@@ -1,13 +1,17 @@
 // The product for callers in C and in Rust: numbers and slices in, one number out. Each function here
 // hands on to the one that it is named for.
 use bits::Answer;
+use format::Layout;
+use function_table::FunctionRead;
+use reader::StringRead;
 ghost use mathlib.Core.Path.{_≡_};
 ghost use lib.ListN.{length};
-ghost use Rattle.bits.specs.Outcome.{roomed};
+ghost use Rattle.bits.specs.Outcome.{made, roomed, Answers};
 ghost use Rattle.footer.specs.Finalize.{finalizeOf};
 ghost use Rattle.serialize.specs.Builder.{built};
 ghost use Rattle.strings.specs.Patch.{patchById, patchByValue};
 ghost use Rattle.functions.specs.Patch.{patchBody};
+ghost use Rattle.hbc.specs.Reads.{stringReading, bodyReading};
 ghost use Rattle.hbc.specs.Numbers.{admitNumber, numbered, Codes, stated};
 
 // A layout byte is at most that.
@@ -132,4 +136,59 @@ pub extern "C" fn nepuladrim_patch_function_bytes(
         body,
         out,
     ))
+}
+
+// ---- readings
+
+// Bytes at the front of a buffer.
+fn copied(bytes: &[u8], out: &mut [u8]) -> Answer
+    ensures { λ r. ⌜ Answers (roomed (length (now (out .entry))) (made (now (bytes .entry)))) r (now (out .entry)) (now (out .exit)) ⌝ }
+{
+    if out.len() < bytes.len() {
+        return Answer::Refused(13);
+    }
+    bits::put_bytes(out, 0, bytes);
+    Answer::Length(bytes.len())
+}
+
+fn read_string(image: &[u8], layout: Layout, id: usize, out: &mut [u8]) -> Answer
+    ensures { λ r. ⌜ Answers (roomed (length (now (out .entry))) (stringReading layout (now (image .entry)) id)) r (now (out .entry)) (now (out .exit)) ⌝ }
+{
+    let read = reader::string(image, layout, id);
+    match read {
+        StringRead::Found(_) => copied(reader::string_bytes(image, layout, id), out),
+        StringRead::Refused(n) => Answer::Refused(n),
+    }
+}
+
+fn read_body(image: &[u8], layout: Layout, id: usize, out: &mut [u8]) -> Answer
+    ensures { λ r. ⌜ Answers (roomed (length (now (out .entry))) (bodyReading layout (now (image .entry)) id)) r (now (out .entry)) (now (out .exit)) ⌝ }
+{
+    let read = reader::body(image, layout, id);
+    match read {
+        FunctionRead::Found(_) => copied(reader::body_bytes(image, layout, id), out),
+        FunctionRead::Refused(n) => Answer::Refused(n),
+    }
+}
+
+// The bytes of string `id`: ASCII where it is narrow, else UTF-16, low byte first.
+#[no_mangle]
+pub extern "C" fn nepuladrim_string(image: &[u8], layout: u8, id: u32, out: &mut [u8]) -> u64
+    ensures { λ r. ⌜ Codes (stated layout (λ l. roomed (length (now (out .entry))) (stringReading l (now (image .entry)) id))) r (now (out .entry)) (now (out .exit)) ⌝ }
+{
+    if LAST_LAYOUT < layout {
+        return NO_LAYOUT;
+    }
+    number(read_string(image, input_records::layout_of(layout), id as usize, out))
+}
+
+// The bytes of the body of function `id`.
+#[no_mangle]
+pub extern "C" fn nepuladrim_body(image: &[u8], layout: u8, id: u32, out: &mut [u8]) -> u64
+    ensures { λ r. ⌜ Codes (stated layout (λ l. roomed (length (now (out .entry))) (bodyReading l (now (image .entry)) id))) r (now (out .entry)) (now (out .exit)) ⌝ }
+{
+    if LAST_LAYOUT < layout {
+        return NO_LAYOUT;
+    }
+    number(read_body(image, input_records::layout_of(layout), id as usize, out))
 }
