@@ -3,15 +3,15 @@ use mathlib.Core.Path.{_≡_, ap, sym, _∙_}
 use mathlib.Core.List.{List}
 use Prim.Native.Nat.{ℕ, _+_, _≤_, _<_}
 use native.Mathlib.Omega.{arith}
-use borrow.Author.Tests.{ltb-false, not-false}
+use borrow.Author.Tests.{ltb-false}
 use lib.ListN.{length}
-use Rattle.bits.proofs.JudgeLaws.{judge-pass}
 use Rattle.format.specs.declared.Layout.{Layout}
 use Rattle.footer.specs.Footer.{footerLength}
 use Rattle.footer.specs.Finalize.{sizeLimit}
 use Rattle.image.specs.Sections.{functionsIn, tailAt}
 use Rattle.image.specs.Functions.{Func, funcOf}
-use Rattle.image.specs.Admission.{headersIn, bodiesIn, bodiesApart, checks, refusal}
+use Rattle.image.specs.Admission.{refusal}
+use Rattle.image.proofs.AdmitLaws.{Passed, passed}
 use Rattle.image.proofs.PlaceLaws.{ordered}
 use Rattle.image.proofs.CheckLaws.{bodies-in}
 use Rattle.sections.specs.declared.Places.{Places}
@@ -24,29 +24,13 @@ use Rattle.functions.specs.Stages.{Admits}
 
 module _ (l : Layout) (s : List ℕ) where
   pub admits : refusal l s ≡ 0 → Admits l s
-  unfolding refusal checks
   admits e =
-      let (short, e₁) = judge-pass _ _ (omega arith) e in
-      let (long, e₂) = judge-pass _ _ (omega arith) e₁ in
-      let (magic, e₃) = judge-pass _ _ (omega arith) e₂ in
-      let (room, e₄) = judge-pass _ _ (omega arith) e₃ in
-      let (kinds, e₅) = judge-pass _ _ (omega arith) e₄ in
-      let (identifiers, e₆) = judge-pass _ _ (omega arith) e₅ in
-      let (counted, e₇) = judge-pass _ _ (omega arith) e₆ in
-      let (numbered, e₈) = judge-pass _ _ (omega arith) e₇ in
-      let (stored, e₉) = judge-pass _ _ (omega arith) e₈ in
-      let (narrow, e₁₀) = judge-pass _ _ (omega arith) e₉ in
-      let (headers, e₁₁) = judge-pass _ _ (omega arith) e₁₀ in
-      let (bodies, e₁₂) = judge-pass _ _ (omega arith) e₁₁ in
-      let (infos, e₁₃) = judge-pass _ _ (omega arith) e₁₂ in
-      let (debug, e₁₄) = judge-pass _ _ (omega arith) e₁₃ in
-      let (apart, e₁₅) = judge-pass _ _ (omega arith) e₁₄ in
-      let (clear, e₁₆) = judge-pass _ _ (omega arith) e₁₅ in
+      let t : Passed l s = passed l s e in
       record {
-        fits = record { most = ltb-false sizeLimit (length s) long; room = ltb-false (length s) (tailAt l s + footerLength) room };
-        headers = not-false (headersIn l s) headers;
-        bodies = not-false (bodiesIn l s) bodies;
-        clear = not-false (bodiesApart l s) clear;
+        fits = record { most = ltb-false sizeLimit (length s) (t .long); room = ltb-false (length s) (tailAt l s + footerLength) (t .room) };
+        headers = t .headers;
+        bodies = t .bodies;
+        clear = t .clear;
       }
 
   module _ (ok : Admits l s) where

@@ -1,9 +1,11 @@
 -- An image that is not refused is admitted, and the other way round.
 use mathlib.Core.Path.{_≡_}
+use mathlib.Core.Bool.{true, false}
 use mathlib.Core.List.{List}
 use Prim.Native.Nat.{ℕ, _+_, _<_}
 use native.Mathlib.Omega.{arith}
 use borrow.Author.Tests.{ltb-false, le-ltb, eqb-true, eq-eqb, not-false}
+use lib.Dec.{ltb, eqb}
 use lib.ListN.{length, getD}
 use Rattle.bits.specs.Choice.{judge}
 use Rattle.bits.specs.Bytes.{numberAt}
@@ -18,10 +20,29 @@ use Rattle.image.specs.Admission.{overflowsCounted, overflowsNumbered, s
 use Rattle.image.specs.Admitted.{Admitted}
 use Rattle.image.proofs.CheckLaws.{overflows-counted, overflows-numbered, strings-stored, strings-narrow, headers-in, bodies-in, infos-in, debug-in, headers-apart, bodies-apart}
 
+-- every test of admission is passed
+pub record Passed (l : Layout) (s : List ℕ) : Type 0 where
+  pub short : ltb (length s) (table.recordRow l .at + footerLength) ≡ false
+  pub long : ltb sizeLimit (length s) ≡ false
+  pub magic : eqb (numberAt s (table.magic .at) (table.magic .width)) table.magicNumber ≡ true
+  pub room : ltb (length s) (tailAt l s + footerLength) ≡ false
+  pub kinds : eqb (covered (kindIn l s) (kindsIn s)) (stringsIn s) ≡ true
+  pub identifiers : eqb (identified (kindIn l s) (kindsIn s)) (identifiersIn s) ≡ true
+  pub counted : overflowsCounted l s ≡ true
+  pub numbered : overflowsNumbered l s ≡ true
+  pub stored : stringsStored l s ≡ true
+  pub narrow : stringsNarrow l s ≡ true
+  pub headers : headersIn l s ≡ true
+  pub bodies : bodiesIn l s ≡ true
+  pub infos : infosIn l s ≡ true
+  pub debug : debugInTail l s ≡ true
+  pub apart : headersApart l s ≡ true
+  pub clear : bodiesApart l s ≡ true
+
 module _ (l : Layout) (s : List ℕ) where
-  pub admitted : ((p : ℕ) → getD s p 0 < 256) → refusal l s ≡ 0 → Admitted l s
+  pub passed : refusal l s ≡ 0 → Passed l s
   unfolding refusal checks
-  admitted bytes e =
+  passed e =
       let (short, e₁) = judge-pass _ _ (omega arith) e in
       let (long, e₂) = judge-pass _ _ (omega arith) e₁ in
       let (magic, e₃) = judge-pass _ _ (omega arith) e₂ in
@@ -39,23 +60,45 @@ module _ (l : Layout) (s : List ℕ) where
       let (apart, e₁₅) = judge-pass _ _ (omega arith) e₁₄ in
       let (clear, e₁₆) = judge-pass _ _ (omega arith) e₁₅ in
       record {
+        short = short;
+        long = long;
+        magic = not-false _ magic;
+        room = room;
+        kinds = not-false _ kinds;
+        identifiers = not-false _ identifiers;
+        counted = not-false (overflowsCounted l s) counted;
+        numbered = not-false (overflowsNumbered l s) numbered;
+        stored = not-false (stringsStored l s) stored;
+        narrow = not-false (stringsNarrow l s) narrow;
+        headers = not-false (headersIn l s) headers;
+        bodies = not-false (bodiesIn l s) bodies;
+        infos = not-false (infosIn l s) infos;
+        debug = not-false (debugInTail l s) debug;
+        apart = not-false (headersApart l s) apart;
+        clear = not-false (bodiesApart l s) clear;
+      }
+
+  pub admitted : ((p : ℕ) → getD s p 0 < 256) → refusal l s ≡ 0 → Admitted l s
+  admitted bytes e =
+      let t : Passed l s = passed e in
+      record {
         bytes = bytes;
-        least = ltb-false (length s) (table.recordRow l .at + footerLength) short;
-        most = ltb-false sizeLimit (length s) long;
-        magic = eqb-true (numberAt s (table.magic .at) (table.magic .width)) table.magicNumber (not-false _ magic);
-        room = ltb-false (length s) (tailAt l s + footerLength) room;
-        covers = eqb-true (covered (kindIn l s) (kindsIn s)) (stringsIn s) (not-false _ kinds);
-        identifiers = eqb-true (identified (kindIn l s) (kindsIn s)) (identifiersIn s) (not-false _ identifiers);
-        overflows = overflows-counted l s .holds (not-false (overflowsCounted l s) counted);
-        numbered = overflows-numbered l s .holds (not-false (overflowsNumbered l s) numbered);
-        stored = strings-stored l s .holds (not-false (stringsStored l s) stored);
-        narrow = λ i h w j k. omega (arith, strings-narrow l s .holds (not-false (stringsNarrow l s) narrow) i h w j k);
-        header = headers-in l s .holds (not-false (headersIn l s) headers);
-        body = bodies-in l s .holds (not-false (bodiesIn l s) bodies);
-        info = infos-in l s .holds (not-false (infosIn l s) infos);
-        debug = debug-in l s .holds (not-false (debugInTail l s) debug);
-        apart = λ i j h k. headers-apart l s .holds (not-false (headersApart l s) apart) i h j k;
-        clear = λ i j h k. bodies-apart l s .holds (not-false (bodiesApart l s) clear) i h j k;
+        least = ltb-false (length s) (table.recordRow l .at + footerLength) (t .short);
+        most = ltb-false sizeLimit (length s) (t .long);
+        magic = eqb-true (numberAt s (table.magic .at) (table.magic .width)) table.magicNumber (t .magic);
+        room = ltb-false (length s) (tailAt l s + footerLength) (t .room);
+        covers = eqb-true (covered (kindIn l s) (kindsIn s)) (stringsIn s) (t .kinds);
+        identifiers = eqb-true (identified (kindIn l s) (kindsIn s)) (identifiersIn s) (t .identifiers);
+        overflows = overflows-counted l s .holds (t .counted);
+        numbered = overflows-numbered l s .holds (t .numbered);
+        stored = strings-stored l s .holds (t .stored);
+        narrow = λ i h w j k. omega (arith, strings-narrow l s .holds (t .narrow) i h w j k);
+        header = headers-in l s .holds (t .headers);
+        body = bodies-in l s .holds (t .bodies);
+        info = infos-in l s .holds (t .infos);
+        debug = debug-in l s .holds (t .debug);
+        apart = λ i j h k. headers-apart l s .holds (t .apart) i h j k;
+        clear = λ i j h k. bodies-apart l s .holds (t .clear) i h j k;
       }
 
   pub not-refused : Admitted l s → refusal l s ≡ 0
