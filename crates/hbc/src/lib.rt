@@ -11,6 +11,7 @@ ghost use Rattle.footer.specs.Finalize.{finalizeOf};
 ghost use Rattle.serialize.specs.Builder.{built};
 ghost use Rattle.strings.specs.Patch.{patchById, patchByValue};
 ghost use Rattle.functions.specs.Patch.{patchBody};
+ghost use Rattle.lister.specs.Listing.{listingPart};
 ghost use Rattle.hbc.specs.Reads.{stringReading, bodyReading};
 ghost use Rattle.hbc.specs.Numbers.{admitNumber, numbered, Codes, stated};
 
@@ -191,4 +192,15 @@ pub extern "C" fn nepuladrim_body(image: &[u8], layout: u8, id: u32, out: &mut [
         return NO_LAYOUT;
     }
     number(read_body(image, input_records::layout_of(layout), id as usize, out))
+}
+
+// A part of the listing of an image: from byte `from` on, as much as there is room for.
+#[no_mangle]
+pub extern "C" fn nepuladrim_list(image: &[u8], layout: u8, from: usize, out: &mut [u8]) -> u64
+    ensures { λ r. ⌜ Codes (stated layout (λ l. listingPart (length (now (out .entry))) from l (now (image .entry)))) r (now (out .entry)) (now (out .exit)) ⌝ }
+{
+    if LAST_LAYOUT < layout {
+        return NO_LAYOUT;
+    }
+    number(lister::list(image, input_records::layout_of(layout), from, out))
 }

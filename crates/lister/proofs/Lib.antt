@@ -1,3 +1,4 @@
 pub mod PieceLaws
 pub mod ListingLaws
 pub mod PointLaws
+pub mod PartLaws

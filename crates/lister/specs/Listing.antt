@@ -3,8 +3,9 @@ use mathlib.Core.Bool.{Bool}
 use mathlib.Core.List.{List, [], _∷_, _++_}
 use Prim.Native.Nat.{ℕ, zero, suc, _+_}
 use lib.Dec.{eqb}
-use lib.ListN.{length, drop}
+use lib.ListN.{length, take, drop}
 use Rattle.bits.specs.Choice.{pick}
+use Rattle.bits.specs.Outcome.{Outcome, refused, made}
 use Rattle.format.specs.declared.Layout.{Layout}
 use Rattle.image.specs.Sections.{functionsIn, stringsIn}
 use Rattle.image.specs.Strings.{stringOf, unitsOf}
@@ -37,6 +38,10 @@ listed l s =
 -- an image's lines, or its refusal
 unfoldable pub imageListing : Layout → List ℕ → List ℕ
 imageListing l s = pick (eqb (refusal l s) 0) (listed l s) (refusedLine (refusal l s))
+
+-- a part of an image's lines, for a buffer of `room` bytes: from byte `from` on; or the image's refusal
+unfoldable pub listingPart : ℕ → ℕ → Layout → List ℕ → Outcome
+listingPart room from l s = pick (eqb (refusal l s) 0) (made (take room (drop from (listed l s)))) (refused (refusal l s))
 
 -- 15 comes before all others: the record is judged first, then whether it ends where the input does
 abbrev pub recordListing : ImageHead → List ℕ → List ℕ

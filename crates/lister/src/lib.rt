@@ -2,21 +2,25 @@
 // strings may share storage. A piece goes to a lent buffer, and a point says where the listing goes
 // on. The points carry along what a pass over the strings counts, so that each table is read once.
 use admission::Admission;
+use bits::Answer;
 use format::Layout;
 use input_records::ImageHead;
 use reader::Cursor;
 use reader::StringPlace;
 use sections::Places;
 ghost use mathlib.Core.Path.{_≡_};
-ghost use Prim.Native.Nat.{_+_, _≤_};
+ghost use Prim.Native.Nat.{_+_, _-_, _≤_};
 ghost use lib.Dec.{ltb};
-ghost use lib.ListN.{length};
+ghost use lib.ListN.{length, take, drop};
 ghost use Rattle.bits.specs.Choice.{pick};
+ghost use Rattle.bits.specs.Outcome.{Answers};
 ghost use Rattle.image.specs.Admitted.{Admitted};
 ghost use Rattle.sections.specs.Places.{Placed};
 ghost use Rattle.input_records.specs.declared.ImageHead.the-variants.{Image};
 ghost use Rattle.reader.specs.Reading.{CursorOf};
+ghost use Rattle.text.specs.Text.{Wrote};
 ghost use Rattle.lister.specs.declared.Point.the-variants.{Counts, Strings, Units, Functions};
+ghost use Rattle.lister.specs.Listing.{listed, listingPart};
 ghost use Rattle.lister.specs.Pieces.{openedRecord, opened, isEnd, spotOf, Good, Gives, GivesAll};
 
 // What an input is: one record with an admitted image, or refused.
@@ -233,4 +237,68 @@ pub fn put_pieces(image: &[u8], p: Places, from: Point, out: &mut [u8]) -> Piece
         end: at,
         next: point,
     }
+}
+
+// ---- a part of the listing, for callers that lend a buffer of any length
+
+// What is left of `a` without `b`, or nothing.
+fn less(a: usize, b: usize) -> usize
+    ensures { λ r. ⌜ r ≡ a - b ⌝ }
+{
+    if a < b { 0 } else { a - b }
+}
+
+// What stands in a text behind `skip` bytes goes to a place of a buffer, as much as there is room for.
+fn put_rest(text: &[u8], skip: usize, out: &mut [u8], at: usize) -> usize
+    requires { ⌜ at ≤ length (now out) ⌝ }
+    ensures { λ r. ⌜ Wrote (now (out .entry)) at (take (length (now (out .entry)) - at) (drop skip (now (text .entry)))) r (now (out .exit)) ⌝ }
+{
+    if text.len() <= skip {
+        return at;
+    }
+    let n = least(text.len() - skip, out.len() - at);
+    bits::put_bytes(out, at, &text[skip..skip + n]);
+    at + n
+}
+
+// The lines of an admitted image from byte `from` on, as many bytes as there is room for.
+fn put_lines(image: &[u8], p: Places, from: usize, room: &mut [u8], out: &mut [u8]) -> usize
+    requires { ⌜ Placed p (now image) × Admitted (p .layout) (now image) ⌝ }
+    requires { ⌜ 65536 ≤ length (now room) ⌝ }
+    ensures { λ r. ⌜ Wrote (now (out .entry)) 0 (take (length (now (out .entry))) (drop from (listed (p .layout) (now (image .entry))))) r (now (out .exit)) ⌝ }
+{
+    let mut point = Point::Counts;
+    let mut skip = from;
+    let mut at = 0;
+    while !is_end(point) {
+        if out.len() <= at {
+            return at;
+        }
+        let piece = put_pieces(image, p, point, room);
+        let end = piece.end;
+        at = put_rest(&room[0..end], skip, out, at);
+        skip = less(skip, end);
+        let next = piece.next;
+        point = next;
+    }
+    at
+}
+
+fn put_part(image: &[u8], p: Places, from: usize, room: &mut [u8; ROOM], out: &mut [u8]) -> usize
+    requires { ⌜ Placed p (now image) × Admitted (p .layout) (now image) ⌝ }
+    ensures { λ r. ⌜ Wrote (now (out .entry)) 0 (take (length (now (out .entry))) (drop from (listed (p .layout) (now (image .entry))))) r (now (out .exit)) ⌝ }
+{
+    put_lines(image, p, from, room, out)
+}
+
+// A part of an image's listing, from byte `from` on; it ends with the listing or with the buffer.
+pub fn list(image: &[u8], layout: Layout, from: usize, out: &mut [u8]) -> Answer
+    ensures { λ r. ⌜ Answers (listingPart (length (now (out .entry))) from layout (now (image .entry))) r (now (out .entry)) (now (out .exit)) ⌝ }
+{
+    let answer = admission::admit(image, layout);
+    let Admission::Laid(p) = answer else {
+        return Answer::Refused(admission::number_of(answer));
+    };
+    let mut room = [0u8; ROOM];
+    Answer::Length(put_part(image, p, from, &mut room, out))
 }

@@ -1,0 +1,16 @@
+use borrow.Author.Needs.{needs}
+use Rattle.hbc.proofs.nepuladrim_list.Statement.{statement}
+use Rattle.hbc.proofs.nepuladrim_list.Tie as tie
+use native.Mathlib.Omega.{arith}
+use Rattle.hbc.proofs.NumberLaws.{no-layout-codes, layout-codes}
+
+returns : tie.Need-returns
+returns c = no-layout-codes _ _ _ (omega arith)
+
+returns-2 : tie.Need-returns-2
+returns-2 c = layout-codes _ _ _ _ _ _ _ (omega arith) (c .before .before .before .before .before .layout-of .ensures) (c .before .before .before .list .ensures) (c .number .ensures)
+
+pub nepuladrim-list-spec : {M : Type 1} → statement M
+nepuladrim-list-spec =
+    tie.close
+    (tie.spec returns (λ c κs. search needs) (λ c κs. search needs) (λ c κs. search needs) (λ c. search needs) returns-2)
