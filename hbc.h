@@ -46,4 +46,8 @@ uint64_t nepuladrim_patch_string_replace(const uint8_t *image, size_t image_leng
 uint64_t nepuladrim_patch_function_bytes(const uint8_t *image, size_t image_length, uint8_t layout, uint32_t id,
                                          const uint8_t *body, size_t body_length, uint8_t *out, size_t out_length);
 
+// A part of the listing of an image, from byte `from` on: its strings and functions as text, as much as there is room for, at most
+// 67,108,864 bytes. A part that is shorter than both is the last. Refused with 15, 1 to 6.
+uint64_t nepuladrim_list(const uint8_t *image, size_t image_length, uint8_t layout, size_t from, uint8_t *out, size_t out_length);
+
 #endif

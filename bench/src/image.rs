@@ -31,15 +31,15 @@ fn string(i: usize) -> (bool, Vec<u8>) {
     (wide, (0..length / 2 * 2).map(|j| b'a' + ((i + j) % 26) as u8).collect())
 }
 
-/// The header, the records, one kind for every string, the small table, storage, padding.
-fn sections(shape: &Shape, count: usize) -> Vec<u8> {
-    let kinds = 128 + count * shape.record;
+/// The header, the records, one kind for all strings, the small table, storage, padding.
+fn sections(shape: &Shape, functions: usize, strings: usize) -> Vec<u8> {
+    let kinds = 128 + functions * shape.record;
     let small = kinds + 4;
-    let storage = small + 4 * count;
+    let storage = small + 4 * strings;
     let mut image = vec![0; storage];
     image[..8].copy_from_slice(&0x1F19_03C1_03BC_1FC6u64.to_le_bytes());
-    put(&mut image, kinds, count);
-    for i in 0..count {
+    put(&mut image, kinds, strings);
+    for i in 0..strings {
         let (wide, bytes) = string(i);
         let length = if wide { bytes.len() / 2 } else { bytes.len() };
         let offset = image.len() - storage;
@@ -47,7 +47,7 @@ fn sections(shape: &Shape, count: usize) -> Vec<u8> {
         image.extend(bytes);
     }
     let size = image.len() - storage;
-    for (at, word) in [(40, count), (44, 1), (52, count), (60, size)] {
+    for (at, word) in [(40, functions), (44, 1), (52, strings), (60, size)] {
         put(&mut image, at, word);
     }
     image.resize(image.len().next_multiple_of(4), 0);
@@ -65,10 +65,10 @@ fn record(shape: &Shape, header: Option<usize>, body: usize, size: usize) -> u12
 }
 
 /// Bodies have 8 to 31 bytes, and as many more as stated.
-pub fn image(shape: &Shape, count: usize, more: usize) -> Vec<u8> {
-    let mut image = sections(shape, count);
+pub fn image(shape: &Shape, functions: usize, strings: usize, more: usize) -> Vec<u8> {
+    let mut image = sections(shape, functions, strings);
     let size = |i: usize| more + 8 + i * 5 % 24;
-    let bodies: Vec<usize> = (0..count)
+    let bodies: Vec<usize> = (0..functions)
         .map(|i| {
             let at = image.len();
             image.resize(at + size(i), 0x5c);
@@ -76,7 +76,7 @@ pub fn image(shape: &Shape, count: usize, more: usize) -> Vec<u8> {
         })
         .collect();
     image.resize(image.len().next_multiple_of(4), 0);
-    for i in 0..count {
+    for i in 0..functions {
         let header = (shape.is_large)(i).then_some(image.len());
         if let Some(at) = header {
             image.resize(at + shape.large, 0);

@@ -148,8 +148,13 @@ def lines(data):
     length = word(data, 3)
     if length > IMAGE_MOST or len(data) != 7 + length:
         raise Refused(15)
-    image = Image(data[7:], data[2])
-    yield f"image {length} {len(image.strings)} {len(image.functions)}"
+    yield from image_lines(data[7:], data[2])
+
+
+def image_lines(data, layout):
+    """The lines of an image of any length."""
+    image = Image(data, layout)
+    yield f"image {len(data)} {len(image.strings)} {len(image.functions)}"
     for i, (wide, units) in enumerate(image.strings):
         kind = "i" if image.identifiers[i] else "s"
         text = "".join(f"{unit:04x}" for unit in units) or "-"
@@ -158,7 +163,7 @@ def lines(data):
         yield f"f {i} {'o' if large else 'p'} {start} {size}"
 
 
-def listing(data):
+def listing(data, lines=lines):
     try:
         printed = list(lines(data))
     except Refused as refusal:

@@ -63,6 +63,24 @@ int main(void) {
     is(nepuladrim_body(image, 224, 0, 0, out, sizeof out) == 4 && memcmp(out, "\1\2\3\4a\245", 6) == 0);
     is(nepuladrim_build(97, BYTES("abc"), ends, 2, BYTES("\1\2\3\4"), image, sizeof image) == 220);
 
+    // the listing, whole and in parts
+    const char lines[] = "image 220 2 1\ns 0 n s 1 0061\ns 1 n s 2 00620063\nf 0 o 156 4\n";
+    const size_t all = sizeof lines - 1;
+    memset(out, 0xa5, sizeof out);
+    is(nepuladrim_list(image, 220, 5, 0, out, sizeof out) == refused(15));
+    is(nepuladrim_list(image, 147, 0, 0, out, sizeof out) == refused(1));
+    is(nepuladrim_list(image, 220, 0, all, out, sizeof out) == 0);
+    is(nepuladrim_list(image, 220, 0, SIZE_MAX, out, sizeof out) == 0);
+    is(nepuladrim_list(image, 220, 0, 0, out, 0) == 0);
+    is(untouched());
+    is(nepuladrim_list(image, 220, 0, 0, out, sizeof out) == all && memcmp(out, lines, all) == 0 && out[all] == 0xa5);
+    memset(out, 0xa5, sizeof out);
+    for (size_t from = 0; from < all; from += 7) {
+        const size_t left = all - from < 7 ? all - from : 7;
+        is(nepuladrim_list(image, 220, 0, from, out + from, 7) == left);
+    }
+    is(memcmp(out, lines, all) == 0 && out[all] == 0xa5);
+
     // an accented value of as many bytes: two bytes of a wide string
     memset(out, 0xa5, sizeof out);
     is(nepuladrim_patch_string_replace(image, 220, 0, BYTES("cb"), BYTES("x"), out, sizeof out) == refused(14));

@@ -104,7 +104,7 @@ fn main() {
         return large::compare();
     }
     let (shape, count): (_, usize) = (shape(&words[3]), words[4].parse().unwrap());
-    let image = image(&shape, count, more(&words[3]));
+    let image = image(&shape, count, count, more(&words[3]));
     let middle = count as u32 / 2;
     let reading = Reading { layout: Layout(shape.layout), image: &image, slip: None };
     let size = match words[2].as_str() {

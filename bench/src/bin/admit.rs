@@ -15,7 +15,8 @@ extern "C" {
 fn main() {
     let words: Vec<String> = std::env::args().collect();
     let shape = shape(&words[1]);
-    let image = image(&shape, words[2].parse().unwrap(), 0);
+    let count = words[2].parse().unwrap();
+    let image = image(&shape, count, count, 0);
     let repeats: usize = words[3].parse().unwrap();
     let mut answer = 0;
     for _ in 0..repeats {

@@ -11,7 +11,7 @@ ghost use Rattle.footer.specs.Finalize.{finalizeOf};
 ghost use Rattle.serialize.specs.Builder.{built};
 ghost use Rattle.strings.specs.Patch.{patchById, patchByValue};
 ghost use Rattle.functions.specs.Patch.{patchBody};
-ghost use Rattle.lister.specs.Listing.{listingPart};
+ghost use Rattle.lister.specs.Listing.{partRoom, listingPart};
 ghost use Rattle.hbc.specs.Reads.{stringReading, bodyReading};
 ghost use Rattle.hbc.specs.Numbers.{admitNumber, numbered, Codes, stated};
 
@@ -197,7 +197,7 @@ pub extern "C" fn nepuladrim_body(image: &[u8], layout: u8, id: u32, out: &mut [
 // A part of the listing of an image: from byte `from` on, as much as there is room for.
 #[no_mangle]
 pub extern "C" fn nepuladrim_list(image: &[u8], layout: u8, from: usize, out: &mut [u8]) -> u64
-    ensures { λ r. ⌜ Codes (stated layout (λ l. listingPart (length (now (out .entry))) from l (now (image .entry)))) r (now (out .entry)) (now (out .exit)) ⌝ }
+    ensures { λ r. ⌜ Codes (stated layout (λ l. listingPart (partRoom (length (now (out .entry)))) from l (now (image .entry)))) r (now (out .entry)) (now (out .exit)) ⌝ }
 {
     if LAST_LAYOUT < layout {
         return NO_LAYOUT;

@@ -27,7 +27,7 @@ use Rattle.text.specs.Text.{Wrote}
 use Rattle.lister.specs.declared.Point.{Point}
 use Rattle.lister.specs.declared.Point.the-variants.{Counts}
 use Rattle.lister.specs.declared.Piece.{Piece}
-use Rattle.lister.specs.Listing.{listed, listingPart}
+use Rattle.lister.specs.Listing.{listed, partRoom, listingPart}
 use Rattle.lister.specs.Pieces.{Spot, counts, strings, units, functions, end, left, pieces, after, isEnd, batch, spotOf, Good, GivesAll}
 use Rattle.lister.proofs.PieceLaws.{pieces-left}
 
@@ -70,10 +70,10 @@ part-short k n a = go (below-or n (length (drop k a)))
 -- ---- as the code copies it
 
 -- nothing is left of the text
-pub no-rest : (text old : List ℕ) (k at : ℕ) → length text ≤ k → Wrote old at (part k (length old - at) text) at old
-no-rest text old k at h =
+pub no-rest : (text old : List ℕ) (k at limit : ℕ) → length text ≤ k → Wrote old at (part k (limit - at) text) at old
+no-rest text old k at limit h =
     let none : drop k text ≡ [] = drop-of-length-le text h in
-    rw (none, take-nil (length old - at)) (omega arith, refl)
+    rw (none, take-nil (limit - at)) (omega arith, refl)
 
 -- a part from a to a + n, as the code cuts it
 cut : (a n : ℕ) (text : List ℕ) → take (a + n - a) (drop a text) ≡ take n (drop a text)
@@ -83,42 +83,42 @@ pub cut-length : (a n : ℕ) (text : List ℕ) → length (take n (drop a text))
 cut-length a n text h = ap length (cut a n text) ∙ h
 
 -- so much of it as there is and as there is room for
-abbrev Copied : List ℕ → List ℕ → ℕ → ℕ → ℕ → Type 0
-Copied text old k at n = (n ≤ length text - k) × (n ≤ length old - at) × (take n (drop k text) ≡ part k (length old - at) text) × (length (take n (drop k text)) ≡ n)
+abbrev Copied : List ℕ → ℕ → ℕ → ℕ → ℕ → Type 0
+Copied text k at limit n = (n ≤ length text - k) × (n ≤ limit - at) × (take n (drop k text) ≡ part k (limit - at) text) × (length (take n (drop k text)) ≡ n)
 
-pub rest-copied : (text old : List ℕ) (k at n : ℕ) → k < length text → n ≡ pick (ltb (length text - k) (length old - at)) (length text - k) (length old - at)
-    → Copied text old k at n
-rest-copied text old k at n h e = go (below-or (length text - k) (length old - at))
+pub rest-copied : (text : List ℕ) (k at limit n : ℕ) → k < length text → n ≡ pick (ltb (length text - k) (limit - at)) (length text - k) (limit - at)
+    → Copied text k at limit n
+rest-copied text k at limit n h e = go (below-or (length text - k) (limit - at))
   where
-    go : (length text - k < length old - at) ⊎ (length old - at ≤ length text - k) → Copied text old k at n
+    go : (length text - k < limit - at) ⊎ (limit - at ≤ length text - k) → Copied text k at limit n
     go (inl b) =
-        let m : n ≡ length text - k = e ∙ rw (lt-ltb (length text - k) (length old - at) b) in
+        let m : n ≡ length text - k = e ∙ rw (lt-ltb (length text - k) (limit - at) b) in
         let d : length (drop k text) ≡ length text - k = length-drop k text in
-        (omega arith, omega arith, take-all n (drop k text) (omega arith) ∙ sym (take-all (length old - at) (drop k text) (omega arith)), length-take-le n (drop k text) (omega arith))
+        (omega arith, omega arith, take-all n (drop k text) (omega arith) ∙ sym (take-all (limit - at) (drop k text) (omega arith)), length-take-le n (drop k text) (omega arith))
     go (inr b) =
-        let m : n ≡ length old - at = e ∙ rw (le-ltb (length text - k) (length old - at) b) in
+        let m : n ≡ limit - at = e ∙ rw (le-ltb (length text - k) (limit - at) b) in
         let d : length (drop k text) ≡ length text - k = length-drop k text in
         (omega arith, omega arith, ap (λ (j : ℕ). take j (drop k text)) m, length-take-le n (drop k text) (omega arith))
 
-pub rest-written : (text old new : List ℕ) (k at n : ℕ) → k < length text → n ≡ pick (ltb (length text - k) (length old - at)) (length text - k) (length old - at)
-    → new ≡ sets old at (take (k + n - k) (drop k text)) → Wrote old at (part k (length old - at) text) (at + n) new
-rest-written text old new k at n h e w =
-    let f = rest-copied text old k at n h e in
+pub rest-written : (text old new : List ℕ) (k at limit n : ℕ) → k < length text → n ≡ pick (ltb (length text - k) (limit - at)) (length text - k) (limit - at)
+    → new ≡ sets old at (take (k + n - k) (drop k text)) → Wrote old at (part k (limit - at) text) (at + n) new
+rest-written text old new k at limit n h e w =
+    let f = rest-copied text k at limit n h e in
     (ap (λ (j : ℕ). at + j) (sym (f .3) ∙ ap length (f .2)), w ∙ ap (sets old at) (cut k n text ∙ f .2))
 
 -- ---- the loop over batches
 
-pub record Copying (p : Places) (s out₀ : List ℕ) (from : ℕ) (out : List ℕ) (x : Point) (skip at : ℕ) : Type 0 where
+pub record Copying (p : Places) (s out₀ : List ℕ) (from limit : ℕ) (out : List ℕ) (x : Point) (skip at : ℕ) : Type 0 where
   pub same : length out ≡ length out₀
-  pub room : at ≤ length out
+  pub room : at ≤ limit
   pub good : Good p s x
-  pub text : sets out at (part skip (length out - at) (left (p .layout) s (spotOf x))) ≡ sets out₀ 0 (part from (length out₀) (listed (p .layout) s))
-  pub size : at + length (part skip (length out - at) (left (p .layout) s (spotOf x))) ≡ length (part from (length out₀) (listed (p .layout) s))
+  pub text : sets out at (part skip (limit - at) (left (p .layout) s (spotOf x))) ≡ sets out₀ 0 (part from limit (listed (p .layout) s))
+  pub size : at + length (part skip (limit - at) (left (p .layout) s (spotOf x))) ≡ length (part from limit (listed (p .layout) s))
 
-module _ (p : Places) (s out₀ : List ℕ) (from : ℕ) where
-  pub copying-first : Copying p s out₀ from out₀ Counts from 0
+module _ (p : Places) (s out₀ : List ℕ) (from limit : ℕ) where
+  pub copying-first : Copying p s out₀ from limit out₀ Counts from 0
   copying-first =
-      let e : length out₀ - 0 ≡ length out₀ = omega arith in
+      let e : limit - 0 ≡ limit = omega arith in
       record { same = refl; room = omega arith; good = tt; text = rw e; size = rw e (omega arith) }
 
   -- a batch in its room, of which the code takes the front
@@ -129,14 +129,14 @@ module _ (p : Places) (s out₀ : List ℕ) (from : ℕ) where
       let w : room′ ≡ ps ++ drop (0 + length ps) room = g .wrote .1 ∙ sets-eq ps room 0 (omega (arith, g .most)) in
       rw (w, n) (take-append-seam ps (drop (0 + length ps) room))
 
-  pub copying-next : (out : List ℕ) (x : Point) (skip at : ℕ) → Copying p s out₀ from out x skip at → (room room′ : List ℕ) (r : Piece) → GivesAll p s room x r room′
-      → (text out′ : List ℕ) (at′ : ℕ) → text ≡ take (r .end) room′ → length out′ ≡ length out → Wrote out at (part skip (length out - at) text) at′ out′
-      → Copying p s out₀ from out′ (r .next) (skip - r .end) at′
+  pub copying-next : (out : List ℕ) (x : Point) (skip at : ℕ) → Copying p s out₀ from limit out x skip at → (room room′ : List ℕ) (r : Piece) → GivesAll p s room x r room′
+      → (text out′ : List ℕ) (at′ : ℕ) → text ≡ take (r .end) room′ → length out′ ≡ length out → Wrote out at (part skip (limit - at) text) at′ out′
+      → Copying p s out₀ from limit out′ (r .next) (skip - r .end) at′
   copying-next out x skip at c room room′ r g text out′ at′ t k w =
       let l : Layout = p .layout in
       let a : List ℕ = pieces l s batch (spotOf x) in
       let b : List ℕ = left l s (spotOf (r .next)) in
-      let n : ℕ = length out - at in
+      let n : ℕ = limit - at in
       let ta : text ≡ a = t ∙ batch-front room room′ x r g in
       let ea : r .end ≡ length a = g .wrote .0 ∙ zero-add (length a) in
       let ab : left l s (spotOf x) ≡ a ++ b = pieces-left l s batch (spotOf x) ∙ ap (λ (y : Spot). a ++ left l s y) (sym (g .next)) in
@@ -145,12 +145,12 @@ module _ (p : Places) (s out₀ : List ℕ) (from : ℕ) where
       let uv : part skip n (left l s (spotOf x)) ≡ u ++ v = ap (part skip n) ab ∙ part-both skip n a b in
       let w0 : at′ ≡ at + length u = w .0 ∙ ap (λ (y : List ℕ). at + length (part skip n y)) ta in
       let w1 : out′ ≡ sets out at u = w .1 ∙ ap (λ (y : List ℕ). sets out at (part skip n y)) ta in
-      let room-left : length out′ - at′ ≡ n - length u = omega (arith, w0, k) in
+      let room-left : limit - at′ ≡ n - length u = omega (arith, w0) in
       let short : length u ≤ n = part-short skip n a in
-      let sv : part (skip - r .end) (length out′ - at′) b ≡ v = rw (ea, room-left) in
+      let sv : part (skip - r .end) (limit - at′) b ≡ v = rw (ea, room-left) in
       record {
         same = k ∙ c .same;
-        room = omega (arith, w0, k, short, c .room);
+        room = omega (arith, w0, short, c .room);
         good = g .good;
         text = rw (sv, w1, w0) (sym (sets-append u v out at) ∙ ap (sets out at) (sym uv) ∙ c .text);
         size = omega (arith, ap length sv, w0, length-append u v, ap length uv, c .size);
@@ -165,22 +165,42 @@ module _ (p : Places) (s out₀ : List ℕ) (from : ℕ) where
   none-left (functions i) e = let z : _≡_ {A = ℕ} 0 1 = cc in absurd (omega arith)
   none-left end e = refl
 
-  finished : (out : List ℕ) (x : Point) (skip at : ℕ) → Copying p s out₀ from out x skip at → part skip (length out - at) (left (p .layout) s (spotOf x)) ≡ []
-      → Wrote out₀ 0 (part from (length out₀) (listed (p .layout) s)) at out
+  finished : (out : List ℕ) (x : Point) (skip at : ℕ) → Copying p s out₀ from limit out x skip at → part skip (limit - at) (left (p .layout) s (spotOf x)) ≡ []
+      → Wrote out₀ 0 (part from limit (listed (p .layout) s)) at out
   finished out x skip at c e = (omega (arith, ap length e, c .size), sym (ap (sets out at) e) ∙ c .text)
 
-  pub copying-full : (out : List ℕ) (x : Point) (skip at : ℕ) → Copying p s out₀ from out x skip at → length out ≤ at
-      → Wrote out₀ 0 (part from (length out₀) (listed (p .layout) s)) at out
+  pub copying-full : (out : List ℕ) (x : Point) (skip at : ℕ) → Copying p s out₀ from limit out x skip at → limit ≤ at
+      → Wrote out₀ 0 (part from limit (listed (p .layout) s)) at out
   copying-full out x skip at c h =
-      let e : length out - at ≡ 0 = omega arith in
+      let e : limit - at ≡ 0 = omega arith in
       finished out x skip at c (rw e)
 
-  pub copying-last : (out : List ℕ) (x : Point) (skip at : ℕ) → Copying p s out₀ from out x skip at → (b : Bool) → b ≡ isEnd (spotOf x) → not b ≡ false
-      → Wrote out₀ 0 (part from (length out₀) (listed (p .layout) s)) at out
-  copying-last out x skip at c true e h = finished out x skip at c (rw (none-left (spotOf x) (sym e), drop-nil {A = ℕ} skip) (take-nil (length out - at)))
+  pub copying-last : (out : List ℕ) (x : Point) (skip at : ℕ) → Copying p s out₀ from limit out x skip at → (b : Bool) → b ≡ isEnd (spotOf x) → not b ≡ false
+      → Wrote out₀ 0 (part from limit (listed (p .layout) s)) at out
+  copying-last out x skip at c true e h = finished out x skip at c (rw (none-left (spotOf x) (sym e), drop-nil {A = ℕ} skip) (take-nil (limit - at)))
   copying-last out x skip at c false e h = let z : _≡_ {A = ℕ} 0 1 = cc in absurd (omega arith)
 
 -- ---- a part of an image's listing
+
+pub part-fits : (n : ℕ) → partRoom n ≤ n
+unfolding partRoom
+part-fits n = go (below-or n 67_108_864)
+  where
+    go : (n < 67_108_864) ⊎ (67_108_864 ≤ n) → pick (ltb n 67_108_864) n 67_108_864 ≤ n
+    go (inl h) = rw (lt-ltb n 67_108_864 h) (omega arith)
+    go (inr h) = rw (le-ltb n 67_108_864 h) h
+
+-- as the code says it
+module _ (n m : ℕ) (e : m ≡ pick (ltb n 67_108_864) n 67_108_864) where
+  limit-is : m ≡ partRoom n
+  unfolding partRoom
+  limit-is = e
+
+  pub limit-fits : m ≤ n
+  limit-fits = omega (arith, limit-is, part-fits n)
+
+  pub limit-written : (old new text : List ℕ) (r : ℕ) → Wrote old 0 (take m text) r new → Wrote old 0 (take (partRoom n) text) r new
+  limit-written old new text r w = subst (λ (k : ℕ). Wrote old 0 (take k text) r new) limit-is w
 
 module _ (l : Layout) (s : List ℕ) (r : Admission) (e : r ≡ admission l s) (room from : ℕ) (old : List ℕ) where
   pub part-refused : (k n : ℕ) → r ≡ admission-is.Refused k → n ≡ numberOf r → Answers (listingPart room from l s) (Refused n) old old
@@ -190,12 +210,12 @@ module _ (l : Layout) (s : List ℕ) (r : Admission) (e : r ≡ admission l s) (
       let m : n ≡ k = g ∙ ap numberOf f in
       rw (z, ne-eqb k 0 (λ y. omega arith), m) (refl, refl)
 
-  pub part-listed : (p : Places) → r ≡ admission-is.Laid p → (n : ℕ) (new : List ℕ) → room ≡ length old
-      → Wrote old 0 (part from (length old) (listed (p .layout) s)) n new → Answers (listingPart room from l s) (Length n) old new
+  pub part-listed : (p : Places) → r ≡ admission-is.Laid p → (n : ℕ) (new : List ℕ) → room ≤ length old
+      → Wrote old 0 (part from room (listed (p .layout) s)) n new → Answers (listingPart room from l s) (Length n) old new
   unfolding listingPart
   part-listed p f n new h w =
       let z : refusal l s ≡ 0 = laid-is l s r e p f .0 in
-      let t : List ℕ = part from (length old) (listed (p .layout) s) in
+      let t : List ℕ = part from room (listed (p .layout) s) in
       let m : n ≡ length t = w .0 ∙ zero-add (length t) in
-      let k : new ≡ t ++ drop (length t) old = w .1 ∙ sets-eq t old 0 (omega (arith, part-short from (length old) (listed (p .layout) s))) ∙ ap (λ (j : ℕ). t ++ drop j old) (zero-add (length t)) in
-      rw (z, h, ← laid-layout l s r e p f) (ap Length m, k)
+      let k : new ≡ t ++ drop (length t) old = w .1 ∙ sets-eq t old 0 (omega (arith, part-short from room (listed (p .layout) s))) ∙ ap (λ (j : ℕ). t ++ drop j old) (zero-add (length t)) in
+      rw (z, ← laid-layout l s r e p f) (ap Length m, k)

@@ -2,7 +2,7 @@
 use mathlib.Core.Bool.{Bool}
 use mathlib.Core.List.{List, [], _∷_, _++_}
 use Prim.Native.Nat.{ℕ, zero, suc, _+_}
-use lib.Dec.{eqb}
+use lib.Dec.{eqb, ltb}
 use lib.ListN.{length, take, drop}
 use Rattle.bits.specs.Choice.{pick}
 use Rattle.bits.specs.Outcome.{Outcome, refused, made}
@@ -39,7 +39,11 @@ listed l s =
 unfoldable pub imageListing : Layout → List ℕ → List ℕ
 imageListing l s = pick (eqb (refusal l s) 0) (listed l s) (refusedLine (refusal l s))
 
--- a part of an image's lines, for a buffer of `room` bytes: from byte `from` on; or the image's refusal
+-- how long a part of the lines may be in a buffer of n bytes: no longer than an image, so that its length fits 32 bits
+unfoldable pub partRoom : ℕ → ℕ
+partRoom n = pick (ltb n 67_108_864) n 67_108_864
+
+-- a part of an image's lines, of at most `room` bytes: from byte `from` on; or the image's refusal
 unfoldable pub listingPart : ℕ → ℕ → Layout → List ℕ → Outcome
 listingPart room from l s = pick (eqb (refusal l s) 0) (made (take room (drop from (listed l s)))) (refused (refusal l s))
 

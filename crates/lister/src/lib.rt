@@ -20,7 +20,7 @@ ghost use Rattle.input_records.specs.declared.ImageHead.the-variants.{Image};
 ghost use Rattle.reader.specs.Reading.{CursorOf};
 ghost use Rattle.text.specs.Text.{Wrote};
 ghost use Rattle.lister.specs.declared.Point.the-variants.{Counts, Strings, Units, Functions};
-ghost use Rattle.lister.specs.Listing.{listed, listingPart};
+ghost use Rattle.lister.specs.Listing.{listed, partRoom, listingPart};
 ghost use Rattle.lister.specs.Pieces.{openedRecord, opened, isEnd, spotOf, Good, Gives, GivesAll};
 
 // What an input is: one record with an admitted image, or refused.
@@ -53,6 +53,9 @@ const CHUNK: usize = 64;
 const PIECES: usize = 256;
 
 pub const ROOM: usize = 65536;
+
+// The most bytes of a part of a listing.
+const PART: usize = 67108864;
 
 // Judges a record whose head was read: it ends where the input does, and its image is admitted.
 fn open_image(input: &[u8], layout: Layout, length: usize) -> Opened
@@ -248,35 +251,43 @@ fn less(a: usize, b: usize) -> usize
     if a < b { 0 } else { a - b }
 }
 
-// What stands in a text behind `skip` bytes goes to a place of a buffer, as much as there is room for.
-fn put_rest(text: &[u8], skip: usize, out: &mut [u8], at: usize) -> usize
-    requires { ⌜ at ≤ length (now out) ⌝ }
-    ensures { λ r. ⌜ Wrote (now (out .entry)) at (take (length (now (out .entry)) - at) (drop skip (now (text .entry)))) r (now (out .exit)) ⌝ }
+// What stands in a text behind `skip` bytes goes to a place of a buffer, as much as goes before `limit`.
+fn put_rest(text: &[u8], skip: usize, out: &mut [u8], at: usize, limit: usize) -> usize
+    requires { ⌜ (at ≤ limit) × (limit ≤ length (now out)) ⌝ }
+    ensures { λ r. ⌜ Wrote (now (out .entry)) at (take (limit - at) (drop skip (now (text .entry)))) r (now (out .exit)) ⌝ }
 {
     if text.len() <= skip {
         return at;
     }
-    let n = least(text.len() - skip, out.len() - at);
+    let n = least(text.len() - skip, limit - at);
     bits::put_bytes(out, at, &text[skip..skip + n]);
     at + n
 }
 
-// The lines of an admitted image from byte `from` on, as many bytes as there is room for.
-fn put_lines(image: &[u8], p: Places, from: usize, room: &mut [u8], out: &mut [u8]) -> usize
+// The lines of an admitted image from byte `from` on, `limit` bytes at most.
+fn put_lines(
+    image: &[u8],
+    p: Places,
+    from: usize,
+    room: &mut [u8],
+    out: &mut [u8],
+    limit: usize,
+) -> usize
     requires { ⌜ Placed p (now image) × Admitted (p .layout) (now image) ⌝ }
     requires { ⌜ 65536 ≤ length (now room) ⌝ }
-    ensures { λ r. ⌜ Wrote (now (out .entry)) 0 (take (length (now (out .entry))) (drop from (listed (p .layout) (now (image .entry))))) r (now (out .exit)) ⌝ }
+    requires { ⌜ limit ≤ length (now out) ⌝ }
+    ensures { λ r. ⌜ Wrote (now (out .entry)) 0 (take limit (drop from (listed (p .layout) (now (image .entry))))) r (now (out .exit)) ⌝ }
 {
     let mut point = Point::Counts;
     let mut skip = from;
     let mut at = 0;
     while !is_end(point) {
-        if out.len() <= at {
+        if limit <= at {
             return at;
         }
         let piece = put_pieces(image, p, point, room);
         let end = piece.end;
-        at = put_rest(&room[0..end], skip, out, at);
+        at = put_rest(&room[0..end], skip, out, at, limit);
         skip = less(skip, end);
         let next = piece.next;
         point = next;
@@ -286,14 +297,16 @@ fn put_lines(image: &[u8], p: Places, from: usize, room: &mut [u8], out: &mut [u
 
 fn put_part(image: &[u8], p: Places, from: usize, room: &mut [u8; ROOM], out: &mut [u8]) -> usize
     requires { ⌜ Placed p (now image) × Admitted (p .layout) (now image) ⌝ }
-    ensures { λ r. ⌜ Wrote (now (out .entry)) 0 (take (length (now (out .entry))) (drop from (listed (p .layout) (now (image .entry))))) r (now (out .exit)) ⌝ }
+    ensures { λ r. ⌜ Wrote (now (out .entry)) 0 (take (partRoom (length (now (out .entry)))) (drop from (listed (p .layout) (now (image .entry))))) r (now (out .exit)) ⌝ }
 {
-    put_lines(image, p, from, room, out)
+    let limit = least(out.len(), PART);
+    put_lines(image, p, from, room, out, limit)
 }
 
-// A part of an image's listing, from byte `from` on; it ends with the listing or with the buffer.
+// A part of an image's listing, from byte `from` on; it ends with the listing, with the buffer, or at PART
+// bytes.
 pub fn list(image: &[u8], layout: Layout, from: usize, out: &mut [u8]) -> Answer
-    ensures { λ r. ⌜ Answers (listingPart (length (now (out .entry))) from layout (now (image .entry))) r (now (out .entry)) (now (out .exit)) ⌝ }
+    ensures { λ r. ⌜ Answers (listingPart (partRoom (length (now (out .entry)))) from layout (now (image .entry))) r (now (out .entry)) (now (out .exit)) ⌝ }
 {
     let answer = admission::admit(image, layout);
     let Admission::Laid(p) = answer else {

@@ -10,13 +10,13 @@ use Rattle.lister.proofs.PointLaws.{batch-falls}
 use Rattle.lister.proofs.PartLaws.{Copying, copying-first, copying-next, copying-full, copying-last}
 
 abbrev Inv-loop : tie.InvT-loop
-Inv-loop image p from room₀ out₀ point₀ skip₀ at₀ room out point skip at = Copying p image out₀ from out point skip at × (length room ≡ length room₀)
+Inv-loop image p from room₀ out₀ limit point₀ skip₀ at₀ room out point skip at = Copying p image out₀ from limit out point skip at × (length room ≡ length room₀)
 
 abbrev μ-loop : tie.MeasureT-loop
-μ-loop image p from room₀ out₀ point₀ skip₀ at₀ room out point skip at = steps (p .layout) image (spotOf point)
+μ-loop image p from room₀ out₀ limit point₀ skip₀ at₀ room out point skip at = steps (p .layout) image (spotOf point)
 
 loop-holds : tie.Need-loop-holds Inv-loop μ-loop
-loop-holds c = (copying-first _ _ _ _, refl)
+loop-holds c = (copying-first _ _ _ _ _, refl)
 
 same-length : tie.Need-same-length Inv-loop μ-loop
 same-length c = c .before .before .before .loop .inv .1
@@ -25,16 +25,16 @@ same-length-2 : tie.Need-same-length-2 Inv-loop μ-loop
 same-length-2 c = c .before .before .before .loop .inv .0 .same
 
 returns : tie.Need-returns Inv-loop μ-loop
-returns c = let l = c .before .before .before .loop in copying-full (c .before .before .before .before .before .before .before .args .p) (c .before .before .before .before .before .before .before .args .image .now) _ _ (l .out) (l .point) (l .skip) (l .at) (l .inv .0) (c .if2 .taken)
+returns c = let l = c .before .before .before .loop in copying-full (c .before .before .before .before .before .before .before .args .p) (c .before .before .before .before .before .before .before .args .image .now) _ _ _ (l .out) (l .point) (l .skip) (l .at) (l .inv .0) (c .if2 .taken)
 
 put-pieces-requires : tie.Need-put-pieces-requires Inv-loop μ-loop
-put-pieces-requires c κs = (c .before .before .before .before .before .before .before .before .pre .0, (c .before .before .before .before .loop .inv .0 .good, omega (arith, c .before .before .before .before .before .before .before .before .pre .1, c .before .before .before .before .loop .inv .1)))
+put-pieces-requires c κs = (c .before .before .before .before .before .before .before .before .pre .0, (c .before .before .before .before .loop .inv .0 .good, omega (arith, c .before .before .before .before .before .before .before .before .pre .1 .0, c .before .before .before .before .loop .inv .1)))
 
 part-put-rest-end : tie.Need-part-put-rest-end Inv-loop μ-loop
 part-put-rest-end c = omega (arith, c .before .before .before .put-pieces .ensures .most, c .before .before .before .put-pieces .kept .1 .1 .1 .0)
 
 put-rest-requires : tie.Need-put-rest-requires Inv-loop μ-loop
-put-rest-requires c κs = c .before .before .before .before .before .before .before .before .before .before .loop .inv .0 .room
+put-rest-requires c κs = (c .before .before .before .before .before .before .before .before .before .before .loop .inv .0 .room, omega (arith, c .before .before .before .before .before .before .before .before .before .before .before .before .before .before .pre .1 .1, c .before .before .before .before .before .before .before .before .before .before .loop .inv .0 .same))
 
 loop-less : tie.Need-loop-less Inv-loop μ-loop
 loop-less c = let w = c .before .before .before .before .before .before .before .before .before .put-pieces in batch-falls _ _ _ _ (c .before .before .before .before .before .before .before .before .before .before .before .before .before .before .loop .point) (w .result) (w .ensures) _ (c .before .before .before .before .before .before .before .before .before .before .before .before .before .is-end .ensures) (c .before .before .before .before .before .before .before .before .before .before .before .before .if1 .taken)
@@ -45,7 +45,7 @@ loop-again c =
     let w = c .before .before .before .before .before .before .before .before .before .put-pieces in
     let v = c .before .before .before .put-rest in
     let e : w .result .end - 0 ≡ w .result .end = omega arith in
-    (rw (c .less .ensures) (copying-next (c .before .before .before .before .before .before .before .before .before .before .before .before .before .before .before .before .before .before .args .p) (c .before .before .before .before .before .before .before .before .before .before .before .before .before .before .before .before .before .before .args .image .now) _ _ (l .out) (l .point) (l .skip) (l .at) (l .inv .0) (l .room) (w .last .1 .1 .1 .0) (w .result) (w .ensures) _ (v .last .1 .1 .0) (v .result) (ap (λ (j : ℕ). take j (w .last .1 .1 .1 .0)) e) (v .kept .1 .1 .0) (v .ensures)), w .kept .1 .1 .1 .0 ∙ l .inv .1)
+    (rw (c .less .ensures) (copying-next (c .before .before .before .before .before .before .before .before .before .before .before .before .before .before .before .before .before .before .args .p) (c .before .before .before .before .before .before .before .before .before .before .before .before .before .before .before .before .before .before .args .image .now) _ _ _ (l .out) (l .point) (l .skip) (l .at) (l .inv .0) (l .room) (w .last .1 .1 .1 .0) (w .result) (w .ensures) _ (v .last .1 .1 .0) (v .result) (ap (λ (j : ℕ). take j (w .last .1 .1 .1 .0)) e) (v .kept .1 .1 .0) (v .ensures)), w .kept .1 .1 .1 .0 ∙ l .inv .1)
 
 same-length-3 : tie.Need-same-length-3 Inv-loop μ-loop
 same-length-3 c = c .before .before .loop .inv .1
@@ -54,7 +54,7 @@ same-length-4 : tie.Need-same-length-4 Inv-loop μ-loop
 same-length-4 c = c .before .before .loop .inv .0 .same
 
 returns-2 : tie.Need-returns-2 Inv-loop μ-loop
-returns-2 c = let l = c .before .before .loop in copying-last (c .before .before .before .before .before .before .args .p) (c .before .before .before .before .before .before .args .image .now) _ _ (l .out) (l .point) (l .skip) (l .at) (l .inv .0) _ (c .before .is-end .ensures) (c .if1 .left)
+returns-2 c = let l = c .before .before .loop in copying-last (c .before .before .before .before .before .before .args .p) (c .before .before .before .before .before .before .args .image .now) _ _ _ (l .out) (l .point) (l .skip) (l .at) (l .inv .0) _ (c .before .is-end .ensures) (c .if1 .left)
 
 pub put-lines-spec : {M : Type 1} → statement M
 put-lines-spec =

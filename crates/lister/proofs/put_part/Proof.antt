@@ -1,0 +1,14 @@
+use borrow.Author.Needs.{needs}
+use Rattle.lister.proofs.put_part.Statement.{statement}
+use Rattle.lister.proofs.put_part.Tie as tie
+use native.Mathlib.Omega.{arith}
+use Rattle.lister.proofs.PartLaws.{limit-fits, limit-written}
+
+put-lines-requires : tie.Need-put-lines-requires
+put-lines-requires c κs = (c .before .before .before .before .before .pre, (omega (arith, c .before .before .before .before .before .good), limit-fits _ _ (c .before .before .least .ensures)))
+
+returns : tie.Need-returns
+returns c = limit-written _ _ (c .before .before .before .before .before .least .ensures) _ _ _ _ (c .before .before .put-lines .ensures)
+
+pub put-part-spec : {M : Type 1} → statement M
+put-part-spec = tie.close (tie.spec (λ c κs. search needs) put-lines-requires (λ c. search needs) returns)
