@@ -54,12 +54,14 @@ unfolding putAll
 putAll-append l [] qs s = refl
 putAll-append l (p ∷ ps) qs s = putAll-append l ps qs _
 
--- six runs of fields are one
-pub parts : (l : Layout) (a b c d e f : List Put) (s s₁ s₂ s₃ s₄ s₅ s₆ : List ℕ)
-    → s₁ ≡ putAll l a s → s₂ ≡ putAll l b s₁ → s₃ ≡ putAll l c s₂ → s₄ ≡ putAll l d s₃ → s₅ ≡ putAll l e s₄ → s₆ ≡ putAll l f s₅
-    → s₆ ≡ putAll l (a ++ (b ++ (c ++ (d ++ (e ++ f))))) s
-parts l a b c d e f s s₁ s₂ s₃ s₄ s₅ s₆ p₁ p₂ p₃ p₄ p₅ p₆ =
-    rw (putAll-append l a, ← p₁, putAll-append l b, ← p₂, putAll-append l c, ← p₃, putAll-append l d, ← p₄, putAll-append l e, ← p₅) p₆
+-- two runs of fields are one, and so are four
+pub parts : (l : Layout) (a b : List Put) (s s₁ s₂ : List ℕ) → s₁ ≡ putAll l a s → s₂ ≡ putAll l b s₁ → s₂ ≡ putAll l (a ++ b) s
+parts l a b s s₁ s₂ p₁ p₂ = rw (putAll-append l a, ← p₁) p₂
+
+pub four-parts : (l : Layout) (a b c d : List Put) (s s₁ s₂ s₃ s₄ : List ℕ) → s₁ ≡ putAll l a s → s₂ ≡ putAll l b s₁ → s₃ ≡ putAll l c s₂ → s₄ ≡ putAll l d s₃
+    → s₄ ≡ putAll l (a ++ (b ++ (c ++ d))) s
+four-parts l a b c d s s₁ s₂ s₃ s₄ p₁ p₂ p₃ p₄ =
+    parts l a (b ++ (c ++ d)) s s₁ s₄ p₁ (parts l b (c ++ d) s₁ s₂ s₄ p₂ (parts l c d s₂ s₃ s₄ p₃ p₄))
 
 -- a header keeps the length of its buffer
 length-putAll : (l : Layout) (ps : List Put) (s : List ℕ) → length (putAll l ps s) ≡ length s

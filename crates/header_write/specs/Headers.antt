@@ -74,9 +74,9 @@ layoutOf h = Legacy (h .«has_bigint») (h .«has_function_source»)
 abbrev pub segmentOf : LegacyHeader → ℕ
 segmentOf h = table.ifSet (h .«has_segment_id») (h .«segment_id»)
 
--- the fields of a legacy header after the source hash, in order: all bytes after the options byte stay
-unfoldable pub legacyPuts : LegacyHeader → List Put
-legacyPuts h =
+-- the fields of a legacy header after the source hash, in order: counts, and those of big integers
+unfoldable pub legacyFront : LegacyHeader → List Put
+legacyFront h =
     (put table.fileLength (h .«file_length»)
     ∷ put table.globalCodeIndex (h .«global_code_index»)
     ∷ put table.functionCount (h .«function_count»)
@@ -86,8 +86,12 @@ legacyPuts h =
     ∷ put table.overflowCount (h .«overflow_string_count»)
     ∷ put table.storageSize (h .«string_storage_size»)
     ∷ [])
-    ++ (optional (h .«has_bigint») (put table.legacyBigIntCount (h .«big_int_count») ∷ put table.legacyBigIntStorage (h .«big_int_storage_size») ∷ [])
-    ++ ((put table.legacyRegExpCount (h .«reg_exp_count»)
+    ++ optional (h .«has_bigint») (put table.legacyBigIntCount (h .«big_int_count») ∷ put table.legacyBigIntStorage (h .«big_int_storage_size») ∷ [])
+
+-- the fields behind them, in order: all bytes after the options byte stay
+unfoldable pub legacyBack : LegacyHeader → List Put
+legacyBack h =
+    (put table.legacyRegExpCount (h .«reg_exp_count»)
     ∷ put table.legacyRegExpStorage (h .«reg_exp_storage_size»)
     ∷ put table.legacyArrayBuffer (h .«array_buffer_size»)
     ∷ put table.legacyObjKeys (h .«obj_key_buffer_size»)
@@ -96,11 +100,11 @@ legacyPuts h =
     ∷ put table.legacyCjsModules (h .«cjs_module_count»)
     ∷ [])
     ++ (optional (h .«has_function_source») (put table.legacyFunctionSources (h .«function_source_count») ∷ [])
-    ++ (put table.legacyDebug (h .«debug_info_offset») ∷ put table.legacyOptions (h .options) ∷ []))))
+    ++ ((put table.legacyDebug (h .«debug_info_offset») ∷ []) ++ (put table.legacyOptions (h .options) ∷ [])))
 
 -- a legacy header
 unfoldable pub legacyHeader : LegacyHeader → List ℕ → List ℕ
-legacyHeader h s = putAll (layoutOf h) (legacyPuts h) (identity (h .version) (h .«source_hash») s)
+legacyHeader h s = putAll (layoutOf h) (legacyFront h ++ legacyBack h) (identity (h .version) (h .«source_hash») s)
 
 -- ---- what the code's loop over a run of rows writes
 

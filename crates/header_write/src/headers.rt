@@ -10,7 +10,7 @@ ghost use lib.Seq.{sets};
 ghost use Rattle.format.specs.declared.Layout.the-variants.{Modern, Legacy};
 ghost use Rattle.format.specs.Table.{rowCount, legacyOptions};
 ghost use Rattle.header_write.specs.Slots.{Writes};
-ghost use Rattle.header_write.specs.Headers.{putAll, put, optional, run, headerWords, identity, onHeader, modernHeader, layoutOf, segmentOf, legacyPuts, legacyHeader};
+ghost use Rattle.header_write.specs.Headers.{putAll, put, optional, run, headerWords, identity, onHeader, modernHeader, layoutOf, segmentOf, legacyFront, legacyBack, legacyHeader};
 
 // The fields of a legacy header. Big integers and function sources are there only where the version
 // has them; where it has no segment id, 0 stands in its place.
@@ -140,15 +140,11 @@ fn segment(h: LegacyHeader) -> u32
     if h.has_segment_id { h.segment_id } else { 0 }
 }
 
-// The fields of a legacy header after the source hash.
-fn put_legacy_fields(buf: &mut [u8], h: LegacyHeader)
+// The counts of a legacy header, and those of big integers where its version has them.
+fn put_legacy_front(buf: &mut [u8], layout: Layout, h: LegacyHeader)
     requires { ⌜ 128 ≤ length (now buf) ⌝ }
-    ensures { λ _. ⌜ now (buf .exit) ≡ putAll (layoutOf h) (legacyPuts h) (now (buf .entry)) ⌝ }
+    ensures { λ _. ⌜ now (buf .exit) ≡ putAll layout (legacyFront h) (now (buf .entry)) ⌝ }
 {
-    let layout = Layout::Legacy {
-        big_integers: h.has_bigint,
-        function_sources: h.has_function_source,
-    };
     let counts = [
         h.file_length,
         h.global_code_index,
@@ -168,6 +164,13 @@ fn put_legacy_fields(buf: &mut [u8], h: LegacyHeader)
         format::LEGACY_BIG_INT_COUNT,
         &big,
     );
+}
+
+// The fields behind those, down to the options byte.
+fn put_legacy_back(buf: &mut [u8], layout: Layout, h: LegacyHeader)
+    requires { ⌜ 128 ≤ length (now buf) ⌝ }
+    ensures { λ _. ⌜ now (buf .exit) ≡ putAll layout (legacyBack h) (now (buf .entry)) ⌝ }
+{
     let sections = [
         h.reg_exp_count,
         h.reg_exp_storage_size,
@@ -199,6 +202,11 @@ pub fn write_legacy_header(buf: &mut [u8], header: LegacyHeader) -> Wrote
     }
     let source_hash = header.source_hash;
     put_identity(buf, header.version, source_hash);
-    put_legacy_fields(buf, header);
+    let layout = Layout::Legacy {
+        big_integers: header.has_bigint,
+        function_sources: header.has_function_source,
+    };
+    put_legacy_front(buf, layout, header);
+    put_legacy_back(buf, layout, header);
     Wrote::Done
 }

@@ -1,0 +1,15 @@
+use borrow.Author.Needs.{needs}
+use Rattle.header_write.proofs.headers.put_legacy_front.Statement.{statement}
+use Rattle.header_write.proofs.headers.put_legacy_front.Tie as tie
+use Rattle.header_write.specs.Headers.{legacyFront, run}
+use Rattle.header_write.proofs.HeaderLaws.{parts}
+
+returns : tie.Need-returns
+unfolding legacyFront run
+returns c =
+    parts (c .before .before .before .before .before .before .before .before .before .before .before .args .layout) _ _ _ _ _ (c .before .before .before .before .before .before .before .put-rows .ensures) (c .before .before .put-rows-if .ensures)
+
+pub put-legacy-front-spec : {M : Type 1} → statement M
+put-legacy-front-spec =
+    tie.close
+    (tie.spec (λ c. search needs) (λ c κs. search needs) (λ c. search needs) (λ c κs. search needs) (λ c. search needs) returns)
