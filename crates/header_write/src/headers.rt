@@ -98,29 +98,18 @@ pub fn write_modern_header(
         return Wrote::Refused(1);
     }
     put_identity(buf, version, source_hash);
-    // The zeros are the empty sections, no debug info and no options.
-    let values = [
+    let counts = [
         function_count,
         string_kind_count,
         identifier_count,
         string_count,
         0,
         string_storage_size,
-        0,
-        0,
-        0,
-        0,
-        0,
-        0,
-        0,
-        0,
-        0,
-        0,
-        0,
-        0,
-        0,
     ];
-    put_rows(buf, Layout::Modern, format::FUNCTION_COUNT, &values);
+    put_rows(buf, Layout::Modern, format::FUNCTION_COUNT, &counts);
+    // Empty sections, no debug info and no options.
+    let rest = [0u32; 13];
+    put_rows(buf, Layout::Modern, format::MODERN_BIG_INT_COUNT, &rest);
     Wrote::Done
 }
 

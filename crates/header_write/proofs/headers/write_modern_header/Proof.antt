@@ -1,10 +1,10 @@
-use mathlib.Core.Path.{_∙_}
-use native.Mathlib.Omega.{arith}
-use Rattle.header_write.specs.Headers.{modernHeader, run}
-use Rattle.header_write.proofs.HeaderLaws.{header-short, header-done}
 use borrow.Author.Needs.{needs}
 use Rattle.header_write.proofs.headers.write_modern_header.Statement.{statement}
 use Rattle.header_write.proofs.headers.write_modern_header.Tie as tie
+use mathlib.Core.Path.{_∙_}
+use native.Mathlib.Omega.{arith}
+use Rattle.header_write.specs.Headers.{modernHeader, run}
+use Rattle.header_write.proofs.HeaderLaws.{header-short, header-done, parts}
 
 returns : tie.Need-returns
 returns c = header-short _ _ (omega arith)
@@ -12,10 +12,10 @@ returns c = header-short _ _ (omega arith)
 returns-2 : tie.Need-returns-2
 unfolding modernHeader run
 returns-2 c =
-    header-done _ _ _ (omega arith) (c .before .before .put-rows .kept .0 ∙ c .before .before .before .before .before .before .before .put-identity .kept .0)
-    (rw (c .before .before .put-rows .ensures, c .before .before .before .before .before .before .before .put-identity .ensures))
+    header-done _ _ _ (omega arith) (c .before .before .put-rows2 .kept .0 ∙ c .before .before .before .before .before .before .before .put-rows .kept .0 ∙ c .before .before .before .before .before .before .before .before .before .before .before .before .put-identity .kept .0)
+    (parts _ _ _ _ _ _ (rw (c .before .before .before .before .before .before .before .before .before .before .before .before .put-identity .ensures) at (c .before .before .before .before .before .before .before .put-rows .ensures)) (c .before .before .put-rows2 .ensures))
 
 pub write-modern-header-spec : {M : Type 1} → statement M
 write-modern-header-spec =
     tie.close
-    (tie.spec (λ c κs. search needs) returns (λ c κs. search needs) (λ c. search needs) (λ c κs. search needs) (λ c. search needs) returns-2)
+    (tie.spec (λ c κs. search needs) returns (λ c κs. search needs) (λ c. search needs) (λ c κs. search needs) (λ c. search needs) (λ c κs. search needs) (λ c. search needs) returns-2)
