@@ -1,13 +1,13 @@
 -- Admission's answer taken apart: what an image that is laid out promises, and how further checks follow those of admission.
 use mathlib.Core.Path.{_≡_, refl, sym, _∙_, ap, subst⁻¹}
-use mathlib.Core.Bool.{Bool, true, false}
 use mathlib.Core.List.{List, _++_}
 use Prim.Native.Nat.{ℕ, _<_}
 use native.Mathlib.Omega.{arith}
 use lib.Dec.{eqb}
 use lib.ListN.{getD}
-use borrow.Author.Tests.{eqb-true, eqb-false, ne-eqb}
+use borrow.Author.Tests.{ne-eqb}
 use Rattle.bits.specs.Choice.{pick, Check, judge}
+use Rattle.bits.proofs.TestLaws.{is-found, is-refused}
 use Rattle.bits.proofs.JudgeLaws.{judge-append}
 use Rattle.format.specs.declared.Layout.{Layout}
 use Rattle.image.specs.Admission.{checks, refusal}
@@ -30,11 +30,10 @@ module _ (l : Layout) (s : List ℕ) where
   module _ (r : Admission) (e : r ≡ admission l s) where
     pub refused-is : (k : ℕ) → r ≡ Refused k → (refusal l s ≡ k) × (0 < k)
     unfolding admission
-    refused-is k f = go (refusal l s) (eqb (refusal l s) 0) refl (sym e ∙ f)
-      where
-        go : (n : ℕ) (b : Bool) → eqb n 0 ≡ b → pick b (Laid (placesOf l s)) (Refused n) ≡ Refused k → (n ≡ k) × (0 < k)
-        go n true h q = let z : _≡_ {A = ℕ} 0 1 = cc in absurd (omega arith)
-        go n false h q = let z : n ≡ k = cc in (z, omega (arith, eqb-false n 0 h))
+    refused-is k f =
+        let (h, q) = is-refused (refusal l s) (Laid (placesOf l s)) Refused (Refused k) (sym e ∙ f) (λ z. let y : _≡_ {A = ℕ} 0 1 = cc in omega arith) in
+        let z : refusal l s ≡ k = cc in
+        (z, omega arith)
 
     -- the checks behind those of admission do not count
     pub refused-then : (k : ℕ) → r ≡ Refused k → (ds : List Check) → judge (checks l s ++ ds) ≡ k
@@ -45,11 +44,9 @@ module _ (l : Layout) (s : List ℕ) where
     module _ (p : Places) (f : r ≡ Laid p) where
       pub laid-is : (refusal l s ≡ 0) × (p ≡ placesOf l s)
       unfolding admission
-      laid-is = go (refusal l s) (eqb (refusal l s) 0) refl (sym e ∙ f)
-        where
-          go : (n : ℕ) (b : Bool) → eqb n 0 ≡ b → pick b (Laid (placesOf l s)) (Refused n) ≡ Laid p → (n ≡ 0) × (p ≡ placesOf l s)
-          go n true h q = (eqb-true n 0 h, cc)
-          go n false h q = let z : _≡_ {A = ℕ} 0 1 = cc in absurd (omega arith)
+      laid-is =
+          let (z, q) = is-found (refusal l s) (Laid (placesOf l s)) Refused (Laid p) (sym e ∙ f) (λ k z. let y : _≡_ {A = ℕ} 0 1 = cc in omega arith) in
+          (z, cc)
 
       pub laid-then : (ds : List Check) → judge (checks l s ++ ds) ≡ judge ds
       laid-then ds = judged-then ds ∙ rw (laid-is .0)

@@ -6,9 +6,9 @@ use Prim.Native.Nat.{ℕ, zero, suc, _+_, _-_, _*_, _≤_, _<_}
 use native.Mathlib.Nat.{not-suc-le-zero, add-zero, add-suc, add-assoc, zero-mul, suc-mul}
 use native.Mathlib.Numerals.{add-one}
 use native.Mathlib.Omega.{arith}
-use borrow.Author.Tests.{ltb-true, ltb-false}
-use lib.Dec.{ltb}
-use Rattle.bits.specs.Choice.{both, either, implies, allBelow, sumBelow}
+use borrow.Author.Tests.{ltb-true, ltb-false, eqb-true, eqb-false}
+use lib.Dec.{ltb, eqb}
+use Rattle.bits.specs.Choice.{pick, both, either, implies, allBelow, sumBelow}
 
 pub both-0 : (a b : Bool) → both a b ≡ true → a ≡ true
 both-0 true b h = refl
@@ -63,6 +63,22 @@ which false = inr refl
 
 pub below-or : (a b : ℕ) → (a < b) ⊎ (b ≤ a)
 below-or a b = elim (which (ltb a b)) [ inl t ↦ inl (ltb-true a b t) | inr f ↦ inr (ltb-false a b f) ]
+
+-- an answer that goes by a number, 0 being none, is what is found or the refusal
+module _ {A : Type 0} (n : ℕ) (found : A) (refusal : ℕ → A) (r : A) (e : pick (eqb n 0) found (refusal n) ≡ r) where
+  pub is-found : ((k : ℕ) → refusal k ≡ r → ⊥) → (n ≡ 0) × (found ≡ r)
+  is-found none = go (eqb n 0) refl e
+    where
+      go : (b : Bool) → eqb n 0 ≡ b → pick b found (refusal n) ≡ r → (n ≡ 0) × (found ≡ r)
+      go true h q = (eqb-true n 0 h, q)
+      go false h q = absurd (none n q)
+
+  pub is-refused : (found ≡ r → ⊥) → (0 < n) × (refusal n ≡ r)
+  is-refused none = go (eqb n 0) refl e
+    where
+      go : (b : Bool) → eqb n 0 ≡ b → pick b found (refusal n) ≡ r → (0 < n) × (refusal n ≡ r)
+      go true h q = absurd (none q)
+      go false h q = (omega (arith, eqb-false n 0 h), q)
 
 -- a number below suc n is n or below n
 pub below : (i n : ℕ) → i < suc n → (i ≡ n) ⊎ (i < n)

@@ -5,7 +5,9 @@ use format::Layout;
 use function_table::FunctionRead;
 use reader::StringRead;
 ghost use mathlib.Core.Path.{_≡_};
+ghost use Prim.Native.Nat.{_+_, _≤_};
 ghost use lib.ListN.{length};
+ghost use Rattle.bits.specs.Bytes.{bytesAt};
 ghost use Rattle.bits.specs.Outcome.{made, roomed, Answers};
 ghost use Rattle.footer.specs.Finalize.{finalizeOf};
 ghost use Rattle.serialize.specs.Builder.{built};
@@ -141,15 +143,16 @@ pub extern "C" fn nepuladrim_patch_function_bytes(
 
 // ---- readings
 
-// Bytes at the front of a buffer.
-fn copied(bytes: &[u8], out: &mut [u8]) -> Answer
-    ensures { λ r. ⌜ Answers (roomed (length (now (out .entry))) (made (now (bytes .entry)))) r (now (out .entry)) (now (out .exit)) ⌝ }
+// Bytes of an image at the front of a buffer.
+fn copied(image: &[u8], start: usize, size: usize, out: &mut [u8]) -> Answer
+    requires { ⌜ start + size ≤ length (now image) ⌝ }
+    ensures { λ r. ⌜ Answers (roomed (length (now (out .entry))) (made (bytesAt (now (image .entry)) start size))) r (now (out .entry)) (now (out .exit)) ⌝ }
 {
-    if out.len() < bytes.len() {
+    if out.len() < size {
         return Answer::Refused(13);
     }
-    bits::put_bytes(out, 0, bytes);
-    Answer::Length(bytes.len())
+    bits::put_bytes(out, 0, &image[start..start + size]);
+    Answer::Length(size)
 }
 
 fn read_string(image: &[u8], layout: Layout, id: usize, out: &mut [u8]) -> Answer
@@ -157,7 +160,7 @@ fn read_string(image: &[u8], layout: Layout, id: usize, out: &mut [u8]) -> Answe
 {
     let read = reader::string(image, layout, id);
     match read {
-        StringRead::Found(_) => copied(reader::string_bytes(image, layout, id), out),
+        StringRead::Found(place) => copied(image, place.start, place.size, out),
         StringRead::Refused(n) => Answer::Refused(n),
     }
 }
@@ -167,7 +170,7 @@ fn read_body(image: &[u8], layout: Layout, id: usize, out: &mut [u8]) -> Answer
 {
     let read = reader::body(image, layout, id);
     match read {
-        FunctionRead::Found(_) => copied(reader::body_bytes(image, layout, id), out),
+        FunctionRead::Found(body) => copied(image, body.begin, body.size, out),
         FunctionRead::Refused(n) => Answer::Refused(n),
     }
 }

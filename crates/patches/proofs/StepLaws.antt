@@ -4,12 +4,12 @@ use mathlib.Core.Bool.{Bool, true, false, not}
 use mathlib.Core.List.{List, [], _∷_, _++_}
 use Prim.Native.Nat.{ℕ, _≤_, _<_}
 use native.Mathlib.Omega.{arith}
-use borrow.Author.Tests.{eqb-true, leb-false, ltb-false, not-false}
+use borrow.Author.Tests.{leb-false, ltb-false, not-false}
 use lib.Dec.{leb, ltb, eqb}
 use lib.ListN.{length}
 use Rattle.bits.specs.Choice.{pick, both, Check, judge}
 use Rattle.bits.specs.Outcome.{Outcome, refused, made, roomed}
-use Rattle.bits.proofs.TestLaws.{which}
+use Rattle.bits.proofs.TestLaws.{which, is-found}
 use Rattle.bits.proofs.JudgeLaws.{judge-pass, judge-append}
 use Rattle.bits.proofs.ListLaws.{AllBelow}
 use Rattle.format.specs.declared.Layout.{Layout}
@@ -32,11 +32,9 @@ use Rattle.patches.proofs.BodyLaws.{body-promise}
 
 -- an outcome that is made, of a refusal or an image
 pub made-of : (n : ℕ) (t u : List ℕ) → pick (eqb n 0) (made t) (refused n) ≡ made u → (n ≡ 0) × (t ≡ u)
-made-of n t u e = go (eqb n 0) refl e
-  where
-    go : (b : Bool) → eqb n 0 ≡ b → pick b (made t) (refused n) ≡ made u → (n ≡ 0) × (t ≡ u)
-    go true h e = (eqb-true n 0 h, cc)
-    go false h e = absurd (let z : _≡_ {A = ℕ} 0 1 = cc in omega arith)
+made-of n t u e =
+    let (z, q) = is-found n (made t) refused (made u) e (λ k z. let y : _≡_ {A = ℕ} 0 1 = cc in omega arith) in
+    (z, cc)
 
 -- what is made in some room is made
 pub roomed-made : (room : ℕ) (o : Outcome) (t : List ℕ) → roomed room o ≡ made t → o ≡ made t

@@ -7,9 +7,10 @@ use native.Mathlib.Nat.{zero-add, add-sub-cancel-left}
 use native.Mathlib.Omega.{arith}
 use lib.Dec.{eqb}
 use lib.ListN.{length, getD, take, drop}
-use borrow.Author.Tests.{eqb-true, lt-ltb, le-ltb}
+use borrow.Author.Tests.{ne-eqb, lt-ltb, le-ltb}
 use Rattle.bits.specs.Choice.{pick}
 use Rattle.bits.specs.Bytes.{bytesAt}
+use Rattle.bits.proofs.TestLaws.{is-found, is-refused}
 use Rattle.bits.proofs.ByteLaws.{bytesAt-take}
 use Rattle.format.specs.declared.Layout.{Layout}
 use Rattle.image.specs.Sections.{functionsIn, stringsIn}
@@ -37,75 +38,75 @@ use Rattle.reader.proofs.ReadingLaws.{read-is}
 part-is : (s : List ℕ) (start size end : ℕ) → end ≡ start + size → start + size ≤ length s → take (end - start) (drop start s) ≡ bytesAt s start size
 part-is s start size end e h = rw (e, add-sub-cancel-left) (sym (bytesAt-take s size start h))
 
+-- bytes are there where nothing is refused
+no-bytes : (n : ℕ) (bs : List ℕ) → 0 < n → _≡_ {A = List ℕ} [] (pick (eqb n 0) bs [])
+no-bytes n bs h = rw (ne-eqb n 0 (λ z. omega arith))
+
 module _ (l : Layout) (s : List ℕ) (id : ℕ) where
   module _ (r : StringRead) (e : r ≡ stringRead l s id) where
+    pub string-out : (k : ℕ) → r ≡ string-is.Refused k → (0 < idRefusal l s (stringsIn s) id) × (idRefusal l s (stringsIn s) id ≡ k)
+    unfolding stringRead
+    string-out k f =
+        let (h, q) = is-refused (idRefusal l s (stringsIn s) id) (string-is.Found (stringPlace l s id)) string-is.Refused (string-is.Refused k) (sym e ∙ f) (λ z. let y : _≡_ {A = ℕ} 0 1 = cc in omega arith) in
+        (h, cc)
+
     pub no-string-bytes : (k : ℕ) → r ≡ string-is.Refused k → _≡_ {A = List ℕ} [] (stringBytes l s id)
-    unfolding stringRead stringBytes
-    no-string-bytes k f = go (eqb (idRefusal l s (stringsIn s) id) 0) (idRefusal l s (stringsIn s) id) (sym e ∙ f)
-      where
-        go : (b : Bool) (n : ℕ) → pick b (string-is.Found (stringPlace l s id)) (string-is.Refused n) ≡ string-is.Refused k
-            → _≡_ {A = List ℕ} [] (pick b (stringOf l s id .bytes) [])
-        go true n q = let z : _≡_ {A = ℕ} 0 1 = cc in absurd (omega arith)
-        go false n q = refl
+    unfolding stringBytes
+    no-string-bytes k f = no-bytes (idRefusal l s (stringsIn s) id) (stringOf l s id .bytes) (string-out k f .0)
 
     module _ (q : StringPlace) (f : r ≡ string-is.Found q) where
-      found-string : (idRefusal l s (stringsIn s) id ≡ 0) × (q ≡ stringPlace l s id)
+      pub string-at : (idRefusal l s (stringsIn s) id ≡ 0) × (q ≡ stringPlace l s id)
       unfolding stringRead
-      found-string = go (idRefusal l s (stringsIn s) id) (eqb (idRefusal l s (stringsIn s) id) 0) refl (sym e ∙ f)
-        where
-          go : (n : ℕ) (b : Bool) → eqb n 0 ≡ b → pick b (string-is.Found (stringPlace l s id)) (string-is.Refused n) ≡ string-is.Found q
-              → (n ≡ 0) × (q ≡ stringPlace l s id)
-          go n true h g = (eqb-true n 0 h, cc)
-          go n false h g = let z : _≡_ {A = ℕ} 0 1 = cc in absurd (omega arith)
+      string-at =
+          let (z, g) = is-found (idRefusal l s (stringsIn s) id) (string-is.Found (stringPlace l s id)) string-is.Refused (string-is.Found q) (sym e ∙ f) (λ k z. let y : _≡_ {A = ℕ} 0 1 = cc in omega arith) in
+          (z, cc)
 
       module _ (bytes : (i : ℕ) → getD s i 0 < 256) where
         pub string-inside : q .start + q .size ≤ length s
         unfolding stringPlace
         string-inside =
-            let (z, h) = read-is l s (stringsIn s) id (found-string .0) in
+            let (z, h) = read-is l s (stringsIn s) id (string-at .0) in
             let a : Admitted l s = admitted l s bytes z in
             let w : stringPlace l s id .start + stringPlace l s id .size ≤ length s = omega (arith, string-in a id h, a .room) in
-            subst⁻¹ (λ (y : StringPlace). y .start + y .size ≤ length s) (found-string .1) w
+            subst⁻¹ (λ (y : StringPlace). y .start + y .size ≤ length s) (string-at .1) w
 
         pub string-part : (end : ℕ) → end ≡ q .start + q .size → take (end - q .start) (drop (q .start) s) ≡ stringBytes l s id
         unfolding stringPlace stringBytes stringOf
         string-part end g =
             part-is s (q .start) (q .size) end g string-inside
-            ∙ rw (found-string .0) (ap (λ (y : StringPlace). bytesAt s (y .start) (y .size)) (found-string .1))
+            ∙ rw (string-at .0) (ap (λ (y : StringPlace). bytesAt s (y .start) (y .size)) (string-at .1))
 
   module _ (r : FunctionRead) (e : r ≡ bodyRead l s id) where
+    pub body-out : (k : ℕ) → r ≡ function-is.Refused k → (0 < idRefusal l s (functionsIn s) id) × (idRefusal l s (functionsIn s) id ≡ k)
+    unfolding bodyRead
+    body-out k f =
+        let (h, q) = is-refused (idRefusal l s (functionsIn s) id) (function-is.Found (asFunction (funcOf l s id))) function-is.Refused (function-is.Refused k) (sym e ∙ f) (λ z. let y : _≡_ {A = ℕ} 0 1 = cc in omega arith) in
+        (h, cc)
+
     pub no-body-bytes : (k : ℕ) → r ≡ function-is.Refused k → _≡_ {A = List ℕ} [] (bodyBytes l s id)
-    unfolding bodyRead bodyBytes
-    no-body-bytes k f = go (eqb (idRefusal l s (functionsIn s) id) 0) (idRefusal l s (functionsIn s) id) (sym e ∙ f)
-      where
-        go : (b : Bool) (n : ℕ) → pick b (function-is.Found (asFunction (funcOf l s id))) (function-is.Refused n) ≡ function-is.Refused k
-            → _≡_ {A = List ℕ} [] (pick b (bodyOf l s id) [])
-        go true n q = let z : _≡_ {A = ℕ} 0 1 = cc in absurd (omega arith)
-        go false n q = refl
+    unfolding bodyBytes
+    no-body-bytes k f = no-bytes (idRefusal l s (functionsIn s) id) (bodyOf l s id) (body-out k f .0)
 
     module _ (q : Function) (f : r ≡ function-is.Found q) where
-      found-body : (idRefusal l s (functionsIn s) id ≡ 0) × (q ≡ asFunction (funcOf l s id))
+      pub body-at : (idRefusal l s (functionsIn s) id ≡ 0) × (q ≡ asFunction (funcOf l s id))
       unfolding bodyRead
-      found-body = go (idRefusal l s (functionsIn s) id) (eqb (idRefusal l s (functionsIn s) id) 0) refl (sym e ∙ f)
-        where
-          go : (n : ℕ) (b : Bool) → eqb n 0 ≡ b → pick b (function-is.Found (asFunction (funcOf l s id))) (function-is.Refused n) ≡ function-is.Found q
-              → (n ≡ 0) × (q ≡ asFunction (funcOf l s id))
-          go n true h g = (eqb-true n 0 h, cc)
-          go n false h g = let z : _≡_ {A = ℕ} 0 1 = cc in absurd (omega arith)
+      body-at =
+          let (z, g) = is-found (idRefusal l s (functionsIn s) id) (function-is.Found (asFunction (funcOf l s id))) function-is.Refused (function-is.Found q) (sym e ∙ f) (λ k z. let y : _≡_ {A = ℕ} 0 1 = cc in omega arith) in
+          (z, cc)
 
       module _ (bytes : (i : ℕ) → getD s i 0 < 256) where
         pub body-inside : q .begin + q .size ≤ length s
         body-inside =
-            let (z, h) = read-is l s (functionsIn s) id (found-body .0) in
+            let (z, h) = read-is l s (functionsIn s) id (body-at .0) in
             let a : Admitted l s = admitted l s bytes z in
             let w : funcOf l s id .begin + funcOf l s id .size ≤ length s = omega (arith, a .body id h .1) in
-            subst⁻¹ (λ (y : Function). y .begin + y .size ≤ length s) (found-body .1) w
+            subst⁻¹ (λ (y : Function). y .begin + y .size ≤ length s) (body-at .1) w
 
         pub body-part : (end : ℕ) → end ≡ q .begin + q .size → take (end - q .begin) (drop (q .begin) s) ≡ bodyBytes l s id
         unfolding bodyBytes bodyOf
         body-part end g =
             part-is s (q .begin) (q .size) end g body-inside
-            ∙ rw (found-body .0) (ap (λ (y : Function). bytesAt s (y .begin) (y .size)) (found-body .1))
+            ∙ rw (body-at .0) (ap (λ (y : Function). bytesAt s (y .begin) (y .size)) (body-at .1))
 
 -- ---- units
 

@@ -5,10 +5,12 @@ use native.Mathlib.Omega.{arith}
 use Rattle.hbc.proofs.ReadLaws.{copy-short, copy-fits}
 
 returns : tie.Need-returns
-returns c = copy-short _ _ (omega arith)
+returns c = let a = c .before .before .before .args in copy-short (a .image .now) (a .out .now) (a .start) (a .size) (c .if1 .taken)
 
 returns-2 : tie.Need-returns-2
-returns-2 c = copy-fits (c .before .before .before .before .before .before .before .args .bytes .now) (c .before .before .before .before .before .before .before .args .out .now) _ (omega arith) (c .before .before .put-bytes .ensures)
+returns-2 c = let a = c .before .before .before .before .before .before .before .before .args in copy-fits (a .image .now) (a .out .now) (a .start) (a .size) _ (c .before .before .before .before .before .before .before .before .pre) (c .before .before .before .before .before .if1 .left) (c .before .before .put-bytes .ensures)
 
 pub copied-spec : {M : Type 1} → statement M
-copied-spec = tie.close (tie.spec returns (λ c κs. search needs) (λ c. search needs) returns-2)
+copied-spec =
+    tie.close
+    (tie.spec returns (λ c. search needs) (λ c. search needs) (λ c. search needs) (λ c. search needs) (λ c κs. search needs) (λ c. search needs) returns-2)
