@@ -1,11 +1,12 @@
 -- Admission's answer taken apart: what an image that is laid out promises, and how further checks follow those of admission.
 use mathlib.Core.Path.{_≡_, refl, sym, _∙_, ap, subst⁻¹}
+use mathlib.Core.Bool.{Bool, true, false}
 use mathlib.Core.List.{List, _++_}
 use Prim.Native.Nat.{ℕ, _<_}
 use native.Mathlib.Omega.{arith}
 use lib.Dec.{eqb}
 use lib.ListN.{getD}
-use borrow.Author.Tests.{ne-eqb}
+use borrow.Author.Tests.{eqb-true, eqb-false, ne-eqb}
 use Rattle.bits.specs.Choice.{pick, Check, judge}
 use Rattle.bits.proofs.TestLaws.{is-found, is-refused}
 use Rattle.bits.proofs.JudgeLaws.{judge-append}
@@ -24,6 +25,14 @@ module _ (l : Layout) (s : List ℕ) where
   pub judged-then : (ds : List Check) → judge (checks l s ++ ds) ≡ pick (eqb (refusal l s) 0) (judge ds) (refusal l s)
   unfolding refusal checks
   judged-then ds = judge-append (checks l s) ds refl
+
+  -- where none is met, none of admission is, and none of those
+  pub judged-none : (ds : List Check) → judge (checks l s ++ ds) ≡ 0 → (refusal l s ≡ 0) × (judge ds ≡ 0)
+  judged-none ds e = go (eqb (refusal l s) 0) refl (sym (judged-then ds) ∙ e)
+    where
+      go : (b : Bool) → eqb (refusal l s) 0 ≡ b → pick b (judge ds) (refusal l s) ≡ 0 → (refusal l s ≡ 0) × (judge ds ≡ 0)
+      go true h q = (eqb-true (refusal l s) 0 h, q)
+      go false h q = absurd (eqb-false (refusal l s) 0 h q)
 
   -- ---- the answer of admission
 

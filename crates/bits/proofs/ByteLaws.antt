@@ -1,8 +1,8 @@
 -- Bytes and numbers, over the number of bytes.
 use mathlib.Core.Path.{_≡_, refl, ap, sym, _∙_}
 use mathlib.Core.List.{List, [], _∷_, _++_, append-assoc, append-nil}
-use Prim.Native.Nat.{ℕ, zero, suc, _+_, _-_, _*_, _/_, _%_, _^_, _≤_, _<_}
-use native.Mathlib.Nat.{not-suc-le-zero, le-of-suc-le-suc, add-zero, zero-add, add-suc, suc-add, add-assoc, add-mul, mul-assoc, zero-mul, mul-one, pow-suc, div-div-eq-div-mul, mul-comm, add-comm, mul-add-mod-self-right, mul-add-div-right}
+use Prim.Native.Nat.{ℕ, zero, suc, _+_, _*_, _/_, _%_, _^_, _≤_, _<_}
+use native.Mathlib.Nat.{not-suc-le-zero, le-of-suc-le-suc, add-zero, zero-add, add-suc, suc-add, add-assoc, add-mul, mul-assoc, mul-one, pow-suc, div-div-eq-div-mul, mul-comm, add-comm, mul-add-mod-self-right, mul-add-div-right}
 use native.Mathlib.Numerals.{add-one}
 use native.Mathlib.Omega.{arith}
 use lib.ListN.{length, getD, take, drop, length-append, List·getD-append}

@@ -1,10 +1,10 @@
 -- Bit fields of a number: a field that was put is read back, and every other stays.
-use mathlib.Core.Path.{_≡_, refl, ap, sym, _∙_, subst}
-use Prim.Native.Nat.{ℕ, zero, suc, _+_, _-_, _*_, _/_, _%_, _^_, _≤_, _<_}
+use mathlib.Core.Path.{_≡_, ap, sym, _∙_}
+use Prim.Native.Nat.{ℕ, _+_, _-_, _*_, _/_, _%_, _^_, _≤_, _<_}
 use native.Mathlib.Nat.{mod-lt, mul-assoc, add-mul, add-assoc, mul-add-div-right, mul-add-mod-self-right}
 use native.Mathlib.Omega.{arith}
 use lib.Arith.{digits-lt}
-use lib.Pow.{pow-pos, pow-add, high, low, split, shr-shr, shr-lt, field, mod-mod-pow, mod-pow-add, shr-mod}
+use lib.Pow.{pow-pos, pow-add, high, low, split, shr-shr, shr-lt, field, mod-mod-pow, mod-pow-add}
 use Rattle.bits.specs.Fields.{fieldOf, withField}
 
 cut : (n at w v : ℕ) → withField n at w v ≡ (n / 2 ^ (w + at) * 2 ^ w + v % 2 ^ w) * 2 ^ at + n % 2 ^ at

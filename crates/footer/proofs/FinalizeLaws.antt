@@ -105,7 +105,7 @@ finalized-over a x y h k = over a x h ∙ sym (over a y k)
 -- ---- what an accepted image is, and what finalize keeps of it
 
 module _ (s t : List ℕ) (e : finalizeOf s ≡ made t) where
-  accepted : (leastLength ≤ length s) × (length s ≤ sizeLimit) × (t ≡ sealed (lengthed s))
+  pub accepted : (leastLength ≤ length s) × (length s ≤ sizeLimit) × (t ≡ sealed (lengthed s))
   unfolding finalizeOf
   accepted = from (either (ltb (length s) leastLength) (ltb sizeLimit (length s))) refl e
     where

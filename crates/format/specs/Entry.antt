@@ -1,6 +1,6 @@
 -- Small string entries and the overflow table. 01, Image rules: "bit 0 wide, bits 1..23 offset, bits 24..31 length"; 01, Strings.
 use mathlib.Core.Bool.{Bool, true, false}
-use Prim.Native.Nat.{ℕ, _^_}
+use Prim.Native.Nat.{ℕ}
 use lib.Dec.{leb}
 use Rattle.bits.specs.Choice.{pick, either}
 use Rattle.format.specs.Table.{entryWide, entryOffset, entryLength}

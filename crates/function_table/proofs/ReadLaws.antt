@@ -2,27 +2,23 @@
 use mathlib.Core.Path.{_≡_, refl, sym, _∙_, ap}
 use mathlib.Core.Bool.{Bool, true, false}
 use mathlib.Core.List.{List}
-use Prim.Native.Nat.{ℕ, _+_, _-_, _*_, _≤_, _<_}
+use Prim.Native.Nat.{ℕ, _+_, _-_, _≤_, _<_}
 use native.Mathlib.Omega.{arith}
-use lib.Dec.{eqb}
-use lib.ListN.{length, take, drop, length-take, length-drop}
+use lib.ListN.{length, take, drop, length-drop}
 use lib.Seq.{length-take-le}
-use Rattle.bits.specs.Choice.{pick}
-use Rattle.bits.specs.Bytes.{bytesAt, number, numberAt, wordAt}
+use Rattle.bits.specs.Bytes.{number, numberAt, wordAt}
 use Rattle.bits.proofs.ByteLaws.{bytesAt-take, bytesAt-self}
 use Rattle.format.specs.declared.Field.{Field}
 use Rattle.format.specs.declared.Layout.{Layout}
 use Rattle.format.specs.declared.Layout.the-variants.{Modern, Legacy}
 use Rattle.format.specs.Table as table
-use Rattle.format.specs.Record.{valueOf, flagsRow, isLarge, pointer}
+use Rattle.format.specs.Record.{valueOf, isLarge, pointer}
 use Rattle.image.specs.Sections.{functionsIn, recordAt}
 use Rattle.image.specs.Functions.{Func, small, header, recordIn, funcOf}
 use Rattle.image.specs.Admission.{headersIn}
 use Rattle.image.proofs.CheckLaws.{headers-in}
 use Rattle.sections.specs.Places.{Fits}
-use Rattle.sections.proofs.SectionLaws.{records-fit, record-start, record-size}
-use Rattle.function_table.specs.declared.Function.{Function}
-use Rattle.function_table.specs.Functions.{asFunc}
+use Rattle.sections.proofs.SectionLaws.{records-fit, record-size}
 
 -- ---- a record in its own part of the image
 

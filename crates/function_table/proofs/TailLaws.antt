@@ -2,14 +2,14 @@
 use mathlib.Core.Path.{_≡_, refl, sym, _∙_, ap, subst}
 use mathlib.Core.Bool.{Bool, true, false, not}
 use mathlib.Core.List.{List}
-use Prim.Native.Nat.{ℕ, _+_, _≤_, _<_, _^_}
+use Prim.Native.Nat.{ℕ, _+_, _≤_, _<_}
 use native.Mathlib.Omega.{arith}
 use lib.Dec.{leb, eqb}
 use lib.ListN.{length}
 use borrow.Author.Tests.{le-leb, lt-leb, leb-true, eq-eqb, ne-eqb, not-true, not-false}
 use Rattle.bits.specs.Choice.{pick, both, implies, allBelow}
 use Rattle.bits.specs.Bytes.{wordAt}
-use Rattle.bits.proofs.TestLaws.{both-0, both-1}
+use Rattle.bits.proofs.TestLaws.{both-1}
 use Rattle.bits.proofs.PassLaws.{all-both, pass-stop, pass-end}
 use Rattle.format.specs.declared.Field.{Field}
 use Rattle.format.specs.declared.Layout.{Layout}
@@ -19,7 +19,7 @@ use Rattle.format.specs.Record.{isLarge, pointer}
 use Rattle.header_write.specs.declared.Pointer.{Pointer}
 use Rattle.header_write.specs.declared.Pointer.the-variants as answer
 use Rattle.footer.specs.Footer.{footerLength}
-use Rattle.image.specs.Sections.{functionsIn, debugIn, tailAt}
+use Rattle.image.specs.Sections.{functionsIn, tailAt}
 use Rattle.image.specs.Functions.{Func, small, header, recordIn, funcOf}
 use Rattle.image.specs.Admission.{inTail, placeInTail, headersIn, bodiesIn, infosIn, debugInTail}
 use Rattle.sections.specs.declared.Places.{Places}

@@ -1,10 +1,9 @@
 -- Functions as code reads them, and the part of refusal 6 that speaks of one function at a time.
-use mathlib.Core.Bool.{Bool, not}
+use mathlib.Core.Bool.{Bool}
 use mathlib.Core.List.{List}
 use Prim.Native.Nat.{ℕ, _+_, _<_}
-use lib.Dec.{leb, eqb}
-use lib.ListN.{length}
-use Rattle.bits.specs.Choice.{pick, both, implies, allBelow}
+use lib.Dec.{leb}
+use Rattle.bits.specs.Choice.{pick, both, implies}
 use Rattle.format.specs.declared.Layout.{Layout}
 use Rattle.format.specs.Table as table
 use Rattle.format.specs.Record.{pointer}

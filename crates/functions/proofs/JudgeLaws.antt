@@ -4,7 +4,7 @@ use mathlib.Core.Bool.{Bool, true, false, not}
 use mathlib.Core.List.{List, _∷_}
 use Prim.Native.Nat.{ℕ, _+_, _-_, _≤_, _<_}
 use native.Mathlib.Omega.{arith}
-use borrow.Author.Tests.{le-leb, lt-leb, ltb-false, leb-false, eq-eqb, ne-eqb, eqb-true, eqb-false, not-true, not-false}
+use borrow.Author.Tests.{le-leb, lt-leb, ltb-false, leb-false, eq-eqb, ne-eqb, eqb-true, not-true, not-false}
 use lib.Dec.{leb, ltb, eqb}
 use lib.ListN.{length}
 use lib.Seq.{sets, length-sets}
@@ -21,7 +21,7 @@ use Rattle.footer.specs.Finalize.{sizeLimit}
 use Rattle.footer.proofs.FinalizeLaws.{length-finalized}
 use Rattle.image.specs.Sections.{functionsIn, debugIn}
 use Rattle.image.specs.Functions.{Func, funcOf}
-use Rattle.image.specs.Admission.{checks, refusal}
+use Rattle.image.specs.Admission.{refusal}
 use Rattle.image.specs.Edit.{edit}
 use Rattle.image.specs.Rebuild.{resize}
 use Rattle.image.specs.Fit.{beyond, sizeRow, fieldsFit}
@@ -31,7 +31,7 @@ use Rattle.sections.specs.Places.{placesOf, Placed}
 use Rattle.admission.specs.declared.Admission.{Admission}
 use Rattle.admission.specs.declared.Admission.the-variants.{Laid, Refused}
 use Rattle.admission.specs.Admission.{admission, numberOf}
-use Rattle.admission.proofs.AnswerLaws.{judged-then, refused-is, laid-is}
+use Rattle.admission.proofs.AnswerLaws.{judged-then, judged-none, refused-is, laid-is}
 use Rattle.function_table.specs.declared.Function.{Function}
 use Rattle.function_table.specs.Functions.{asFunc, WordSized}
 use Rattle.body_checks.specs.Checks.{threshold, bodyAlone, infosOutside, debugPast, fromNothing, movedBy, sizeFits, Target}
@@ -226,12 +226,8 @@ module _ (l : Layout) (s : List ℕ) (id : ℕ) (body : List ℕ) where
       go false t q = let z : _≡_ {A = ℕ} 0 1 = cc in absurd (omega arith)
 
   admitted : bodyRefusal l s id body ≡ 0 → (refusal l s ≡ 0) × (judge (check 7 (leb (functionsIn s) id) ∷ bodyChecks l s id body) ≡ 0)
-  admitted z = go (eqb (refusal l s) 0) refl (sym in-order ∙ z)
-    where
-      go : (b : Bool) → eqb (refusal l s) 0 ≡ b → pick b (judge (check 7 (leb (functionsIn s) id) ∷ bodyChecks l s id body)) (refusal l s) ≡ 0
-          → (refusal l s ≡ 0) × (judge (check 7 (leb (functionsIn s) id) ∷ bodyChecks l s id body) ≡ 0)
-      go true t q = (eqb-true (refusal l s) 0 t, q)
-      go false t q = absurd (eqb-false (refusal l s) 0 t q)
+  unfolding bodyRefusal
+  admitted = judged-none l s (check 7 (leb (functionsIn s) id) ∷ bodyChecks l s id body)
 
   module _ (n : ℕ) (e : answer.Length n ≡ answered (patchBody l s id body)) where
     pub makes : (patchBody l s id body ≡ made (patched l s id body)) × (n ≡ length (patched l s id body))

@@ -11,7 +11,7 @@ use Rattle.image.specs.Admission.{refusal}
 use Rattle.input_records.specs.Heads.{layoutOf}
 use Rattle.admission.specs.declared.Admission.{Admission}
 use Rattle.admission.specs.Admission.{answerFor, admission, numberOf}
-use Rattle.bits.specs.Outcome.{Outcome, refused, made, answered, written, roomed, Answers}
+use Rattle.bits.specs.Outcome.{Outcome, refused, made, answered, roomed, Answers}
 use Rattle.bits.specs.declared.Answer.{Answer}
 use Rattle.bits.specs.declared.Answer.the-variants.{Refused}
 use Rattle.hbc.specs.Numbers.{admitNumber, numbered, coded, Codes, stated}

@@ -1,11 +1,11 @@
 -- A reading as an outcome: bytes of the image at the front of a buffer, or the refusal.
-use mathlib.Core.Path.{_≡_, refl, sym, _∙_, ap, subst}
+use mathlib.Core.Path.{_≡_, refl, sym, _∙_, ap}
 use mathlib.Core.List.{List, _++_}
 use Prim.Native.Nat.{ℕ, _+_, _-_, _≤_, _<_}
 use native.Mathlib.Nat.{zero-add, add-sub-cancel-left}
 use native.Mathlib.Omega.{arith}
 use borrow.Author.Tests.{ne-eqb}
-use lib.ListN.{length, getD, take, drop}
+use lib.ListN.{length, take, drop}
 use lib.Seq.{sets, sets-eq}
 use Rattle.bits.specs.Bytes.{bytesAt}
 use Rattle.bits.specs.Outcome.{Outcome, made, roomed, Answers}
@@ -16,7 +16,7 @@ use Rattle.bits.proofs.OutcomeLaws.{roomed-short, roomed-fits}
 use Rattle.format.specs.declared.Layout.{Layout}
 use Rattle.image.specs.Sections.{functionsIn, stringsIn}
 use Rattle.image.specs.Strings.{stringOf}
-use Rattle.image.specs.Functions.{funcOf, bodyOf}
+use Rattle.image.specs.Functions.{bodyOf}
 use Rattle.function_table.specs.declared.Function.{Function}
 use Rattle.function_table.specs.declared.FunctionRead.{FunctionRead}
 use Rattle.function_table.specs.declared.FunctionRead.the-variants as function-is

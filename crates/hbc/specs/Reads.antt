@@ -1,6 +1,6 @@
 -- Readings as outcomes: the bytes of a string or of a body at the front of a lent buffer, or a refusal.
 use mathlib.Core.List.{List}
-use Prim.Native.Nat.{ℕ, _+_}
+use Prim.Native.Nat.{ℕ}
 use lib.Dec.{eqb}
 use Rattle.bits.specs.Choice.{pick}
 use Rattle.bits.specs.Outcome.{Outcome, refused, made}

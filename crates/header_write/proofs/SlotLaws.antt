@@ -8,7 +8,6 @@ use borrow.Author.Tests.{lt-leb, le-leb}
 use lib.ListN.{length, drop}
 use lib.Seq.{sets, sets-eq, length-sets, drop-length}
 use Rattle.bits.specs.Bytes.{numberAt, wordAt, bytesOf}
-use Rattle.bits.specs.Outcome.{written}
 use Rattle.bits.proofs.ByteLaws.{length-bytesOf}
 use Rattle.header_write.specs.declared.Wrote.the-variants.{Done, Refused}
 use Rattle.header_write.specs.Slots.{Writes, onSlot, ofSlot, shiftWord}

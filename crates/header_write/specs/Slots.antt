@@ -9,7 +9,6 @@ use lib.Seq.{sets}
 use Rattle.bits.specs.Choice.{pick}
 use Rattle.bits.specs.Bytes.{numberAt, wordAt, bytesOf}
 use Rattle.bits.specs.Outcome.{Outcome, refused, made, written}
-use Rattle.format.specs.declared.Layout.{Layout}
 use Rattle.format.specs.declared.Layout.the-variants.{Modern, Legacy}
 use Rattle.format.specs.Table.{modernRecord, legacyRecord}
 use Rattle.records.specs.Records.{pointerRead, legacyFields, modernFields}

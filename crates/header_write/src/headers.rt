@@ -6,11 +6,9 @@ ghost use mathlib.Core.Bool.{true};
 ghost use mathlib.Core.List.{[], _∷_};
 ghost use Prim.Native.Nat.{_+_, _≤_};
 ghost use lib.ListN.{length};
-ghost use lib.Seq.{sets};
-ghost use Rattle.format.specs.declared.Layout.the-variants.{Modern, Legacy};
 ghost use Rattle.format.specs.Table.{rowCount, legacyOptions};
 ghost use Rattle.header_write.specs.Slots.{Writes};
-ghost use Rattle.header_write.specs.Headers.{putAll, put, optional, run, headerWords, identity, onHeader, modernHeader, layoutOf, segmentOf, legacyFront, legacyBack, legacyHeader};
+ghost use Rattle.header_write.specs.Headers.{putAll, put, optional, run, headerWords, identity, onHeader, modernHeader, segmentOf, legacyFront, legacyBack, legacyHeader};
 
 // The fields of a legacy header. Big integers and function sources are there only where the version
 // has them; where it has no segment id, 0 stands in its place.

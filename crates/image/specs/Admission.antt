@@ -1,7 +1,7 @@
 -- Admission: when an image is refused with 1 to 6. 01, Refusal numbers. Each condition is one test; all of one number come before any of the next; sums are exact.
-use mathlib.Core.Bool.{Bool, true, false, not}
+use mathlib.Core.Bool.{Bool, not}
 use mathlib.Core.List.{List, [], _∷_}
-use Prim.Native.Nat.{ℕ, _+_, _*_}
+use Prim.Native.Nat.{ℕ, _+_}
 use lib.Dec.{leb, ltb, eqb}
 use lib.ListN.{length, getD}
 use Rattle.bits.specs.Choice.{both, implies, allBelow, Check, check, judge}

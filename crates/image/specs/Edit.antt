@@ -1,5 +1,5 @@
 -- Edits of an image: new bytes in place of some, new functions, new header words. 01, Strings and Bodies.
-use mathlib.Core.Bool.{Bool, true, false, not}
+use mathlib.Core.Bool.{Bool, not}
 use mathlib.Core.List.{List, [], _∷_, _++_}
 use Prim.Native.Nat.{ℕ, zero, suc, _+_}
 use lib.Dec.{eqb}

@@ -1,7 +1,7 @@
 -- The rebuild of an image's strings, and the replacement of a body by one of another length. 01, Strings: "ids in order, storage packed with no gaps and no sharing".
-use mathlib.Core.Bool.{Bool, true, false}
+use mathlib.Core.Bool.{true, false}
 use mathlib.Core.List.{List, [], _∷_, _++_}
-use Prim.Native.Nat.{ℕ, zero, suc, _+_, _/_}
+use Prim.Native.Nat.{ℕ, _+_, _/_}
 use lib.Dec.{eqb}
 use lib.ListN.{length}
 use Rattle.bits.specs.Choice.{pick}

@@ -2,17 +2,16 @@
 use mathlib.Core.Path.{_≡_, refl, ap, sym, _∙_, subst⁻¹}
 use mathlib.Core.Bool.{Bool, true, false}
 use mathlib.Core.List.{List, [], _++_, append-nil}
-use Prim.Native.Nat.{ℕ, _+_, _-_, _≤_}
+use Prim.Native.Nat.{ℕ, _-_, _≤_}
 use native.Mathlib.Nat.{zero-add, sub-zero}
 use native.Mathlib.Omega.{arith}
-use borrow.Author.Tests.{ltb-false, lt-ltb, le-ltb, eq-eqb, ne-eqb}
-use lib.Dec.{ltb, eqb}
+use borrow.Author.Tests.{ltb-false, eq-eqb, ne-eqb}
+use lib.Dec.{ltb}
 use lib.ListN.{length, take, drop, drop-of-length-le, take-append-drop}
-use lib.Seq.{sets, sets-eq, length-take-le}
+use lib.Seq.{sets-eq, length-take-le}
 use Rattle.bits.specs.Choice.{pick, either}
 use Rattle.bits.specs.Outcome.{Outcome, refused, made, written, Answers}
 use Rattle.bits.specs.declared.Answer.{Answer}
-use Rattle.bits.proofs.TestLaws.{below-or}
 use Rattle.footer.specs.Finalize.{leastLength, sizeLimit, lengthed, sealed, finalizeOf}
 use Rattle.footer.proofs.FinalizeLaws.{length-finalized}
 use Rattle.text.specs.Text.{Wrote}

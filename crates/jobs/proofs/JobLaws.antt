@@ -2,14 +2,14 @@
 use mathlib.Core.Path.{_≡_, refl, ap, sym, _∙_}
 use mathlib.Core.Logic.{_⊎_, inl, inr}
 use mathlib.Core.List.{List, [], _∷_}
-use Prim.Native.Nat.{ℕ, zero, suc, _+_}
-use native.Mathlib.Nat.{add-zero, add-suc, suc-add}
+use Prim.Native.Nat.{ℕ, suc, _+_}
+use native.Mathlib.Nat.{add-zero}
 use native.Mathlib.Omega.{arith}
 use lib.ListN.{length}
 use Rattle.bits.specs.Outcome.{Outcome, refused, made}
 use Rattle.format.specs.declared.Layout.{Layout}
 use Rattle.patches.specs.Patches.{Patch, Step, stepOf, imageAfter, run}
-use Rattle.jobs.specs.Job.{Record, asks, wrong, Ended, image, refusedAt, jobRoom, recordOutcome, onward, jobFrom}
+use Rattle.jobs.specs.Job.{Record, asks, wrong, image, refusedAt, jobRoom, recordOutcome, onward, jobFrom}
 
 -- the steps of the records before the first that is refused
 abbrev onlyMade : (List ℕ → List Step) → Patch → Outcome → List Step

@@ -1,8 +1,8 @@
 -- The pieces of a job give the job: the loop of a program is the definition read aloud.
-use mathlib.Core.Path.{_≡_, refl, ap, sym, _∙_}
+use mathlib.Core.Path.{_≡_, refl, ap, _∙_}
 use mathlib.Core.Bool.{Bool, true, false}
 use mathlib.Core.List.{List, [], _∷_}
-use Prim.Native.Nat.{ℕ, zero, suc, _+_, _-_, _%_, _≤_, _<_, _^_}
+use Prim.Native.Nat.{ℕ, zero, suc, _+_, _%_, _≤_, _<_, _^_}
 use native.Mathlib.Nat.{mod-eq-of-lt}
 use native.Mathlib.Omega.{arith}
 use borrow.Author.Tests.{ltb-true, ltb-false, lt-ltb, le-ltb, eqb-true, ne-eqb}
@@ -24,8 +24,8 @@ use Rattle.input_records.specs.declared.ImageHead.the-variants as head-is
 use Rattle.input_records.specs.Heads.{imageHead, patchHead}
 use Rattle.jobs.specs.declared.Progress.{Progress}
 use Rattle.jobs.specs.declared.Progress.the-variants.{Under, Refused}
-use Rattle.jobs.specs.Job.{Record, Ended, image, refusedAt, statedOf, recordOf, contentOf, recordsOf, jobRoom, recordOutcome, onward, jobFrom, endOf, imageJob, headJob, job, refusedAtLine, writtenBy}
-use Rattle.jobs.specs.Pieces.{imageStated, begunHead, begun, turnOf, progressAfter, closing, turns, headOf, imageOf, behindImage}
+use Rattle.jobs.specs.Job.{Ended, refusedAt, statedOf, recordOf, contentOf, recordsOf, jobRoom, recordOutcome, onward, jobFrom, endOf, imageJob, headJob, job, refusedAtLine, writtenBy}
+use Rattle.jobs.specs.Pieces.{imageStated, begunHead, begun, turnOf, progressAfter, turns, headOf, imageOf, behindImage}
 
 -- what is left behind the next record
 abbrev restOf : List ℕ → List ℕ

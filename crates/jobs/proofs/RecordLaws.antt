@@ -3,26 +3,22 @@ use mathlib.Core.Path.{_≡_, refl, ap, sym, _∙_, subst⁻¹}
 use mathlib.Core.Bool.{Bool, true, false}
 use mathlib.Core.Logic.{inl, inr}
 use mathlib.Core.List.{List}
-use Prim.Native.Nat.{ℕ, _+_, _-_, _%_, _≤_, _<_, _^_}
+use Prim.Native.Nat.{ℕ, _+_, _-_, _≤_, _<_, _^_}
 use native.Mathlib.Nat.{zero-add, sub-zero}
 use native.Mathlib.Omega.{arith}
 use borrow.Author.Tests.{leb-true, ltb-false, lt-ltb, le-ltb, ne-eqb}
-use borrow.Rule.Slice.PartMut.{putMid, put-same}
-use lib.Dec.{ltb, leb, eqb}
-use lib.ListN.{length, getD, take, drop, length-drop, take-append-drop}
+use lib.Dec.{ltb, leb}
+use lib.ListN.{length, getD, take, drop}
 use lib.Seq.{sets, sets-eq, take-all, take-append-seam, length-take-le}
 use Rattle.bits.specs.Choice.{pick, both}
 use Rattle.bits.specs.Bytes.{wordAt, numberAt}
-use Rattle.bits.specs.Outcome.{Outcome, refused, made, written, answered, Answers, roomed}
+use Rattle.bits.specs.Outcome.{Outcome, refused, made, answered, Answers, roomed}
 use Rattle.bits.specs.declared.Answer.{Answer}
 use Rattle.bits.specs.declared.Answer.the-variants as answer-is
 use Rattle.bits.proofs.ListLaws.{AllBelow}
 use Rattle.bits.proofs.ByteLaws.{numberAt-lt}
 use Rattle.bits.proofs.TestLaws.{below-or}
-use Rattle.bits.proofs.OutcomeLaws.{lent-front}
 use Rattle.format.specs.declared.Layout.{Layout}
-use Rattle.footer.specs.Finalize.{leastLength, sizeLimit, lengthed, sealed, finalizeOf}
-use Rattle.image.specs.Admission.{refusal}
 use Rattle.sections.specs.declared.Places.{Places}
 use Rattle.admission.specs.declared.Admission.{Admission}
 use Rattle.admission.specs.declared.Admission.the-variants as admission-is

@@ -7,7 +7,7 @@ use format::Layout;
 use input_records::ImageHead;
 use input_records::PatchHead;
 ghost use mathlib.Core.Path.{_≡_};
-ghost use Prim.Native.Nat.{_+_, _≤_};
+ghost use Prim.Native.Nat.{_≤_};
 ghost use lib.Dec.{ltb};
 ghost use lib.ListN.{length};
 ghost use Rattle.bits.specs.Choice.{pick};

@@ -1,18 +1,18 @@
 -- Each large header against every function.
-use mathlib.Core.Path.{_≡_, refl, sym, _∙_, ap}
+use mathlib.Core.Path.{_≡_, refl, _∙_}
 use mathlib.Core.Bool.{Bool, true, false, not}
 use mathlib.Core.List.{List}
 use Prim.Native.Nat.{ℕ, _+_, _≤_, _<_}
 use lib.Dec.{leb, ltb, eqb}
 use borrow.Author.Tests.{lt-ltb, le-ltb, not-true, not-false}
-use Rattle.bits.specs.Choice.{pick, both, implies, allBelow}
+use Rattle.bits.specs.Choice.{both, implies, allBelow}
 use Rattle.bits.proofs.PassLaws.{all-both, all-same, all-swap, imp-all, pass-stop, pass-end}
 use Rattle.format.specs.declared.Layout.{Layout}
 use Rattle.format.specs.Table as table
 use Rattle.image.specs.Sections.{functionsIn}
 use Rattle.image.specs.Functions.{Func, funcOf}
 use Rattle.image.specs.Admission.{apart, headersApart2, bodyApart, headersApart, bodiesApart}
-use Rattle.large_headers.specs.Clear.{clearOfHeader, clearOfBody, clearOf, clearAt, headerClear, allApart}
+use Rattle.large_headers.specs.Clear.{clearOf, clearAt, headerClear, allApart}
 
 -- ---- a header against one function
 

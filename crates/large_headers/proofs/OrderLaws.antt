@@ -1,5 +1,5 @@
 -- Functions in order: the pass that finds them so, and why their large headers are apart.
-use mathlib.Core.Path.{_≡_, refl, sym, _∙_, ap}
+use mathlib.Core.Path.{_≡_, refl, sym}
 use mathlib.Core.Bool.{Bool, true, false, not}
 use mathlib.Core.Logic.{inl, inr, _≢_}
 use mathlib.Core.List.{List}
@@ -8,9 +8,9 @@ use native.Mathlib.Nat.{not-suc-le-zero}
 use native.Mathlib.Numerals.{add-one}
 use native.Mathlib.Omega.{arith}
 use lib.Dec.{leb, ltb}
-use borrow.Author.Tests.{leb-true, ltb-true, ltb-false, lt-ltb, le-ltb, not-true, not-false}
-use Rattle.bits.specs.Choice.{pick, both, implies, allBelow}
-use Rattle.bits.proofs.TestLaws.{below, below-or, both-0, both-1, both-of, imp-use, all-at, which}
+use borrow.Author.Tests.{leb-true, ltb-true, ltb-false, lt-ltb, le-ltb}
+use Rattle.bits.specs.Choice.{pick, both, allBelow}
+use Rattle.bits.proofs.TestLaws.{below, below-or, both-0, both-1, both-of, imp-use, all-at}
 use Rattle.bits.proofs.PassLaws.{pass-next, pass-stop}
 use Rattle.format.specs.declared.Field.{Field}
 use Rattle.format.specs.declared.Layout.{Layout}

@@ -7,7 +7,6 @@ ghost use mathlib.Core.Path.{_≡_};
 ghost use mathlib.Core.Bool.{true, not};
 ghost use Prim.Native.Nat.{_+_, _≤_, _<_};
 ghost use lib.Dec.{eqb};
-ghost use lib.ListN.{length};
 ghost use Rattle.format.specs.Table.{largeRow};
 ghost use Rattle.image.specs.Sections.{functionsIn};
 ghost use Rattle.image.specs.Admission.{headersIn, apart};

@@ -3,10 +3,9 @@ use mathlib.Core.Path.{_≡_, refl, ap}
 use mathlib.Core.Bool.{Bool, true, false}
 use mathlib.Core.List.{List, [], _∷_, _++_}
 use Prim.Native.Nat.{ℕ, zero, suc, _+_, _-_, _*_, _≤_, _<_}
-use native.Mathlib.Numerals.{add-one}
 use native.Mathlib.Omega.{arith}
-use lib.ListN.{length, take, drop, length-append}
-use lib.Seq.{sets, drop-cons}
+use lib.ListN.{length, length-append}
+use lib.Seq.{sets}
 use Rattle.bits.proofs.WriteLaws.{sets-append}
 use Rattle.image.specs.Strings.{unitSize}
 use Rattle.walk.specs.Units.{unitAt}

@@ -1,11 +1,11 @@
 -- The lines that the listing program prints. 01, Programs.
-use mathlib.Core.Bool.{Bool, true, false}
-use mathlib.Core.List.{List, [], _∷_, _++_}
+use mathlib.Core.Bool.{Bool}
+use mathlib.Core.List.{List, [], _∷_}
 use Prim.Native.Nat.{ℕ, zero, suc}
 use lib.ListN.{length}
 use Rattle.bits.specs.Choice.{pick}
 use Rattle.walk.specs.Units.{unitAt}
-use Rattle.text.specs.Text.{lineFeed, decimal, hexes, spaced, line}
+use Rattle.text.specs.Text.{lineFeed, decimal, hexes, line}
 
 -- a word of one letter
 abbrev pub letter : ℕ → List ℕ

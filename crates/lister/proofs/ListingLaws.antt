@@ -1,17 +1,17 @@
 -- What is printed for an input goes by what it is opened as; and no more of an input is needed than a program reads.
-use mathlib.Core.Path.{_≡_, refl, ap, sym, _∙_, subst⁻¹}
+use mathlib.Core.Path.{_≡_, refl, ap, sym, _∙_}
 use mathlib.Core.Bool.{Bool, true, false}
 use mathlib.Core.Logic.{_⊎_, inl, inr}
-use mathlib.Core.List.{List, [], _∷_}
+use mathlib.Core.List.{List}
 use Prim.Native.Nat.{ℕ, _+_, _-_, _≤_, _<_}
 use native.Mathlib.Omega.{arith}
 use borrow.Author.Tests.{leb-true, eqb-true, eq-eqb, ne-eqb}
 use lib.Dec.{leb, eqb}
 use lib.ListN.{length, getD, take, drop, length-drop}
 use lib.Seq.{take-all, length-take-le, getD-drop}
-use Rattle.bits.specs.Choice.{pick, both}
+use Rattle.bits.specs.Choice.{pick}
 use Rattle.bits.specs.Bytes.{wordAt}
-use Rattle.bits.proofs.TestLaws.{both-1, which, below-or}
+use Rattle.bits.proofs.TestLaws.{both-1, below-or}
 use Rattle.format.specs.declared.Layout.{Layout}
 use Rattle.image.specs.Admission.{refusal}
 use Rattle.image.specs.Admitted.{Admitted}
@@ -25,7 +25,6 @@ use Rattle.lines.specs.Lines.{refusedLine}
 use Rattle.input_records.specs.declared.ImageHead.{ImageHead}
 use Rattle.input_records.specs.declared.ImageHead.the-variants as head-is
 use Rattle.input_records.specs.Heads.{marked, layoutOf, imageHeadGood, imageHead}
-use Rattle.lister.specs.declared.Opened.{Opened}
 use Rattle.lister.specs.declared.Opened.the-variants as opened-is
 use Rattle.lister.specs.Listing.{listed, imageListing, recordListing, listing}
 use Rattle.lister.specs.Pieces.{openedImage, openedRecord, opened, printed, counts, pieces}

@@ -2,17 +2,16 @@
 use mathlib.Core.Path.{_≡_, refl, ap, sym, _∙_, subst}
 use mathlib.Core.Bool.{Bool, true, false, not}
 use mathlib.Core.Logic.{_⊎_, inl, inr}
-use mathlib.Core.List.{List, [], _∷_, _++_, append-nil}
-use Prim.Native.Nat.{ℕ, zero, suc, _+_, _-_, _≤_, _<_}
+use mathlib.Core.List.{List, [], _++_, append-nil}
+use Prim.Native.Nat.{ℕ, _+_, _-_, _≤_, _<_}
 use native.Mathlib.Nat.{zero-add}
 use native.Mathlib.Omega.{arith}
 use borrow.Author.Tests.{lt-ltb, le-ltb, ne-eqb}
-use lib.Dec.{eqb, ltb}
-use lib.ListN.{length, getD, take, drop, length-append, length-drop, drop-of-length-le}
+use lib.Dec.{ltb}
+use lib.ListN.{length, take, drop, length-append, length-drop, drop-of-length-le}
 use lib.Seq.{sets, sets-eq, take-all, take-append-le, take-append-add, take-append-seam, drop-append-le, drop-append-add, drop-nil, take-nil, length-take-le}
 use Rattle.bits.specs.Choice.{pick}
-use Rattle.bits.specs.Outcome.{Outcome, refused, made, Answers}
-use Rattle.bits.specs.declared.Answer.{Answer}
+use Rattle.bits.specs.Outcome.{Answers}
 use Rattle.bits.specs.declared.Answer.the-variants.{Length, Refused}
 use Rattle.bits.proofs.TestLaws.{below-or}
 use Rattle.bits.proofs.WriteLaws.{sets-append}
@@ -28,7 +27,7 @@ use Rattle.lister.specs.declared.Point.{Point}
 use Rattle.lister.specs.declared.Point.the-variants.{Counts}
 use Rattle.lister.specs.declared.Piece.{Piece}
 use Rattle.lister.specs.Listing.{listed, partRoom, listingPart}
-use Rattle.lister.specs.Pieces.{Spot, counts, strings, units, functions, end, left, pieces, after, isEnd, batch, spotOf, Good, GivesAll}
+use Rattle.lister.specs.Pieces.{Spot, counts, strings, units, functions, end, left, pieces, isEnd, batch, spotOf, Good, GivesAll}
 use Rattle.lister.proofs.PieceLaws.{pieces-left}
 
 -- ---- a part of a text: behind k bytes, at most n
@@ -60,7 +59,7 @@ take-both n a b = go (below-or n (length a))
 part-both : (k n : ℕ) (a b : List ℕ) → part k n (a ++ b) ≡ part k n a ++ part (k - length a) (n - length (part k n a)) b
 part-both k n a b = ap (take n) (drop-both k a b) ∙ take-both n (drop k a) (drop (k - length a) b)
 
-part-short : (k n : ℕ) (a : List ℕ) → length (part k n a) ≤ n
+pub part-short : (k n : ℕ) (a : List ℕ) → length (part k n a) ≤ n
 part-short k n a = go (below-or n (length (drop k a)))
   where
     go : (n < length (drop k a)) ⊎ (length (drop k a) ≤ n) → length (part k n a) ≤ n

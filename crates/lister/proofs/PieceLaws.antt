@@ -1,18 +1,17 @@
 -- The pieces of a listing, in order, are the listing; they are no more than its bytes and 3.
 use mathlib.Core.Path.{_≡_, refl, ap, sym, _∙_, subst}
-use mathlib.Core.Bool.{Bool, true, false}
+use mathlib.Core.Bool.{true, false}
 use mathlib.Core.Logic.{_⊎_, inl, inr}
 use mathlib.Core.List.{List, [], _∷_, _++_, append-assoc, append-nil}
-use Prim.Native.Nat.{ℕ, zero, suc, _+_, _-_, _*_, _≤_, _<_}
+use Prim.Native.Nat.{ℕ, zero, suc, _+_, _-_, _≤_, _<_}
 use native.Mathlib.Omega.{arith}
 use borrow.Author.Tests.{lt-ltb, le-ltb}
-use lib.Dec.{ltb}
 use lib.ListN.{length, take, drop, getD, length-append, drop-of-length-le}
 use lib.Seq.{drop-cons, drop-drop}
 use Rattle.bits.proofs.TestLaws.{below-or}
 use Rattle.format.specs.declared.Layout.{Layout}
 use Rattle.image.specs.Sections.{functionsIn, stringsIn}
-use Rattle.text.specs.Text.{hex4, hexes, spaced, line}
+use Rattle.text.specs.Text.{hex4, hexes, spaced}
 use Rattle.lines.specs.Lines.{stringLine, functionLine, unitsWord, closing}
 use Rattle.lines.proofs.UnitLaws.{length-hexes}
 use Rattle.lister.specs.Listing.{linesFrom, stringLineIn, functionLineIn, listed}

@@ -2,28 +2,24 @@
 use mathlib.Core.Path.{_≡_, refl, ap, sym, _∙_, subst}
 use mathlib.Core.Bool.{Bool, true, false, not}
 use mathlib.Core.Logic.{_⊎_, inl, inr}
-use mathlib.Core.List.{List, [], _∷_, _++_}
+use mathlib.Core.List.{List, _++_}
 use Prim.Native.Nat.{ℕ, zero, suc, _+_, _-_, _*_, _≤_, _<_}
-use native.Mathlib.Numerals.{add-one}
 use native.Mathlib.Omega.{arith}
 use borrow.Author.Tests.{not-true, lt-ltb, le-ltb}
 use lib.Dec.{ltb}
-use lib.ListN.{length, take, drop, getD, length-drop, length-append}
+use lib.ListN.{length, take, drop, length-drop, length-append}
 use lib.Seq.{drop-cons, take-all, sets}
 use Rattle.bits.specs.Choice.{pick}
 use Rattle.bits.proofs.TestLaws.{below-or}
 use Rattle.bits.proofs.WriteLaws.{sets-append}
-use Rattle.format.specs.declared.Layout.{Layout}
 use Rattle.image.specs.Sections.{functionsIn, stringsIn}
-use Rattle.image.specs.Strings.{Str, stringOf, unitsOf, unitSize}
-use Rattle.image.specs.Kinds.{isIdentifier}
+use Rattle.image.specs.Strings.{Str, stringOf, unitSize}
 use Rattle.image.specs.Functions.{Func, funcOf}
 use Rattle.sections.specs.declared.Places.{Places}
 use Rattle.sections.specs.Places.{Placed}
 use Rattle.sections.proofs.SectionLaws.{sectioned}
 use Rattle.function_table.specs.declared.Function.{Function}
 use Rattle.function_table.specs.Functions.{asFunc}
-use Rattle.walk.specs.Units.{unitAt}
 use Rattle.reader.specs.declared.Cursor.{Cursor}
 use Rattle.reader.specs.declared.StringPlace.{StringPlace}
 use Rattle.reader.specs.Reading.{ReadAs, CursorOf}
@@ -34,7 +30,7 @@ use Rattle.lister.specs.declared.Point.{Point}
 use Rattle.lister.specs.declared.Point.the-variants.{Counts, Strings, Units, Functions, End}
 use Rattle.lister.specs.declared.Piece.{Piece}
 use Rattle.lister.specs.Listing.{functionLineIn}
-use Rattle.lister.specs.Pieces.{Spot, strings, units, functions, unitsIn, chunk, stringStart, pieceAt, isEnd, nextOf, pieces, after, steps, spotOf, Good, Gives, batch, GivesAll}
+use Rattle.lister.specs.Pieces.{strings, units, functions, unitsIn, chunk, stringStart, pieceAt, isEnd, pieces, after, steps, spotOf, Good, Gives, batch, GivesAll}
 use Rattle.lister.proofs.PieceLaws.{after-falls}
 
 -- a piece that ends somewhere, and a point to go on from

@@ -1,6 +1,5 @@
 -- What the listing program prints. 01, Programs: "The listing program reads one `IM` record; a byte after it gives 15."
-use mathlib.Core.Bool.{Bool}
-use mathlib.Core.List.{List, [], _∷_, _++_}
+use mathlib.Core.List.{List, [], _++_}
 use Prim.Native.Nat.{ℕ, zero, suc, _+_}
 use lib.Dec.{eqb, ltb}
 use lib.ListN.{length, take, drop}

@@ -1,28 +1,24 @@
 -- One accepted body patch, of equal or of another length: what it promises.
-use mathlib.Core.Path.{_≡_, refl, ap, sym, _∙_, subst}
+use mathlib.Core.Path.{_≡_, refl, sym, _∙_}
 use mathlib.Core.Bool.{Bool, true, false, not}
 use mathlib.Core.Logic.{inl, inr, _≢_}
 use mathlib.Core.List.{List, [], _∷_}
-use Prim.Native.Nat.{ℕ, _+_, _-_, _*_, _^_, _≤_, _<_}
+use Prim.Native.Nat.{ℕ, _+_, _-_, _^_, _≤_, _<_}
 use native.Mathlib.Omega.{arith}
-use borrow.Author.Tests.{eq-eqb, ne-eqb, eqb-true, eqb-false, leb-true, leb-false, le-leb, ltb-true, ltb-false, lt-ltb, not-true, not-false}
+use borrow.Author.Tests.{eq-eqb, ne-eqb, eqb-true, eqb-false, leb-true, leb-false, ltb-false, lt-ltb, not-true}
 use lib.Dec.{leb, ltb, eqb}
-use lib.ListN.{length, getD, length-append, length-drop}
+use lib.ListN.{length, length-append, length-drop}
 use lib.Seq.{sets, length-sets, length-take-le}
-use Rattle.bits.specs.Choice.{pick, both, either, implies}
-use Rattle.bits.specs.Bytes.{bytesAt}
-use Rattle.bits.proofs.TestLaws.{which, below-or, both-0, both-1, both-false, either-or, imp-use, all-at}
+use Rattle.bits.specs.Choice.{pick, both, implies}
+use Rattle.bits.proofs.TestLaws.{which, below-or, both-false, imp-use, all-at}
 use Rattle.bits.proofs.ListLaws.{AllBelow}
 use Rattle.bits.proofs.WriteLaws.{sets-off}
 use Rattle.format.specs.declared.Layout.{Layout}
 use Rattle.format.specs.Table as table
-use Rattle.format.specs.Move.{moved}
 use Rattle.format.proofs.MoveLaws.{moved-low, moved-high}
-use Rattle.footer.specs.Footer.{footerLength}
 use Rattle.footer.specs.Finalize.{sizeLimit, lengthed, sealed}
-use Rattle.image.specs.Sections.{functionsIn, kindsIn, identifiersIn, stringsIn, storageIn, debugIn, kindsAt, hashesAt, smallAt, storageAt, tailAt}
-use Rattle.image.specs.Strings.{placeAt, sizeOf, Str, stringOf}
-use Rattle.image.specs.Kinds.{isIdentifier, rankOf, hashIn}
+use Rattle.image.specs.Sections.{functionsIn, identifiersIn, debugIn}
+use Rattle.image.specs.Kinds.{hashIn}
 use Rattle.image.specs.Functions.{Func, funcOf, bodyOf}
 use Rattle.image.specs.Admitted.{Disjoint, Admitted}
 use Rattle.image.specs.Edit.{splice, edit, moveFunc}
@@ -37,7 +33,7 @@ use Rattle.image.proofs.InPlaceLaws as inplace
 use Rattle.image.proofs.ResizeLaws as resizing
 use Rattle.functions.specs.Patch.{threshold, sharesWith, bodyAlone, infosOutside, debugPast, movedBy, patched, sizeFits}
 use Rattle.patches.specs.Patches.{Target, aBody}
-use Rattle.patches.specs.Promise.{bodyAfter, placeAfter, functionAfter, Kept, Promise}
+use Rattle.patches.specs.Promise.{placeAfter, functionAfter, Kept, Promise}
 use Rattle.patches.proofs.CalmLaws.{final-calm, final-hash, final-sealed, kept-after}
 use Rattle.patches.proofs.StringLaws.{moved-still}
 

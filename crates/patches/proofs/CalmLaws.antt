@@ -1,14 +1,11 @@
 -- Writes behind a patch that change no meaning: the file length and the footer.
-use mathlib.Core.Path.{_≡_, refl, ap, sym, _∙_, subst}
-use mathlib.Core.Bool.{Bool, true, false}
-use mathlib.Core.Logic.{inl, inr}
-use mathlib.Core.List.{List, _++_}
-use Prim.Native.Nat.{ℕ, _+_, _-_, _*_, _^_, _≤_, _<_}
+use mathlib.Core.Path.{_≡_, ap, sym, _∙_}
+use mathlib.Core.List.{List}
+use Prim.Native.Nat.{ℕ, _+_, _-_, _*_, _≤_, _<_}
 use native.Mathlib.Omega.{arith}
-use lib.ListN.{length, getD, take, drop, List·getD-append}
+use lib.ListN.{length, getD, take, List·getD-append}
 use lib.Seq.{sets, length-sets, length-take-le, getD-take, take-at, drop-at}
 use Rattle.bits.specs.Bytes.{bytesAt, bytesOf, wordAt}
-use Rattle.bits.proofs.TestLaws.{below-or}
 use Rattle.bits.proofs.ListLaws.{AllBelow, below-append, below-take, below-sets, below-bytesOf}
 use Rattle.bits.proofs.ByteLaws.{numberAt-ext}
 use Rattle.bits.proofs.WriteLaws.{numberAt-back}
@@ -17,10 +14,10 @@ use Rattle.format.specs.Table as table
 use Rattle.sha1.specs.Sha1.{digest}
 use Rattle.sha1.proofs.BlockLaws.{digest-below}
 use Rattle.footer.specs.Footer.{footerLength, footed}
-use Rattle.footer.specs.Finalize.{sizeLimit, lengthed, sealed}
+use Rattle.footer.specs.Finalize.{lengthed, sealed}
 use Rattle.footer.proofs.FinalizeLaws.{finalize-within, finalize-length, finalize-keeps}
-use Rattle.image.specs.Sections.{functionsIn, kindsIn, identifiersIn, stringsIn, debugIn, storageIn, kindsAt, hashesAt, smallAt, storageAt, tailAt}
-use Rattle.image.specs.Strings.{placeAt, sizeOf, Str, stringOf}
+use Rattle.image.specs.Sections.{functionsIn, kindsIn, identifiersIn, stringsIn, debugIn, hashesAt, smallAt, storageAt, tailAt}
+use Rattle.image.specs.Strings.{placeAt, sizeOf, stringOf}
 use Rattle.image.specs.Kinds.{isIdentifier, rankOf, hashIn}
 use Rattle.image.specs.Functions.{Func, funcOf, bodyOf}
 use Rattle.image.specs.Admitted.{Admitted}

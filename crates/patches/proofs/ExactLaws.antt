@@ -1,25 +1,26 @@
 -- A step is refused with n exactly where fault n is there and none before it in 01's order.
-use mathlib.Core.Path.{_≡_, refl, ap, sym, _∙_}
+use mathlib.Core.Path.{_≡_, refl, sym, _∙_}
 use mathlib.Core.Bool.{Bool, true, false, not}
 use mathlib.Core.Logic.{inl, inr, _↔_}
 use mathlib.Core.List.{List, [], _∷_, _++_, append-assoc}
-use Prim.Native.Nat.{ℕ, _+_, _^_, _≤_, _<_}
+use Prim.Native.Nat.{ℕ, _<_}
 use native.Mathlib.Omega.{arith}
-use borrow.Author.Tests.{eq-eqb, eqb-true, leb-true, le-leb, ltb-true, lt-ltb, not-true, not-false}
+use borrow.Author.Tests.{eq-eqb, eqb-true, leb-true, le-leb, ltb-true, lt-ltb, not-true}
 use lib.Dec.{leb, ltb, eqb}
-use lib.ListN.{length, getD}
+use lib.ListN.{length}
 use Rattle.bits.specs.Choice.{pick, both, Check, check, judge}
-use Rattle.bits.specs.Outcome.{Outcome, refused, made, roomed}
-use Rattle.bits.proofs.TestLaws.{which, both-0, both-1, both-of, either-true}
+use Rattle.bits.specs.Outcome.{refused, made, roomed}
+use Rattle.bits.proofs.TestLaws.{both-0, both-1, either-true}
 use Rattle.bits.proofs.JudgeLaws.{rising, given, numbered, Shows, Shows.nothing, Shows._also_, shows-append, shows-map, given-first, given-last, judge-append}
 use Rattle.bits.proofs.ListLaws.{AllBelow}
 use Rattle.format.specs.declared.Layout.{Layout}
 use Rattle.image.specs.Sections.{functionsIn, stringsIn}
 use Rattle.image.specs.Functions.{funcOf}
-use Rattle.image.specs.Fit.{sizeRow, beyond, fieldsFit}
+use Rattle.image.specs.Fit.{fieldsFit}
 use Rattle.image.specs.Admission.{checks, refusal}
 use Rattle.image.proofs.AdmitLaws.{admitted}
 use Rattle.image.proofs.FaultLaws as faults
+use Rattle.admission.proofs.AnswerLaws.{judged-none}
 use Rattle.unicode.specs.Utf8.{isUtf8, utf16}
 use Rattle.find_string.specs.Find.{findId}
 use Rattle.string_patch.specs.Patch as string
@@ -27,7 +28,7 @@ use Rattle.strings.specs.Patch as strings
 use Rattle.functions.specs.Patch as functions
 use Rattle.patches.specs.Patches.{Patch, byId, byValue, toBody, outcomeOf, Step, stepOf, targetOf}
 use Rattle.patches.specs.Lists.{InBytes, RefusedExactly}
-use Rattle.patches.specs.Faults.{turnOf, sizeMost, goesTo, PatchFault}
+use Rattle.patches.specs.Faults.{turnOf, goesTo, PatchFault}
 use Rattle.patches.specs.Faults.PatchFault.{badValue, badOld, badNew, shares, within, infoInside, debugBelow, wasEmpty, absent, overLimit, overField, overSize, noRoom, badImage, noString, noFunction}
 use Rattle.patches.proofs.StepLaws.{patch-promise}
 use Rattle.patches.proofs.OrderLaws.{inTurns, judged-in-order}
@@ -174,11 +175,7 @@ module _ (l : Layout) (s : List ℕ) (bytes : AllBelow 256 s) (p : Step) (in-byt
 
   -- a list that is passed begins with a list that is passed
   first : judge own ≡ 0 → refusal l s ≡ 0
-  unfolding refusal checks
-  first e = elim (which (eqb (judge (checks l s)) 0)) [
-    | inl t ↦ eqb-true (judge (checks l s)) 0 t
-    | inr f ↦ rw f at (sym (judge-append (checks l s) (ownChecks l s (p .patch)) refl) ∙ e)
-  ]
+  first e = judged-none l s (ownChecks l s (p .patch)) e .0
 
   long : judge own ≡ 0 → length (resultOf l s (p .patch)) ≡ goesTo l s (p .patch) (length s)
   long e =

@@ -1,5 +1,5 @@
 -- A string by its value: the lowest id that has the units, or none.
-use mathlib.Core.Path.{_≡_, refl, ap, _∙_}
+use mathlib.Core.Path.{_≡_, refl}
 use mathlib.Core.Bool.{Bool, true, false}
 use mathlib.Core.Logic.{inl, inr, _≢_}
 use mathlib.Core.List.{List, [], _∷_}
@@ -7,7 +7,7 @@ use Prim.Native.Nat.{ℕ, zero, suc, _+_, _≤_, _<_}
 use native.Mathlib.Omega.{arith}
 use borrow.Author.Tests.{leb-true, leb-false, eqb-true, eqb-false, eq-eqb}
 use lib.Dec.{leb, eqb}
-use Rattle.bits.specs.Choice.{pick, both}
+use Rattle.bits.specs.Choice.{pick}
 use Rattle.bits.proofs.TestLaws.{which, both-0, both-1}
 use Rattle.format.specs.declared.Layout.{Layout}
 use Rattle.footer.specs.Footer.{same}

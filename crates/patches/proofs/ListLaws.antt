@@ -2,13 +2,13 @@
 use mathlib.Core.Path.{_≡_, refl, _∙_, ap}
 use mathlib.Core.Logic.{_⊎_, inl, inr}
 use mathlib.Core.List.{List, [], _∷_}
-use Prim.Native.Nat.{ℕ, _<_}
+use Prim.Native.Nat.{ℕ}
 use Rattle.bits.specs.Outcome.{Outcome, refused, made}
 use Rattle.format.specs.declared.Layout.{Layout}
 use Rattle.image.specs.Strings.{Str}
 use Rattle.image.specs.Admitted.{Admitted}
-use Rattle.patches.specs.Patches.{Step, stepOf, imageAfter, run, targetOf, taken, carried}
-use Rattle.patches.specs.Promise.{Promise, Sealed, stringAfter, bodyAfter, hashAfter}
+use Rattle.patches.specs.Patches.{Step, stepOf, run, targetOf, carried}
+use Rattle.patches.specs.Promise.{Promise, stringAfter, bodyAfter, hashAfter}
 use Rattle.patches.specs.Lists.{AllInBytes, Promised}
 use Rattle.patches.proofs.StepLaws.{step-promise}
 use Rattle.patches.proofs.ExactLaws.{refused-exactly}

@@ -1,13 +1,13 @@
 -- Checks judged in the order of 01, where 14 comes before 11: the answer is the number of the first turn among those that are met.
-use mathlib.Core.Path.{_≡_, refl, ap, sym, _∙_}
+use mathlib.Core.Path.{_≡_, refl, ap}
 use mathlib.Core.Bool.{Bool, true, false}
 use mathlib.Core.Logic.{inl, inr, _↔_}
 use mathlib.Core.List.{List, [], _∷_}
 use Prim.Native.Nat.{ℕ, suc, _≤_, _<_}
 use native.Mathlib.Omega.{arith}
-use borrow.Author.Tests.{leb-true, leb-false, eqb-true, eqb-false, eq-eqb}
+use borrow.Author.Tests.{leb-true, leb-false, eqb-true, eq-eqb}
 use lib.Dec.{leb, eqb}
-use Rattle.bits.specs.Choice.{pick, both, either, Check, check, judge}
+use Rattle.bits.specs.Choice.{pick, both, Check, check, judge}
 use Rattle.bits.proofs.TestLaws.{below-or, both-0, both-1, either-or, either-true}
 use Rattle.bits.proofs.JudgeLaws.{rising, given, Shows, judge-shows, judge-least}
 use Rattle.patches.specs.Faults.{turnOf}

@@ -1,19 +1,16 @@
 -- A step is refused with n exactly where fault n is there and none before it.
-use mathlib.Core.Path.{_≡_, refl, ap, sym, _∙_}
+use mathlib.Core.Path.{_≡_, refl, sym}
 use mathlib.Core.Bool.{Bool, true, false, not}
-use mathlib.Core.Logic.{_⊎_, inl, inr, _≢_, _↔_}
-use mathlib.Core.List.{List, [], _∷_, _++_}
+use mathlib.Core.Logic.{_⊎_, inl, inr, _≢_}
+use mathlib.Core.List.{List}
 use Prim.Native.Nat.{ℕ, _+_, _^_, _≤_, _<_}
 use native.Mathlib.Omega.{arith}
-use borrow.Author.Tests.{eq-eqb, ne-eqb, eqb-true, eqb-false, leb-true, leb-false, le-leb, lt-leb, ltb-true, ltb-false, lt-ltb, le-ltb, not-true, not-false}
-use lib.Dec.{leb, ltb, eqb}
+use borrow.Author.Tests.{ne-eqb, eqb-false, leb-true, le-leb, ltb-true, ltb-false, lt-ltb, le-ltb, not-true, not-false}
+use lib.Dec.{ltb, eqb}
 use lib.ListN.{length}
-use Rattle.bits.specs.Choice.{pick, both, either, implies, Check, check, judge}
-use Rattle.bits.specs.Outcome.{Outcome, refused, made, roomed}
-use Rattle.bits.proofs.TestLaws.{which, below-or, both-0, both-1, both-of, either-0, either-1, either-or, either-true, imp-false, all-not, all-fails}
+use Rattle.bits.specs.Choice.{pick, both, either, implies}
+use Rattle.bits.proofs.TestLaws.{below-or, both-0, both-1, either-0, either-1, either-or, either-true, imp-false, all-not, all-fails}
 use Rattle.bits.proofs.DecideLaws.{Decides, leb-decides, eqb-decides, not-decides, both-decides, implies-decides, all-decides}
-use Rattle.bits.proofs.ListLaws.{AllBelow}
-use Rattle.bits.proofs.JudgeLaws.{numbered, judge-append}
 use Rattle.format.specs.declared.Layout.{Layout}
 use Rattle.format.specs.declared.Layout.the-variants.{Modern, Legacy}
 use Rattle.format.specs.Table as table
@@ -21,8 +18,8 @@ use Rattle.image.specs.Sections.{functionsIn, debugIn, tailAt}
 use Rattle.image.specs.Functions.{Func, funcOf}
 use Rattle.image.specs.Fit.{beyond, offsetRow, sizeRow, isBeyond, fieldsFit}
 use Rattle.image.specs.Faults.{ShareByte}
-use Rattle.image.proofs.FaultLaws.{share, shows, gives}
-use Rattle.image.proofs.SlotLaws.{SmallFits, small-fits, modern-info}
+use Rattle.image.proofs.FaultLaws.{share}
+use Rattle.image.proofs.SlotLaws.{small-fits, modern-info}
 use Rattle.functions.specs.Patch.{threshold, sharesWith, bodyAlone, infosOutside, debugPast, sizeFits}
 use Rattle.string_region.specs.Strings.{asString, stringsWith, newTail}
 use Rattle.string_patch.specs.Patch.{fitsInPlace, newLength, patchFits}

@@ -1,30 +1,29 @@
 -- One accepted patch of any kind keeps its promise.
-use mathlib.Core.Path.{_≡_, refl, ap, sym, _∙_, subst}
-use mathlib.Core.Bool.{Bool, true, false, not}
-use mathlib.Core.List.{List, [], _∷_, _++_}
-use Prim.Native.Nat.{ℕ, _≤_, _<_}
+use mathlib.Core.Path.{_≡_, subst}
+use mathlib.Core.Bool.{Bool, true, false}
+use mathlib.Core.List.{List}
+use Prim.Native.Nat.{ℕ, _<_}
 use native.Mathlib.Omega.{arith}
 use borrow.Author.Tests.{leb-false, ltb-false, not-false}
-use lib.Dec.{leb, ltb, eqb}
+use lib.Dec.{ltb, eqb}
 use lib.ListN.{length}
-use Rattle.bits.specs.Choice.{pick, both, Check, judge}
+use Rattle.bits.specs.Choice.{pick, judge}
 use Rattle.bits.specs.Outcome.{Outcome, refused, made, roomed}
-use Rattle.bits.proofs.TestLaws.{which, is-found}
-use Rattle.bits.proofs.JudgeLaws.{judge-pass, judge-append}
+use Rattle.bits.proofs.TestLaws.{is-found}
+use Rattle.bits.proofs.JudgeLaws.{judge-pass}
 use Rattle.bits.proofs.ListLaws.{AllBelow}
 use Rattle.format.specs.declared.Layout.{Layout}
 use Rattle.footer.specs.Finalize.{sizeLimit}
 use Rattle.image.specs.Sections.{stringsIn, functionsIn}
-use Rattle.image.specs.Functions.{funcOf}
-use Rattle.image.specs.Admission.{checks}
 use Rattle.image.specs.Admitted.{Admitted}
 use Rattle.image.specs.Fit.{fieldsFit}
-use Rattle.unicode.specs.Utf8.{isUtf8, utf16}
+use Rattle.admission.proofs.AnswerLaws.{judged-none}
+use Rattle.unicode.specs.Utf8.{utf16}
 use Rattle.find_string.specs.Find.{findId}
 use Rattle.string_patch.specs.Patch as string
 use Rattle.strings.specs.Patch as strings
 use Rattle.functions.specs.Patch as functions
-use Rattle.patches.specs.Patches.{Patch, byId, byValue, toBody, outcomeOf, Step, stepOf, Target, aString, aBody, targetOf}
+use Rattle.patches.specs.Patches.{Patch, byId, byValue, toBody, outcomeOf, Step, stepOf, aString, aBody, targetOf}
 use Rattle.patches.specs.Promise.{Promise}
 use Rattle.patches.specs.Lists.{InBytes}
 use Rattle.patches.proofs.StringLaws.{string-promise}
@@ -46,15 +45,6 @@ roomed-made room (made x) t e = go (ltb room (length x)) e
     go true e = absurd (let z : _≡_ {A = ℕ} 0 1 = cc in omega arith)
     go false e = e
 
--- where nothing is judged wrong, the later checks are passed
-later : (l : Layout) (s : List ℕ) (ys : List Check) → judge (checks l s ++ ys) ≡ 0 → judge ys ≡ 0
-unfolding checks
-later l s ys e = go (eqb (judge (checks l s)) 0) refl (sym (judge-append (checks l s) ys refl) ∙ e)
-  where
-    go : (b : Bool) → eqb (judge (checks l s)) 0 ≡ b → pick b (judge ys) (judge (checks l s)) ≡ 0 → judge ys ≡ 0
-    go true h e = e
-    go false h e = absurd (let z : eqb (judge (checks l s)) 0 ≡ true = rw e in let y : _≡_ {A = ℕ} 0 1 = cc in omega arith)
-
 module _ (l : Layout) (s : List ℕ) (ad : Admitted l s) where
   result : (id : ℕ) (value : List ℕ) → id < stringsIn s → AllBelow 256 value → judge (string.resultChecks l s id value) ≡ 0
       → Promise l s (string.patched l s id value) (aString id value)
@@ -67,7 +57,7 @@ module _ (l : Layout) (s : List ℕ) (ad : Admitted l s) where
   unfolding strings.patchById strings.byIdRefusal
   by-id id value t bytes e =
       let (n, p) = made-of _ _ _ e in
-      let f = later l s _ n in
+      let f = judged-none l s _ n .1 in
       let (known, f₁) = judge-pass _ _ (omega arith) f in
       let (valid, f₂) = judge-pass _ _ (omega arith) f₁ in
       subst (λ (x : List ℕ). Promise l s x (aString id value)) p (result id value (leb-false (stringsIn s) id known) bytes f₂)
@@ -77,7 +67,7 @@ module _ (l : Layout) (s : List ℕ) (ad : Admitted l s) where
   by-value old new t bytes e =
       let id : ℕ = findId l s (utf16 old) in
       let (n, p) = made-of _ _ _ e in
-      let f = later l s _ n in
+      let f = judged-none l s _ n .1 in
       let (first, f₁) = judge-pass _ _ (omega arith) f in
       let (second, f₂) = judge-pass _ _ (omega arith) f₁ in
       let (known, f₃) = judge-pass _ _ (omega arith) f₂ in
@@ -87,7 +77,7 @@ module _ (l : Layout) (s : List ℕ) (ad : Admitted l s) where
   unfolding functions.patchBody functions.bodyRefusal
   to-body id body t bytes e =
       let (n, p) = made-of _ _ _ e in
-      let f = later l s _ n in
+      let f = judged-none l s _ n .1 in
       let (known, f₁) = judge-pass _ _ (omega arith) f in
       let (alone, f₂) = judge-pass _ _ (omega arith) f₁ in
       let (infos, f₃) = judge-pass _ _ (omega arith) f₂ in

@@ -5,9 +5,9 @@ use mathlib.Core.Logic.{inl, inr, _≢_}
 use mathlib.Core.List.{List, []}
 use Prim.Native.Nat.{ℕ, _+_, _-_, _*_, _≤_, _<_}
 use native.Mathlib.Omega.{arith}
-use borrow.Author.Tests.{eq-eqb, ne-eqb, eqb-true, eqb-false, ltb-false, lt-ltb, not-true, not-false}
+use borrow.Author.Tests.{eq-eqb, ne-eqb, eqb-true, eqb-false, ltb-false, lt-ltb, not-true}
 use lib.Dec.{ltb, eqb}
-use lib.ListN.{length, getD}
+use lib.ListN.{length}
 use lib.Seq.{sets, length-sets}
 use Rattle.bits.specs.Choice.{pick, both, implies}
 use Rattle.bits.specs.Bytes.{bytesOf, ascii}
@@ -20,19 +20,17 @@ use Rattle.format.specs.Table as table
 use Rattle.format.specs.Hash.{hashOf}
 use Rattle.format.specs.Move.{moved}
 use Rattle.format.proofs.MoveLaws.{moved-low, moved-high}
-use Rattle.footer.specs.Footer.{footerLength}
 use Rattle.footer.specs.Finalize.{sizeLimit, lengthed, sealed}
-use Rattle.image.specs.Sections.{functionsIn, kindsIn, identifiersIn, stringsIn, storageIn, debugIn, kindsAt, hashesAt, smallAt, storageAt, tailAt}
+use Rattle.image.specs.Sections.{identifiersIn, stringsIn, debugIn, kindsAt, hashesAt, storageAt, tailAt}
 use Rattle.image.specs.Strings.{placeAt, sizeOf, Str, stringOf}
 use Rattle.image.specs.Kinds.{isIdentifier, rankOf, hashIn}
-use Rattle.image.specs.Functions.{Func, funcOf, bodyOf}
+use Rattle.image.specs.Functions.{funcOf}
 use Rattle.image.specs.Admitted.{Admitted}
 use Rattle.image.specs.Rebuild.{rebuild}
-use Rattle.image.specs.Fit.{fieldsFit}
 use Rattle.image.proofs.PlaceLaws.{ordered, hash-in, string-in}
 use Rattle.image.proofs.SlotLaws.{func-eq}
 use Rattle.image.proofs.KindLaws.{rank-lt}
-use Rattle.image.proofs.ReadLaws.{Agree, functions-same, kindCount-same, identifierCount-same, stringCount-same, counts-of, tailAt-same}
+use Rattle.image.proofs.ReadLaws.{functions-same, kindCount-same, identifierCount-same, stringCount-same, counts-of, tailAt-same}
 use Rattle.image.proofs.FitLaws.{fields-use}
 use Rattle.image.proofs.InPlaceLaws.{InPlace, put-same, put-admitted, put-string, put-func, put-body, put-hash, put-identifier, put-rank, own-string, string-in-place, hash-in-place, own-hash}
 use Rattle.image.proofs.RebuildLaws.{Rebuilds, rebuiltPlace, length-rebuilt, counts-kept, rebuilt-identifier, rebuilt-rank, rebuilt-hash, rebuilt-tail, rebuilt-func, rebuilt-body}

@@ -5,16 +5,15 @@ use mathlib.Core.Logic.{inl, inr}
 use mathlib.Core.List.{List, [], _∷_, _++_}
 use Prim.Native.Nat.{ℕ, zero, suc, _+_, _-_, _*_, _/_, _%_, _^_, _≤_, _<_}
 use native.Mathlib.Omega.{arith}
-use borrow.Author.Tests.{eqb-true, eqb-false, ltb-true, ltb-false, lt-ltb}
+use borrow.Author.Tests.{eqb-true, eqb-false, ltb-true, lt-ltb}
 use lib.Dec.{ltb, eqb}
-use lib.ListN.{getD}
 use Rattle.bits.specs.Choice.{pick, both}
 use Rattle.bits.specs.Bytes.{bytesOf, ascii}
 use Rattle.bits.proofs.TestLaws.{which, below-or, both-1}
-use Rattle.bits.proofs.ListLaws.{AllBelow, below-nil, below-append}
-use Rattle.image.specs.Strings.{Str, pairsOf, unitsOf}
+use Rattle.bits.proofs.ListLaws.{AllBelow, below-append}
+use Rattle.image.specs.Strings.{pairsOf, unitsOf}
 use Rattle.unicode.specs.declared.Reading.{Reading}
-use Rattle.unicode.specs.Utf8.{Small, further, between, wrong, opens, goesOn, nextByte, unitsOfPoint, completes, unitsFrom, utf16, unitBytes}
+use Rattle.unicode.specs.Utf8.{Small, further, between, opens, goesOn, nextByte, unitsOfPoint, completes, unitsFrom, utf16, unitBytes}
 use Rattle.unicode.proofs.ReadingLaws.{Reads, small-wrong, small-between, opens-ascii, opens-none, opens-two, opens-three, opens-four, opens-past, goes-below, goes-above, goes-on, next-wrong, next-opens, next-on}
 use Rattle.string_region.specs.Strings.{asString}
 use Rattle.patches.proofs.ValueLaws.{ascii-below}

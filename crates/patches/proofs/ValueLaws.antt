@@ -1,17 +1,17 @@
 -- Values as strings: what may stand in an image, the list of strings with one replaced, and the hash of a value.
-use mathlib.Core.Path.{_≡_, refl, ap, _∙_}
+use mathlib.Core.Path.{_≡_, refl}
 use mathlib.Core.Bool.{Bool, true, false}
 use mathlib.Core.Logic.{inl, inr}
-use mathlib.Core.List.{List, [], _∷_, _++_}
-use Prim.Native.Nat.{ℕ, zero, suc, _+_, _*_, _/_, _^_, _≤_, _<_}
+use mathlib.Core.List.{List, [], _∷_}
+use Prim.Native.Nat.{ℕ, zero, suc, _/_, _^_, _<_}
 use native.Mathlib.Omega.{arith}
 use borrow.Author.Tests.{leb-true}
 use lib.Dec.{leb, eqb}
 use lib.ListN.{length, getD, List·getD-eq-default}
-use Rattle.bits.specs.Choice.{pick, allBelow}
+use Rattle.bits.specs.Choice.{pick}
 use Rattle.bits.specs.Bytes.{bytesOf, ascii}
 use Rattle.bits.specs.Word32.{xorN}
-use Rattle.bits.proofs.TestLaws.{which, below-or, all-at}
+use Rattle.bits.proofs.TestLaws.{below-or, all-at}
 use Rattle.bits.proofs.ListLaws.{AllBelow, below-nil, below-append, below-bytesOf}
 use Rattle.format.specs.declared.Layout.{Layout}
 use Rattle.format.specs.Hash.{mixed, hashStep, hashFrom, hashOf}

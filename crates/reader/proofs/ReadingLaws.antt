@@ -1,12 +1,12 @@
 -- The answers of the reader: one law for each way out, over the number of a reading by id.
-use mathlib.Core.Path.{_≡_, refl, sym, _∙_, ap}
-use mathlib.Core.Bool.{Bool, true, false}
+use mathlib.Core.Path.{_≡_, _∙_, ap}
 use mathlib.Core.List.{List, [], _∷_, _++_}
-use Prim.Native.Nat.{ℕ, _+_, _≤_, _<_}
+use Prim.Native.Nat.{ℕ, _≤_, _<_}
 use native.Mathlib.Omega.{arith}
 use lib.Dec.{leb, eqb}
-use borrow.Author.Tests.{le-leb, lt-leb, leb-false, eqb-true, eqb-false, ne-eqb}
+use borrow.Author.Tests.{le-leb, lt-leb, leb-false, ne-eqb}
 use Rattle.bits.specs.Choice.{pick, check, judge}
+use Rattle.bits.proofs.JudgeLaws.{judge-pass}
 use Rattle.format.specs.declared.Layout.{Layout}
 use Rattle.image.specs.Sections.{functionsIn, stringsIn, debugIn}
 use Rattle.image.specs.Functions.{Func, funcOf}
@@ -19,7 +19,7 @@ use Rattle.function_table.specs.Functions.{asFunc, asFunction}
 use Rattle.admission.specs.declared.Admission.{Admission}
 use Rattle.admission.specs.declared.Admission.the-variants.{Laid, Refused}
 use Rattle.admission.specs.Admission.{admission, numberOf}
-use Rattle.admission.proofs.AnswerLaws.{judged-then, refused-is, refused-then, laid-is, laid-then, laid-layout}
+use Rattle.admission.proofs.AnswerLaws.{judged-none, refused-is, refused-then, laid-is, laid-then, laid-layout}
 use Rattle.reader.specs.declared.StringPlace.{StringPlace}
 use Rattle.reader.specs.declared.StringRead.the-variants as string-is
 use Rattle.reader.specs.declared.DebugRead.the-variants as debug-is
@@ -29,13 +29,10 @@ use Rattle.reader.specs.Reading.{idRefusal, stringPlace, stringRead, bod
 
 -- what is not refused is an admitted image's, and the id is one of it
 pub read-is : (l : Layout) (s : List ℕ) (count id : ℕ) → idRefusal l s count id ≡ 0 → (refusal l s ≡ 0) × (id < count)
-unfolding idRefusal judge
-read-is l s count id e = go (refusal l s) (eqb (refusal l s) 0) refl (leb count id) refl (sym (judged-then l s (check 7 (leb count id) ∷ [])) ∙ e)
-  where
-    go : (n : ℕ) (b : Bool) → eqb n 0 ≡ b → (t : Bool) → leb count id ≡ t → pick b (pick t 7 0) n ≡ 0 → (n ≡ 0) × (id < count)
-    go n true h true g q = absurd (omega arith)
-    go n true h false g q = (eqb-true n 0 h, leb-false count id g)
-    go n false h t g q = absurd (eqb-false n 0 h q)
+unfolding idRefusal
+read-is l s count id e =
+    let (z, q) = judged-none l s (check 7 (leb count id) ∷ []) e in
+    (z, leb-false count id (judge-pass (check 7 (leb count id)) [] (omega arith) q .0))
 
 module _ (l : Layout) (s : List ℕ) (count id : ℕ) (r : Admission) (e : r ≡ admission l s) {A : Type 0} (found : A) (refused : ℕ → A) where
   abbrev answered : A

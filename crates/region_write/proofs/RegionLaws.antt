@@ -1,10 +1,10 @@
 -- The tables of a list of strings, one string longer, and side by side.
-use mathlib.Core.Path.{_≡_, refl, ap, sym, _∙_}
+use mathlib.Core.Path.{_≡_, refl, sym, _∙_}
 use mathlib.Core.Bool.{Bool, true, false}
-use mathlib.Core.List.{List, [], _∷_, _++_, append-assoc, append-nil}
-use Prim.Native.Nat.{ℕ, suc, _+_, _-_, _*_, _≤_, _<_}
+use mathlib.Core.List.{List, [], _∷_, _++_, append-nil}
+use Prim.Native.Nat.{ℕ, suc, _+_, _-_, _*_, _≤_}
 use native.Mathlib.Omega.{arith}
-use lib.ListN.{length, set, replicate, length-append}
+use lib.ListN.{length, replicate, length-append}
 use lib.Seq.{sets}
 use Rattle.bits.specs.Choice.{pick}
 use Rattle.bits.specs.Bytes.{bytesOf, wordsOf, up4}

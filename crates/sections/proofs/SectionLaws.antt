@@ -5,7 +5,7 @@ use Prim.Native.Nat.{ℕ, _+_, _-_, _*_, _≤_, _<_}
 use native.Mathlib.Nat.{mul-le-mul-left}
 use native.Mathlib.Omega.{arith}
 use lib.ListN.{length}
-use Rattle.bits.specs.Bytes.{up4, wordAt}
+use Rattle.bits.specs.Bytes.{up4}
 use Rattle.format.specs.declared.Field.{Field}
 use Rattle.format.specs.declared.Layout.{Layout}
 use Rattle.format.specs.declared.Layout.the-variants.{Modern, Legacy}

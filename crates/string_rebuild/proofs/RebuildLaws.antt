@@ -1,5 +1,5 @@
 -- The rebuilt image as the code writes it: what stands around the strings, the strings, the counts, what moves, the end of every patch.
-use mathlib.Core.Path.{_≡_, ap, sym, _∙_, subst, subst⁻¹}
+use mathlib.Core.Path.{_≡_, ap, sym, _∙_, subst⁻¹}
 use mathlib.Core.List.{List, [], _∷_}
 use Prim.Native.Nat.{ℕ, _+_, _-_, _*_, _≤_}
 use native.Mathlib.Omega.{arith}

@@ -1,18 +1,18 @@
 -- The pass over the kinds.
 use mathlib.Core.Path.{_≡_, refl, sym, _∙_, ap}
-use mathlib.Core.Bool.{Bool, true, false}
+use mathlib.Core.Bool.{false}
 use mathlib.Core.List.{List}
-use Prim.Native.Nat.{ℕ, _+_, _*_}
+use Prim.Native.Nat.{ℕ, _+_}
 use lib.Dec.{eqb}
 use borrow.Author.Tests.{eq-eqb, ne-eqb}
 use Rattle.bits.specs.Choice.{sumBelow}
 use Rattle.bits.proofs.TestLaws.{sum-next}
 use Rattle.format.specs.declared.Layout.{Layout}
-use Rattle.image.specs.Sections.{kindsIn, identifiersIn, stringsIn, kindsAt}
-use Rattle.image.specs.Kinds.{kindIn, runOf, identifierRun, isIdentifierRun, covered, identified}
+use Rattle.image.specs.Sections.{kindsIn, kindsAt}
+use Rattle.image.specs.Kinds.{kindIn, runOf, identifierRun, covered, identified}
 use Rattle.sections.specs.declared.Places.{Places}
 use Rattle.sections.specs.Places.{Placed}
-use Rattle.sections.proofs.SectionLaws.{Sectioned, sectioned}
+use Rattle.sections.proofs.SectionLaws.{sectioned}
 use Rattle.string_tables.specs.Words.{wordsFrom}
 use Rattle.string_tables.specs.Kinds.{kindsGood}
 

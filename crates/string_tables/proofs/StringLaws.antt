@@ -11,16 +11,16 @@ use lib.Bits.{bitOr, or-add-and, and-le-l, and-le-r, or-lt}
 use lib.Dec.{leb, ltb, eqb}
 use lib.ListN.{length, getD}
 use borrow.Author.Tests.{leb-true, leb-false, le-leb, lt-leb, ltb-true, lt-ltb, le-ltb, eqb-true, not-true, not-false}
-use Rattle.bits.specs.Choice.{pick, both, implies, allBelow}
+use Rattle.bits.specs.Choice.{both, implies, allBelow}
 use Rattle.bits.specs.Bytes.{wordAt}
-use Rattle.bits.proofs.TestLaws.{which, below, both-0, imp-use, all-fails, all-next}
+use Rattle.bits.proofs.TestLaws.{which, below, both-0, imp-use, all-next}
 use Rattle.bits.proofs.PassLaws.{all-both, all-same, pass-next, pass-stop}
 use Rattle.format.specs.declared.Layout.{Layout}
 use Rattle.format.specs.Table.{entryOffset, entryLength, ifSet}
 use Rattle.format.specs.Record.{valueOf}
 use Rattle.format.specs.Entry as entry
-use Rattle.image.specs.Sections.{stringsIn, overflowsIn, storageIn, smallAt, overAt, storageAt}
-use Rattle.image.specs.Strings.{isFull, isWide, overBefore, placeOf, locate, smallIn, overIn, placeAt, unitSize, sizeOf}
+use Rattle.image.specs.Sections.{stringsIn, overflowsIn, storageIn, overAt}
+use Rattle.image.specs.Strings.{isFull, isWide, overBefore, placeOf, locate, smallIn, overIn, placeAt, sizeOf}
 use Rattle.image.specs.Admission.{overflowsCounted, overflowsNumbered, stringsStored, stringsNarrow, bytesNarrow}
 use Rattle.sections.specs.declared.Places.{Places}
 use Rattle.sections.specs.Places.{Placed}

@@ -1,7 +1,7 @@
 -- Refusal 5 as one pass over the small table, with the count of overflow entries carried along.
 use mathlib.Core.Bool.{Bool}
 use mathlib.Core.List.{List}
-use Prim.Native.Nat.{ℕ, _+_, _*_}
+use Prim.Native.Nat.{ℕ, _+_}
 use lib.Dec.{leb, ltb, eqb}
 use lib.ListN.{getD}
 use Rattle.bits.specs.Choice.{both, implies, allBelow}
@@ -9,7 +9,7 @@ use Rattle.format.specs.declared.Layout.{Layout}
 use Rattle.format.specs.Table.{entryOffset}
 use Rattle.format.specs.Record.{valueOf}
 use Rattle.format.specs.Entry as entry
-use Rattle.image.specs.Sections.{overflowsIn, stringsIn, storageIn}
+use Rattle.image.specs.Sections.{overflowsIn, storageIn}
 use Rattle.image.specs.Strings.{isFull, overBefore, placeOf, smallIn, overIn, sizeOf}
 use Rattle.image.specs.Admission.{overflowsCounted, overflowsNumbered, stringsStored, stringsNarrow, bytesNarrow}
 use Rattle.string_tables.specs.declared.Place.{Place}

@@ -1,7 +1,7 @@
 -- Numbers and lines as text. 01, Programs: "numbers are decimal"; "units as four lower-case hex digits each"; "Every printed line ends with a line feed".
 use mathlib.Core.Path.{_≡_}
 use mathlib.Core.List.{List, [], _∷_, _++_}
-use Prim.Native.Nat.{ℕ, zero, suc, _+_, _*_, _/_, _%_}
+use Prim.Native.Nat.{ℕ, zero, suc, _+_, _/_, _%_}
 use lib.Dec.{ltb}
 use lib.ListN.{length}
 use lib.Seq.{sets}

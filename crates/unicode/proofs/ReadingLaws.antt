@@ -3,11 +3,11 @@ use mathlib.Core.Path.{_≡_, refl, ap, sym, _∙_, subst}
 use mathlib.Core.Bool.{Bool, true, false}
 use mathlib.Core.List.{List, [], _∷_}
 use Prim.Native.Nat.{ℕ, zero, suc, _+_, _-_, _*_, _/_, _%_, _^_, _≤_, _<_}
-use native.Mathlib.Nat.{one-le-pow, not-suc-le-zero, pow-suc, mul-assoc, mul-comm, mul-le-mul-right, mul-le-mul-left, mul-one, le-trans}
+use native.Mathlib.Nat.{one-le-pow, not-suc-le-zero, pow-suc, mul-assoc, mul-comm, mul-le-mul-right, mul-le-mul-left, le-trans}
 use native.Mathlib.Numerals.{add-one}
 use native.Mathlib.Omega.{arith}
 use borrow.Author.Tests.{lt-ltb, le-ltb, le-leb, lt-leb, eq-eqb, ne-eqb}
-use lib.Dec.{ltb, leb, eqb}
+use lib.Dec.{eqb}
 use lib.ListN.{length, getD, drop, drop-of-length-le}
 use lib.Seq.{drop-cons}
 use Rattle.bits.specs.Choice.{pick, both}

@@ -1,4 +1,3 @@
-use native.Mathlib.Omega.{arith}
 use Rattle.function_table.proofs.ReadLaws.{small-modern, small-legacy}
 use borrow.Author.Needs.{needs}
 use Rattle.function_table.proofs.small_function.Statement.{statement}

@@ -1,7 +1,6 @@
 use borrow.Author.Needs.{needs}
 use Rattle.hbc.proofs.copied.Statement.{statement}
 use Rattle.hbc.proofs.copied.Tie as tie
-use native.Mathlib.Omega.{arith}
 use Rattle.hbc.proofs.ReadLaws.{copy-short, copy-fits}
 
 returns : tie.Need-returns

@@ -1,6 +1,5 @@
 use native.Mathlib.Omega.{arith}
 use Rattle.header_write.proofs.SlotLaws.{read-short, read-done}
-use mathlib.Core.Path.{ap, _∙_}
 use borrow.Author.Needs.{needs}
 use Rattle.header_write.proofs.read_legacy_function_header.Statement.{statement}
 use Rattle.header_write.proofs.read_legacy_function_header.Tie as tie

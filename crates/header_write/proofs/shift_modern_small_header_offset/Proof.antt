@@ -1,11 +1,7 @@
-use mathlib.Core.Path.{_≡_, ap, _∙_}
-use Prim.Native.Nat.{ℕ}
 use native.Mathlib.Omega.{arith}
 use mir.Facts.{toZ-ofZ}
-use Rattle.format.specs.Table.{modernRecord, modernOffset}
-use Rattle.format.specs.declared.Layout.the-variants.{Modern}
-use Rattle.records.specs.Delta.{turned}
-use Rattle.records.specs.Records.{shiftSmall, shiftField}
+use Rattle.format.specs.Table.{modernRecord}
+use Rattle.records.specs.Records.{shiftSmall}
 use Rattle.header_write.proofs.SlotLaws.{slot-short, slot-done}
 use borrow.Author.Needs.{needs}
 use Rattle.header_write.proofs.shift_modern_small_header_offset.Statement.{statement}

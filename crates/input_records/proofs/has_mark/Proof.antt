@@ -1,7 +1,7 @@
 use borrow.Author.Needs.{needs}
 use Rattle.input_records.proofs.has_mark.Statement.{statement}
 use Rattle.input_records.proofs.has_mark.Tie as tie
-use borrow.Author.Tests.{eq-eqb, ne-eqb, eqb-true, eqb-false, not-true, not-false}
+use borrow.Author.Tests.{eq-eqb, ne-eqb}
 
 returns : tie.Need-returns
 returns c = rw (ne-eqb _ _ (c .if1 .taken))

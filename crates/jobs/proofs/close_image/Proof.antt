@@ -1,7 +1,6 @@
 use borrow.Author.Needs.{needs}
 use Rattle.jobs.proofs.close_image.Statement.{statement}
 use Rattle.jobs.proofs.close_image.Tie as tie
-use native.Mathlib.Omega.{arith}
 use Rattle.jobs.proofs.CloseLaws.{close-kept, close-sealed}
 
 returns : tie.Need-returns

@@ -1,7 +1,6 @@
 use borrow.Author.Needs.{needs}
 use Rattle.jobs.proofs.finish.Statement.{statement}
 use Rattle.jobs.proofs.finish.Tie as tie
-use native.Mathlib.Omega.{arith}
 use Rattle.jobs.proofs.CloseLaws.{close-as, close-refused}
 
 returns : tie.Need-returns

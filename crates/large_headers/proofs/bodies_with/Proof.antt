@@ -1,4 +1,3 @@
-use native.Mathlib.Omega.{arith}
 use borrow.Author.Tests.{lt-ltb, le-ltb}
 use Rattle.large_headers.proofs.OrderLaws.{empty, not-empty}
 use borrow.Author.Needs.{needs}

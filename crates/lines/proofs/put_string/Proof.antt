@@ -1,12 +1,11 @@
 use borrow.Author.Needs.{needs}
 use Rattle.lines.proofs.put_string.Statement.{statement}
 use Rattle.lines.proofs.put_string.Tie as tie
-use mathlib.Core.List.{List, [], _∷_, _++_}
-use Prim.Native.Nat.{ℕ}
+use mathlib.Core.List.{[], _∷_}
 use native.Mathlib.Omega.{arith}
-use Rattle.text.specs.Text.{decimal, space, spaced, line}
-use Rattle.text.proofs.TextLaws.{wrote-then, wrote-word}
-use Rattle.lines.specs.Lines.{letter, refusedLine, countsLine, stringWords, functionLine}
+use Rattle.text.specs.Text.{decimal, spaced}
+use Rattle.text.proofs.TextLaws.{wrote-word}
+use Rattle.lines.specs.Lines.{letter}
 use Rattle.bits.specs.Choice.{pick}
 
 returns : tie.Need-returns

@@ -1,8 +1,7 @@
 use Rattle.lister.proofs.put_lines.Statement.{statement}
 use Rattle.lister.proofs.put_lines.Tie as tie
-use Prim.Native.Nat.{ℕ, _+_, _-_, _≤_, _<_}
-use mathlib.Core.List.{List}
-use mathlib.Core.Path.{_≡_, refl, _∙_, ap, sym}
+use Prim.Native.Nat.{ℕ, _-_}
+use mathlib.Core.Path.{_≡_, refl, _∙_, ap}
 use native.Mathlib.Omega.{arith}
 use lib.ListN.{length, take}
 use Rattle.lister.specs.Pieces.{spotOf, steps}

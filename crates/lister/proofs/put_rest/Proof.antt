@@ -1,11 +1,7 @@
 use borrow.Author.Needs.{needs}
 use Rattle.lister.proofs.put_rest.Statement.{statement}
 use Rattle.lister.proofs.put_rest.Tie as tie
-use Prim.Native.Nat.{ℕ, _+_, _-_, _≤_, _<_}
-use mathlib.Core.List.{List}
-use mathlib.Core.Path.{_≡_, _∙_, ap, sym}
 use native.Mathlib.Omega.{arith}
-use lib.ListN.{length}
 use Rattle.lister.proofs.PartLaws.{no-rest, cut-length, rest-copied, rest-written}
 
 returns : tie.Need-returns

@@ -1,6 +1,5 @@
 use Rattle.printer.proofs.print_lines.Statement.{statement}
 use Rattle.printer.proofs.print_lines.Tie as tie
-use Prim.Native.Nat.{_≤_}
 use mathlib.Core.Path.{_≡_, refl, _∙_}
 use native.Mathlib.Omega.{arith}
 use lib.ListN.{length}

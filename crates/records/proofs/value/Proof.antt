@@ -1,5 +1,4 @@
 use Rattle.records.proofs.RowLaws.{record-row, row-placed, row-value}
-use borrow.Author.Needs.{needs}
 use Rattle.records.proofs.value.Statement.{statement}
 use Rattle.records.proofs.value.Tie as tie
 

@@ -1,4 +1,3 @@
-use Rattle.bits.specs.Fields.{fieldOf}
 use Rattle.bits.proofs.FieldLaws.{field-front}
 use Rattle.format.specs.Record.{putPointer}
 use borrow.Author.Needs.{needs}

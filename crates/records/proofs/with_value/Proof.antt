@@ -1,9 +1,8 @@
-use mathlib.Core.Path.{_≡_, subst, _∙_, ap}
+use mathlib.Core.Path.{_∙_, ap}
 use Rattle.bits.specs.Fields.{withField}
 use Rattle.bits.specs.Words.{whole}
 use Rattle.format.specs.declared.Field.{Field}
 use Rattle.records.proofs.RowLaws.{record-row, row-placed}
-use borrow.Author.Needs.{needs}
 use Rattle.records.proofs.with_value.Statement.{statement}
 use Rattle.records.proofs.with_value.Tie as tie
 

@@ -1,5 +1,4 @@
 use Prim.Native.Nat.{_≤_, _-_}
-use mathlib.Core.Path.{refl}
 use native.Mathlib.Omega.{arith}
 use Rattle.sha1_vectors.proofs.print_digest.Statement.{statement}
 use Rattle.sha1_vectors.proofs.print_digest.Tie as tie

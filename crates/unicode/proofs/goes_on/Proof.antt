@@ -1,4 +1,3 @@
-use mathlib.Core.Path.{_≡_, _∙_}
 use native.Mathlib.Omega.{arith}
 use Rattle.unicode.proofs.ReadingLaws.{small-wrong, point-low, goes-below, goes-above, goes-on}
 use borrow.Author.Needs.{needs}

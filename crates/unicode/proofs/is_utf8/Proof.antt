@@ -1,10 +1,10 @@
 use Prim.Native.Nat.{_≤_, _+_, _-_}
-use mathlib.Core.Path.{_≡_, refl, ap, sym, _∙_, subst}
+use mathlib.Core.Path.{_≡_, ap, sym, _∙_, subst}
 use native.Mathlib.Omega.{arith}
-use lib.ListN.{length, drop, getD}
+use lib.ListN.{length, drop}
 use Rattle.unicode.specs.declared.Reading.{Reading}
-use Rattle.unicode.specs.Utf8.{Small, between, readingOf, isUtf8}
-use Rattle.unicode.proofs.ReadingLaws.{small-between, reading-next, reading-end, judged-ok, judged-wrong}
+use Rattle.unicode.specs.Utf8.{Small, between, readingOf}
+use Rattle.unicode.proofs.ReadingLaws.{small-between, reading-next, judged-ok, judged-wrong}
 use Rattle.unicode.proofs.is_utf8.Statement.{statement}
 use Rattle.unicode.proofs.is_utf8.Tie as tie
 

@@ -1,8 +1,5 @@
-use mathlib.Core.Path.{_≡_, subst, sym, _∙_, ap}
 use native.Mathlib.Omega.{arith}
-use Rattle.bits.specs.Choice.{pick}
-use Rattle.unicode.specs.Utf8.{opens}
-use Rattle.unicode.proofs.ReadingLaws.{Reads, reads, small-wrong, opens-ascii, opens-none, opens-two, opens-three, opens-four, opens-past}
+use Rattle.unicode.proofs.ReadingLaws.{small-wrong, opens-ascii, opens-none, opens-two, opens-three, opens-four, opens-past}
 use borrow.Author.Needs.{needs}
 use Rattle.unicode.proofs.opens.Statement.{statement}
 use Rattle.unicode.proofs.opens.Tie as tie

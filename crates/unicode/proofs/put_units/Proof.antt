@@ -1,8 +1,7 @@
 use Prim.Native.Nat.{_≤_, _+_, _-_}
-use mathlib.Core.Path.{_≡_, refl, ap, sym, _∙_, subst}
+use mathlib.Core.Path.{_≡_, refl, sym, _∙_, subst}
 use native.Mathlib.Omega.{arith}
 use lib.ListN.{length, drop}
-use Rattle.unicode.specs.declared.Reading.{Reading}
 use lib.Seq.{sets}
 use Rattle.unicode.specs.Utf8.{Small, between, unitsFrom, unitBytes, utf16}
 use Rattle.unicode.proofs.ReadingLaws.{small-between}

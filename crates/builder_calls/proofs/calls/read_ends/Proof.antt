@@ -1,6 +1,6 @@
 -- `builder_calls::calls::read_ends` is safe and ends: the ends keep their number.
 use Prim.Native.Nat.{_-_}
-use mathlib.Core.Path.{_≡_, refl, sym}
+use mathlib.Core.Path.{_≡_, refl}
 use native.Mathlib.Omega.{arith}
 use lib.ListN.{length, length-set}
 use Rattle.builder_calls.proofs.calls.read_ends.Statement.{statement}

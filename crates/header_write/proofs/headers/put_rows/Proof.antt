@@ -1,11 +1,9 @@
 use Prim.Native.Nat.{_≤_, _+_, _-_}
-use mathlib.Core.Path.{_≡_, refl, ap, _∙_}
+use mathlib.Core.Path.{_≡_, refl, _∙_}
 use mathlib.Core.Bool.{true}
 use native.Mathlib.Nat.{add-zero}
 use native.Mathlib.Omega.{arith}
 use lib.ListN.{length, drop}
-use Rattle.bits.specs.Bytes.{bytesOf}
-use Rattle.format.specs.Table.{placeIn}
 use Rattle.header_write.specs.Headers.{putAll, run, isHeaderWord}
 use Rattle.header_write.proofs.HeaderLaws.{row-at, word-width, word-fits, place-le, run-next, run-end}
 use Rattle.header_write.proofs.headers.put_rows.Statement.{statement}

@@ -1,4 +1,3 @@
-use mathlib.Core.Path.{refl}
 use Rattle.header_write.specs.Headers.{putAll}
 use borrow.Author.Needs.{needs}
 use Rattle.header_write.proofs.headers.put_rows_if.Statement.{statement}

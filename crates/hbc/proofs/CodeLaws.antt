@@ -1,0 +1,136 @@
+-- The number of an answer tells it: a refusal's is 2^32 or more, and no length is.
+use mathlib.Core.Path.{_≡_, refl, ap}
+use mathlib.Core.Bool.{Bool, true, false}
+use mathlib.Core.Logic.{_⊎_, inl, inr}
+use mathlib.Core.List.{List}
+use Prim.Native.Nat.{ℕ, _+_, _≤_, _<_}
+use native.Mathlib.Omega.{arith}
+use borrow.Author.Tests.{eqb-true, ltb-false, lt-ltb, le-ltb}
+use lib.Dec.{ltb, eqb}
+use lib.ListN.{length, getD, drop}
+use Rattle.bits.specs.Choice.{pick, judge}
+use Rattle.bits.specs.Outcome.{Outcome, refused, made, answered, roomed}
+use Rattle.bits.specs.declared.Answer.the-variants.{Length, Refused}
+use Rattle.bits.proofs.ByteLaws.{length-bytesAt}
+use Rattle.bits.proofs.JudgeLaws.{judge-pass}
+use Rattle.bits.proofs.TestLaws.{below-or}
+use Rattle.format.specs.declared.Layout.{Layout}
+use Rattle.footer.specs.Finalize.{sizeLimit, finalizeOf}
+use Rattle.footer.proofs.FinalizeLaws.{accepted, finalize-length}
+use Rattle.serialize.specs.Parts.{storageOf, minimal}
+use Rattle.serialize.specs.Builder.{checks, built}
+use Rattle.image.specs.Sections.{stringsIn, functionsIn, storageAt}
+use Rattle.image.specs.Strings.{placeAt, sizeOf, stringOf}
+use Rattle.image.specs.Functions.{funcOf, bodyOf}
+use Rattle.image.specs.Admission.{refusal}
+use Rattle.image.specs.Admitted.{Admitted}
+use Rattle.image.proofs.AdmitLaws.{admitted}
+use Rattle.image.proofs.PlaceLaws.{string-in}
+use Rattle.admission.proofs.AnswerLaws.{judged-none}
+use Rattle.reader.specs.Reading.{idRefusal}
+use Rattle.reader.proofs.ReadingLaws.{read-is}
+use Rattle.strings.specs.Patch.{byIdRefusal, patchById, byValueRefusal, patchByValue}
+use Rattle.functions.specs.Patch.{bodyRefusal, patchBody}
+use Rattle.patches.specs.Patches.{Patch, byId, byValue, toBody, outcomeOf}
+use Rattle.patches.specs.Lists.{InBytes}
+use Rattle.patches.proofs.StepLaws.{made-of, patch-promise}
+use Rattle.lister.specs.Listing.{listed, partRoom, listingPart}
+use Rattle.lister.proofs.PartLaws.{part-short}
+use Rattle.input_records.specs.Heads.{layoutOf}
+use Rattle.hbc.specs.Numbers.{coded, stated}
+use Rattle.hbc.specs.Reads.{stringReading, bodyReading}
+
+-- what is made is no longer than an image
+abbrev pub Short : Outcome → Type 0
+Short (refused n) = Unit {0}
+Short (made new) = length new ≤ sizeLimit
+
+-- TWO OUTCOMES WITH ONE NUMBER HAVE ONE ANSWER
+pub told-apart : (o o′ : Outcome) → Short o → Short o′ → coded o ≡ coded o′ → answered o ≡ answered o′
+told-apart (refused n) (refused m) h k e = ap Refused (let z : n ≡ m = omega arith in z)
+told-apart (refused n) (made t) h k e = absurd (omega (arith, k))
+told-apart (made t) (refused m) h k e = absurd (omega (arith, h))
+told-apart (made t) (made u) h k e = ap Length e
+
+-- ---- rooms and layouts change nothing of it
+
+pub short-in-room : (room : ℕ) (o : Outcome) → Short o → Short (roomed room o)
+unfolding roomed
+short-in-room room (refused n) h = tt
+short-in-room room (made t) h = go (ltb room (length t))
+  where
+    go : (b : Bool) → Short (pick b (refused 13) (made t))
+    go true = tt
+    go false = h
+
+pub short-stated : (byte : ℕ) (o : Layout → Outcome) → ((l : Layout) → Short (o l)) → Short (stated byte o)
+unfolding stated
+short-stated byte o h = go (ltb 4 byte)
+  where
+    go : (b : Bool) → Short (pick b (refused 15) (o (layoutOf byte)))
+    go true = tt
+    go false = h (layoutOf byte)
+
+-- ---- one for each function that writes
+
+short-made : (o : Outcome) → ((t : List ℕ) → o ≡ made t → length t ≤ sizeLimit) → Short o
+short-made (refused n) h = tt
+short-made (made t) h = h t refl
+
+short-judged : (n : ℕ) (t : List ℕ) → (n ≡ 0 → length t ≤ sizeLimit) → Short (pick (eqb n 0) (made t) (refused n))
+short-judged n t h = go (eqb n 0) refl
+  where
+    go : (b : Bool) → eqb n 0 ≡ b → Short (pick b (made t) (refused n))
+    go true e = h (eqb-true n 0 e)
+    go false e = tt
+
+pub short-finalize : (s : List ℕ) → Short (finalizeOf s)
+short-finalize s = short-made (finalizeOf s) (λ t e. omega (arith, finalize-length s t e, accepted s t e .1))
+
+pub short-built : (version : ℕ) (text ends body : List ℕ) → Short (built version text ends body)
+unfolding built checks
+short-built version text ends body = short-judged (judge (checks version text ends body)) (minimal version (storageOf text ends) ends body) (λ e.
+    let (a, e₁) = judge-pass _ _ (omega arith) e in
+    let (b, e₂) = judge-pass _ _ (omega arith) e₁ in
+    let (c, e₃) = judge-pass _ _ (omega arith) e₂ in
+    let (d, e₄) = judge-pass _ _ (omega arith) e₃ in
+    let (f, e₅) = judge-pass _ _ (omega arith) e₄ in
+    let (g, e₆) = judge-pass _ _ (omega arith) e₅ in
+    ltb-false sizeLimit _ g)
+
+-- bytes are bytes
+module _ (l : Layout) (s : List ℕ) (bytes : (i : ℕ) → getD s i 0 < 256) where
+  passed : (p : Patch) (t : List ℕ) → outcomeOf l s p ≡ made t → refusal l s ≡ 0
+  unfolding outcomeOf patchById byIdRefusal patchByValue byValueRefusal patchBody bodyRefusal
+  passed (byId id value) t e = judged-none l s _ (made-of _ _ _ e .0) .0
+  passed (byValue old new) t e = judged-none l s _ (made-of _ _ _ e .0) .0
+  passed (toBody id body) t e = judged-none l s _ (made-of _ _ _ e .0) .0
+
+  pub short-patch : (p : Patch) → InBytes p → Short (outcomeOf l s p)
+  short-patch p b = short-made (outcomeOf l s p) (λ t e. patch-promise l s (admitted l s bytes (passed p t e)) p t b e .kept .admitted .most)
+
+  pub short-string : (id : ℕ) → Short (stringReading l s id)
+  unfolding stringReading stringOf
+  short-string id = short-judged (idRefusal l s (stringsIn s) id) (stringOf l s id .bytes) (λ e.
+      let (z, h) = read-is l s (stringsIn s) id e in
+      let a : Admitted l s = admitted l s bytes z in
+      omega (arith, length-bytesAt s (storageAt l s + placeAt l s id .at) (sizeOf (placeAt l s id)), string-in a id h, a .room, a .most))
+
+  pub short-body : (id : ℕ) → Short (bodyReading l s id)
+  unfolding bodyReading bodyOf
+  short-body id = short-judged (idRefusal l s (functionsIn s) id) (bodyOf l s id) (λ e.
+      let (z, h) = read-is l s (functionsIn s) id e in
+      let a : Admitted l s = admitted l s bytes z in
+      omega (arith, length-bytesAt s (funcOf l s id .begin) (funcOf l s id .size), a .body id h .1, a .most))
+
+room-most : (n : ℕ) → partRoom n ≤ sizeLimit
+unfolding partRoom
+room-most n = go (below-or n sizeLimit)
+  where
+    go : (n < sizeLimit) ⊎ (sizeLimit ≤ n) → pick (ltb n sizeLimit) n sizeLimit ≤ sizeLimit
+    go (inl h) = rw (lt-ltb n sizeLimit h) (omega arith)
+    go (inr h) = rw (le-ltb n sizeLimit h) (omega arith)
+
+pub short-list : (room from : ℕ) (l : Layout) (s : List ℕ) → Short (listingPart (partRoom room) from l s)
+unfolding listingPart
+short-list room from l s = short-judged (refusal l s) _ (λ e. omega (arith, part-short from (partRoom room) (listed l s), room-most room))
