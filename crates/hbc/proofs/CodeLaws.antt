@@ -7,7 +7,7 @@ use Prim.Native.Nat.{ℕ, _+_, _≤_, _<_}
 use native.Mathlib.Omega.{arith}
 use borrow.Author.Tests.{eqb-true, ltb-false, lt-ltb, le-ltb}
 use lib.Dec.{ltb, eqb}
-use lib.ListN.{length, getD, drop}
+use lib.ListN.{length, getD}
 use Rattle.bits.specs.Choice.{pick, judge}
 use Rattle.bits.specs.Outcome.{Outcome, refused, made, answered, roomed}
 use Rattle.bits.specs.declared.Answer.the-variants.{Length, Refused}
