@@ -3,7 +3,7 @@
 use mathlib.Core.Path.{_≡_}
 use mathlib.Core.List.{List, _++_}
 use Prim.Native.Nat.{ℕ}
-use lib.Dec.{ltb}
+use lib.Dec.{ltb, eqb}
 use lib.ListN.{length, drop}
 use Rattle.bits.specs.Choice.{pick}
 use Rattle.bits.specs.declared.Answer.{Answer}
@@ -13,6 +13,10 @@ use Rattle.bits.specs.declared.Answer.the-variants.{Length, Refused}
 pub data Outcome : Type 0 where
   refused : ℕ → Outcome
   made : List ℕ → Outcome
+
+-- new bytes, unless there is a refusal's number
+abbrev pub outcomeFor : ℕ → List ℕ → Outcome
+outcomeFor n new = pick (eqb n 0) (made new) (refused n)
 
 -- the buffer after the call
 abbrev pub written : Outcome → List ℕ → List ℕ

@@ -4,8 +4,10 @@ pub mod word32;
 
 ghost use mathlib.Core.Path.{_≡_};
 ghost use Prim.Native.Nat.{_+_, _*_, _≤_, _<_, _^_};
+ghost use lib.Dec.{ltb};
 ghost use lib.ListN.{length, replicate};
 ghost use lib.Seq.{sets};
+ghost use Rattle.bits.specs.Choice.{pick};
 ghost use Rattle.bits.specs.Bytes.{wordAt, numberAt, bytesOf, wordsOf, ascii};
 ghost use Rattle.bits.specs.Fields.{fieldOf, withField};
 ghost use Rattle.bits.specs.Words.{whole, InOneWord};
@@ -27,6 +29,12 @@ pub fn wide(b: u8) -> u64
     ensures { λ r. ⌜ (r ≡ b) × (r < 256) ⌝ }
 {
     b as u64
+}
+
+pub fn least(a: usize, b: usize) -> usize
+    ensures { λ r. ⌜ (r ≡ pick (ltb a b) a b) × (r ≤ b) ⌝ }
+{
+    if a < b { a } else { b }
 }
 
 // The 4 bytes from `at` on, as a number.

@@ -6,7 +6,7 @@ use lib.Dec.{leb, ltb, eqb}
 use lib.ListN.{length}
 use lib.Seq.{sets}
 use Rattle.bits.specs.Choice.{pick, Check, check, judge}
-use Rattle.bits.specs.Outcome.{Outcome, refused, made}
+use Rattle.bits.specs.Outcome.{Outcome, outcomeFor}
 use Rattle.bits.specs.declared.Answer.{Answer}
 use Rattle.bits.specs.declared.Answer.the-variants.{Length, Refused}
 use Rattle.format.specs.declared.Layout.{Layout}
@@ -49,7 +49,7 @@ bodyRefusal l s id body = judge (checks l s ++ (check 7 (leb (functionsIn s) id)
 
 -- what `patch_function_bytes` makes; the room comes in by `roomed`
 unfoldable pub patchBody : Layout → List ℕ → ℕ → List ℕ → Outcome
-patchBody l s id body = pick (eqb (bodyRefusal l s id body) 0) (made (patched l s id body)) (refused (bodyRefusal l s id body))
+patchBody l s id body = outcomeFor (bodyRefusal l s id body) (patched l s id body)
 
 -- ---- what code answers before it writes: the refusal, or the length of the result
 

@@ -1,11 +1,10 @@
 -- The number of an answer tells it: a refusal's is 2^32 or more, and no length is.
 use mathlib.Core.Path.{_≡_, refl, ap}
 use mathlib.Core.Bool.{Bool, true, false}
-use mathlib.Core.Logic.{_⊎_, inl, inr}
 use mathlib.Core.List.{List}
 use Prim.Native.Nat.{ℕ, _+_, _≤_, _<_}
 use native.Mathlib.Omega.{arith}
-use borrow.Author.Tests.{eqb-true, ltb-false, lt-ltb, le-ltb}
+use borrow.Author.Tests.{eqb-true, ltb-false}
 use lib.Dec.{ltb, eqb}
 use lib.ListN.{length, getD}
 use Rattle.bits.specs.Choice.{pick, judge}
@@ -13,7 +12,6 @@ use Rattle.bits.specs.Outcome.{Outcome, refused, made, answered, roomed}
 use Rattle.bits.specs.declared.Answer.the-variants.{Length, Refused}
 use Rattle.bits.proofs.ByteLaws.{length-bytesAt}
 use Rattle.bits.proofs.JudgeLaws.{judge-pass}
-use Rattle.bits.proofs.TestLaws.{below-or}
 use Rattle.format.specs.declared.Layout.{Layout}
 use Rattle.footer.specs.Finalize.{sizeLimit, finalizeOf}
 use Rattle.footer.proofs.FinalizeLaws.{accepted, finalize-length}
@@ -35,7 +33,7 @@ use Rattle.patches.specs.Patches.{Patch, byId, byValue, toBody, outcomeOf}
 use Rattle.patches.specs.Lists.{InBytes}
 use Rattle.patches.proofs.StepLaws.{made-of, patch-promise}
 use Rattle.lister.specs.Listing.{listed, partRoom, listingPart}
-use Rattle.lister.proofs.PartLaws.{part-short}
+use Rattle.lister.proofs.PartLaws.{part-short, part-fits}
 use Rattle.input_records.specs.Heads.{layoutOf}
 use Rattle.hbc.specs.Numbers.{coded, stated}
 use Rattle.hbc.specs.Reads.{stringReading, bodyReading}
@@ -123,14 +121,6 @@ module _ (l : Layout) (s : List ℕ) (bytes : (i : ℕ) → getD s i 0 < 256) wh
       let a : Admitted l s = admitted l s bytes z in
       omega (arith, length-bytesAt s (funcOf l s id .begin) (funcOf l s id .size), a .body id h .1, a .most))
 
-room-most : (n : ℕ) → partRoom n ≤ sizeLimit
-unfolding partRoom
-room-most n = go (below-or n sizeLimit)
-  where
-    go : (n < sizeLimit) ⊎ (sizeLimit ≤ n) → pick (ltb n sizeLimit) n sizeLimit ≤ sizeLimit
-    go (inl h) = rw (lt-ltb n sizeLimit h) (omega arith)
-    go (inr h) = rw (le-ltb n sizeLimit h) (omega arith)
-
 pub short-list : (room from : ℕ) (l : Layout) (s : List ℕ) → Short (listingPart (partRoom room) from l s)
 unfolding listingPart
-short-list room from l s = short-judged (refusal l s) _ (λ e. omega (arith, part-short from (partRoom room) (listed l s), room-most room))
+short-list room from l s = short-judged (refusal l s) _ (λ e. omega (arith, part-short from (partRoom room) (listed l s), part-fits room .1))

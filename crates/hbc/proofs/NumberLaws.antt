@@ -11,10 +11,10 @@ use Rattle.image.specs.Admission.{refusal}
 use Rattle.input_records.specs.Heads.{layoutOf}
 use Rattle.admission.specs.declared.Admission.{Admission}
 use Rattle.admission.specs.Admission.{answerFor, admission, numberOf}
-use Rattle.bits.specs.Outcome.{Outcome, refused, made, answered, roomed, Answers}
+use Rattle.bits.specs.Outcome.{Outcome, roomed, Answers}
 use Rattle.bits.specs.declared.Answer.{Answer}
 use Rattle.bits.specs.declared.Answer.the-variants.{Refused}
-use Rattle.hbc.specs.Numbers.{admitNumber, numbered, coded, Codes, stated}
+use Rattle.hbc.specs.Numbers.{admitNumber, numbered, Codes, stated}
 
 -- a byte over 4
 pub no-layout : (byte : ℕ) (s : List ℕ) → 4 < byte → 15 ≡ admitNumber byte s
@@ -41,13 +41,8 @@ layout-stated byte s h l e a f r g =
 pub refused-number : (a : Answer) (n r : ℕ) → a ≡ Refused n → r ≡ n → 4294967296 + r ≡ numbered a
 refused-number a n r e f = ap (λ (x : ℕ). 4294967296 + x) f ∙ sym (ap numbered e)
 
--- the number of an answer is the number of its outcome
-number-of-outcome : (o : Outcome) → numbered (answered o) ≡ coded o
-number-of-outcome (refused n) = refl
-number-of-outcome (made new) = refl
-
 codes : (o : Outcome) (a : Answer) (r : ℕ) (old new : List ℕ) → Answers o a old new → r ≡ numbered a → Codes o r old new
-codes o a r old new (e, w) f = (f ∙ ap numbered e ∙ number-of-outcome o, w)
+codes o a r old new (e, w) f = (f ∙ ap numbered e, w)
 
 pub finalize-codes : (s : List ℕ) (a : Answer) (r : ℕ) (old new : List ℕ) → Answers (finalizeOf s) a old new → r ≡ numbered a
     → Codes (finalizeOf s) r old new

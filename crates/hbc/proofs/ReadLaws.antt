@@ -8,7 +8,7 @@ use borrow.Author.Tests.{ne-eqb}
 use lib.ListN.{length, take, drop}
 use lib.Seq.{sets, sets-eq}
 use Rattle.bits.specs.Bytes.{bytesAt}
-use Rattle.bits.specs.Outcome.{Outcome, made, roomed, Answers}
+use Rattle.bits.specs.Outcome.{Outcome, made, outcomeFor, roomed, Answers}
 use Rattle.bits.specs.declared.Answer.{Answer}
 use Rattle.bits.specs.declared.Answer.the-variants.{Length, Refused}
 use Rattle.bits.proofs.ByteLaws.{length-bytesAt, bytesAt-take}
@@ -25,7 +25,7 @@ use Rattle.reader.specs.declared.StringRead.{StringRead}
 use Rattle.reader.specs.declared.StringRead.the-variants as string-is
 use Rattle.reader.specs.Reading.{idRefusal, stringPlace, stringRead, bodyRead}
 use Rattle.reader.proofs.PartLaws.{string-out, string-at, body-out, body-at}
-use Rattle.hbc.specs.Reads.{readFor, stringReading, bodyReading}
+use Rattle.hbc.specs.Reads.{stringReading, bodyReading}
 
 -- ---- bytes at the front of a buffer
 
@@ -45,11 +45,11 @@ module _ (s old : List ℕ) (start size : ℕ) where
 
 -- ---- by the number of a refusal
 
-refused-read : (n k : ℕ) (bytes : List ℕ) (room : ℕ) (old : List ℕ) → (0 < n) × (n ≡ k) → Answers (roomed room (readFor n bytes)) (Refused k) old old
+refused-read : (n k : ℕ) (bytes : List ℕ) (room : ℕ) (old : List ℕ) → (0 < n) × (n ≡ k) → Answers (roomed room (outcomeFor n bytes)) (Refused k) old old
 unfolding roomed
 refused-read n k bytes room old (h, e) = rw (ne-eqb n 0 (λ z. omega arith), e) (refl, refl)
 
-found-read : (n : ℕ) (bytes bytes′ : List ℕ) (o : Outcome → Outcome) (a : Answer) (old new : List ℕ) → n ≡ 0 → bytes ≡ bytes′ → Answers (o (made bytes)) a old new → Answers (o (readFor n bytes′)) a old new
+found-read : (n : ℕ) (bytes bytes′ : List ℕ) (o : Outcome → Outcome) (a : Answer) (old new : List ℕ) → n ≡ 0 → bytes ≡ bytes′ → Answers (o (made bytes)) a old new → Answers (o (outcomeFor n bytes′)) a old new
 found-read n bytes bytes′ o a old new z e w = rw (z, ← e) w
 
 module _ (l : Layout) (s : List ℕ) (id room : ℕ) (old : List ℕ) where

@@ -3,9 +3,8 @@ use mathlib.Core.List.{List}
 use mathlib.Core.Path.{_≡_}
 use Prim.Native.Nat.{ℕ, _+_}
 use lib.Dec.{ltb}
-use lib.ListN.{length}
 use Rattle.bits.specs.Choice.{pick}
-use Rattle.bits.specs.Outcome.{Outcome, refused, made, written}
+use Rattle.bits.specs.Outcome.{Outcome, refused, answered, written}
 use Rattle.bits.specs.declared.Answer.{Answer}
 use Rattle.bits.specs.declared.Answer.the-variants.{Length, Refused}
 use Rattle.format.specs.declared.Layout.{Layout}
@@ -21,9 +20,9 @@ abbrev pub numbered : Answer → ℕ
 numbered (Length n) = n
 numbered (Refused n) = 4294967296 + n
 
+-- the number of an outcome's answer
 abbrev pub coded : Outcome → ℕ
-coded (refused n) = 4294967296 + n
-coded (made new) = length new
+coded o = numbered (answered o)
 
 -- what every function here that writes promises: its number, and what the buffer holds afterwards
 abbrev pub Codes : Outcome → ℕ → List ℕ → List ℕ → Type 0

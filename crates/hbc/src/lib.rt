@@ -20,16 +20,13 @@ ghost use Rattle.hbc.specs.Numbers.{admitNumber, numbered, Codes, stated
 // A layout byte is at most that.
 const LAST_LAYOUT: u8 = 4;
 
-// The number of a layout byte over 4.
-const MALFORMED: u8 = 15;
-
 // Whether the bytes are an image of the layout that the byte states: 0, or the number of the refusal.
 #[no_mangle]
 pub extern "C" fn nepuladrim_admit(image: &[u8], layout: u8) -> u8
     ensures { λ r. ⌜ r ≡ admitNumber layout (now (image .entry)) ⌝ }
 {
     if LAST_LAYOUT < layout {
-        return MALFORMED;
+        return input_records::MALFORMED;
     }
     admission::number_of(admission::admit(image, input_records::layout_of(layout)))
 }
@@ -40,19 +37,13 @@ const REFUSED: u64 = 4294967296;
 // The number of a layout byte over 4, where the answer could be a length.
 const NO_LAYOUT: u64 = 4294967311;
 
-fn wide(n: u8) -> u64
-    ensures { λ r. ⌜ r ≡ n ⌝ }
-{
-    n as u64
-}
-
 // The number of an answer: its length, or 2^32 and the refusal's number.
 fn number(answer: Answer) -> u64
     ensures { λ r. ⌜ r ≡ numbered answer ⌝ }
 {
     match answer {
         Answer::Length(length) => length as u64,
-        Answer::Refused(n) => REFUSED + wide(n),
+        Answer::Refused(n) => REFUSED + bits::wide(n),
     }
 }
 

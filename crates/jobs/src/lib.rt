@@ -8,9 +8,7 @@ use input_records::ImageHead;
 use input_records::PatchHead;
 ghost use mathlib.Core.Path.{_≡_};
 ghost use Prim.Native.Nat.{_≤_};
-ghost use lib.Dec.{ltb};
 ghost use lib.ListN.{length};
-ghost use Rattle.bits.specs.Choice.{pick};
 ghost use Rattle.bits.specs.Outcome.{Answers};
 ghost use Rattle.text.specs.Text.{Wrote};
 ghost use Rattle.input_records.specs.Heads.{imageHead, patchHead};
@@ -98,12 +96,6 @@ pub fn apply<'a>(
     }
 }
 
-fn least(a: usize, b: usize) -> usize
-    ensures { λ r. ⌜ (r ≡ pick (ltb a b) a b) × (r ≤ b) ⌝ }
-{
-    if a < b { a } else { b }
-}
-
 // Takes the next record. The image is held in the first bytes of `image`; the new one is made in
 // `out`, and is then held in its place. Nothing is done behind a refusal.
 pub fn step(
@@ -119,7 +111,7 @@ pub fn step(
     let Progress::Under(layout, length, place) = progress else {
         return progress;
     };
-    let held = least(length, image.len());
+    let held = bits::least(length, image.len());
     let answer = apply(&image[0..held], layout, head, bytes, out);
     match answer {
         Answer::Refused(number) => Progress::Refused(place, number),
@@ -154,7 +146,7 @@ pub fn put_refused(out: &mut [u8], k: u64, number: u64) -> usize
 fn close_image(image: &mut [u8], length: usize, place: u64) -> usize
     ensures { λ r. ⌜ Closes (heldAtEnd length place (now (image .entry))) r (now (image .entry)) (now (image .exit)) ⌝ }
 {
-    let held = least(length, image.len());
+    let held = bits::least(length, image.len());
     if place == 1 {
         footer::finalize_raw_image(&mut image[0..held]);
     }

@@ -16,6 +16,7 @@ use Rattle.bits.specs.declared.Answer.the-variants.{Length, Refused}
 use Rattle.bits.proofs.TestLaws.{below-or}
 use Rattle.bits.proofs.WriteLaws.{sets-append}
 use Rattle.format.specs.declared.Layout.{Layout}
+use Rattle.footer.specs.Finalize.{sizeLimit}
 use Rattle.image.specs.Admission.{refusal}
 use Rattle.sections.specs.declared.Places.{Places}
 use Rattle.admission.specs.declared.Admission.{Admission}
@@ -181,22 +182,22 @@ module _ (p : Places) (s out₀ : List ℕ) (from limit : ℕ) where
 
 -- ---- a part of an image's listing
 
-pub part-fits : (n : ℕ) → partRoom n ≤ n
+pub part-fits : (n : ℕ) → (partRoom n ≤ n) × (partRoom n ≤ sizeLimit)
 unfolding partRoom
-part-fits n = go (below-or n 67_108_864)
+part-fits n = go (below-or n sizeLimit)
   where
-    go : (n < 67_108_864) ⊎ (67_108_864 ≤ n) → pick (ltb n 67_108_864) n 67_108_864 ≤ n
-    go (inl h) = rw (lt-ltb n 67_108_864 h) (omega arith)
-    go (inr h) = rw (le-ltb n 67_108_864 h) h
+    go : (n < sizeLimit) ⊎ (sizeLimit ≤ n) → (pick (ltb n sizeLimit) n sizeLimit ≤ n) × (pick (ltb n sizeLimit) n sizeLimit ≤ sizeLimit)
+    go (inl h) = rw (lt-ltb n sizeLimit h) (omega arith, omega arith)
+    go (inr h) = rw (le-ltb n sizeLimit h) (h, omega arith)
 
 -- as the code says it
-module _ (n m : ℕ) (e : m ≡ pick (ltb n 67_108_864) n 67_108_864) where
+module _ (n m : ℕ) (e : m ≡ pick (ltb n sizeLimit) n sizeLimit) where
   limit-is : m ≡ partRoom n
   unfolding partRoom
   limit-is = e
 
   pub limit-fits : m ≤ n
-  limit-fits = omega (arith, limit-is, part-fits n)
+  limit-fits = omega (arith, limit-is, part-fits n .0)
 
   pub limit-written : (old new text : List ℕ) (r : ℕ) → Wrote old 0 (take m text) r new → Wrote old 0 (take (partRoom n) text) r new
   limit-written old new text r w = subst (λ (k : ℕ). Wrote old 0 (take k text) r new) limit-is w

@@ -4,8 +4,9 @@ use Prim.Native.Nat.{ℕ, zero, suc, _+_}
 use lib.Dec.{eqb, ltb}
 use lib.ListN.{length, take, drop}
 use Rattle.bits.specs.Choice.{pick}
-use Rattle.bits.specs.Outcome.{Outcome, refused, made}
+use Rattle.bits.specs.Outcome.{Outcome, outcomeFor}
 use Rattle.format.specs.declared.Layout.{Layout}
+use Rattle.footer.specs.Finalize.{sizeLimit}
 use Rattle.image.specs.Sections.{functionsIn, stringsIn}
 use Rattle.image.specs.Strings.{stringOf, unitsOf}
 use Rattle.image.specs.Kinds.{isIdentifier}
@@ -40,11 +41,11 @@ imageListing l s = pick (eqb (refusal l s) 0) (listed l s) (refusedLine (refusal
 
 -- how long a part of the lines may be in a buffer of n bytes: no longer than an image, so that its length fits 32 bits
 unfoldable pub partRoom : ℕ → ℕ
-partRoom n = pick (ltb n 67_108_864) n 67_108_864
+partRoom n = pick (ltb n sizeLimit) n sizeLimit
 
 -- a part of an image's lines, of at most `room` bytes: from byte `from` on; or the image's refusal
 unfoldable pub listingPart : ℕ → ℕ → Layout → List ℕ → Outcome
-listingPart room from l s = pick (eqb (refusal l s) 0) (made (take room (drop from (listed l s)))) (refused (refusal l s))
+listingPart room from l s = outcomeFor (refusal l s) (take room (drop from (listed l s)))
 
 -- 15 comes before all others: the record is judged first, then whether it ends where the input does
 abbrev pub recordListing : ImageHead → List ℕ → List ℕ

@@ -10,9 +10,7 @@ use reader::StringPlace;
 use sections::Places;
 ghost use mathlib.Core.Path.{_≡_};
 ghost use Prim.Native.Nat.{_+_, _-_, _≤_};
-ghost use lib.Dec.{ltb};
 ghost use lib.ListN.{length, take, drop};
-ghost use Rattle.bits.specs.Choice.{pick};
 ghost use Rattle.bits.specs.Outcome.{Answers};
 ghost use Rattle.image.specs.Admitted.{Admitted};
 ghost use Rattle.sections.specs.Places.{Placed};
@@ -54,9 +52,6 @@ const PIECES: usize = 256;
 
 pub const ROOM: usize = 65536;
 
-// The most bytes of a part of a listing.
-const PART: usize = 67108864;
-
 // Judges a record whose head was read: it ends where the input does, and its image is admitted.
 fn open_image(input: &[u8], layout: Layout, length: usize) -> Opened
     ensures { λ r. ⌜ r ≡ openedRecord (Image layout length) (now (input .entry)) ⌝ }
@@ -88,12 +83,6 @@ pub fn open(input: &[u8]) -> Opened
 }
 
 // ---- pieces, one for each kind of point
-
-fn least(a: usize, b: usize) -> usize
-    ensures { λ r. ⌜ r ≡ pick (ltb a b) a b ⌝ }
-{
-    if a < b { a } else { b }
-}
 
 fn put_counts(image: &[u8], p: Places, out: &mut [u8], at: usize) -> Piece
     requires { ⌜ Placed p (now image) ⌝ }
@@ -159,7 +148,7 @@ fn put_units(
             next: Point::Strings(next),
         };
     }
-    let n = least(place.count - unit, CHUNK);
+    let n = bits::least(place.count - unit, CHUNK);
     let end = lines::put_units(out, at, image, place.start, place.wide, unit, n);
     Piece {
         end,
@@ -259,7 +248,7 @@ fn put_rest(text: &[u8], skip: usize, out: &mut [u8], at: usize, limit: usize) -
     if text.len() <= skip {
         return at;
     }
-    let n = least(text.len() - skip, limit - at);
+    let n = bits::least(text.len() - skip, limit - at);
     bits::put_bytes(out, at, &text[skip..skip + n]);
     at + n
 }
@@ -299,12 +288,12 @@ fn put_part(image: &[u8], p: Places, from: usize, room: &mut [u8; ROOM], out: &m
     requires { ⌜ Placed p (now image) × Admitted (p .layout) (now image) ⌝ }
     ensures { λ r. ⌜ Wrote (now (out .entry)) 0 (take (partRoom (length (now (out .entry)))) (drop from (listed (p .layout) (now (image .entry))))) r (now (out .exit)) ⌝ }
 {
-    let limit = least(out.len(), PART);
+    let limit = bits::least(out.len(), footer::SIZE_LIMIT);
     put_lines(image, p, from, room, out, limit)
 }
 
-// A part of an image's listing, from byte `from` on; it ends with the listing, with the buffer, or at PART
-// bytes.
+// A part of an image's listing, from byte `from` on; it ends with the listing, with the buffer, or where it
+// has as many bytes as an image may have.
 pub fn list(image: &[u8], layout: Layout, from: usize, out: &mut [u8]) -> Answer
     ensures { λ r. ⌜ Answers (listingPart (partRoom (length (now (out .entry)))) from layout (now (image .entry))) r (now (out .entry)) (now (out .exit)) ⌝ }
 {

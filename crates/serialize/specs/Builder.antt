@@ -2,11 +2,11 @@
 use mathlib.Core.Bool.{Bool, not}
 use mathlib.Core.List.{List, [], _∷_}
 use Prim.Native.Nat.{ℕ, suc}
-use lib.Dec.{leb, ltb, eqb}
+use lib.Dec.{leb, ltb}
 use lib.ListN.{length}
 use Rattle.bits.specs.Choice.{pick, allBelow, Check, check, judge}
 use Rattle.bits.specs.Bytes.{ascii}
-use Rattle.bits.specs.Outcome.{Outcome, refused, made}
+use Rattle.bits.specs.Outcome.{Outcome, outcomeFor}
 use Rattle.bits.specs.declared.Answer.{Answer}
 use Rattle.bits.specs.declared.Answer.the-variants.{Length, Refused}
 use Rattle.format.specs.Entry.{isOver}
@@ -42,9 +42,7 @@ checks version text ends body =
 
 -- what a buffer that is long enough gets
 unfoldable pub built : ℕ → List ℕ → List ℕ → List ℕ → Outcome
-built version text ends body =
-    let refusal = judge (checks version text ends body) in
-    pick (eqb refusal 0) (made (minimal version (storageOf text ends) ends body)) (refused refusal)
+built version text ends body = outcomeFor (judge (checks version text ends body)) (minimal version (storageOf text ends) ends body)
 
 -- the answer by the length alone
 abbrev pub lengthAnswer : ℕ → Answer

@@ -7,7 +7,7 @@ use lib.ListN.{length}
 use lib.Seq.{sets}
 use Rattle.bits.specs.Choice.{pick, both, either, Check, check, judge}
 use Rattle.bits.specs.Bytes.{bytesOf, ascii}
-use Rattle.bits.specs.Outcome.{Outcome, refused, made}
+use Rattle.bits.specs.Outcome.{Outcome, outcomeFor}
 use Rattle.format.specs.declared.Layout.{Layout}
 use Rattle.format.specs.Table as table
 use Rattle.format.specs.Hash.{hashOf}
@@ -68,10 +68,6 @@ patchFits l s id value = either (fitsInPlace l s id value) (fieldsFit l s (moved
 -- what is judged of the result
 abbrev pub resultChecks : Layout → List ℕ → ℕ → List ℕ → List Check
 resultChecks l s id value = check 11 (ltb sizeLimit (newLength l s id value)) ∷ check 12 (not (patchFits l s id value)) ∷ []
-
--- new bytes, unless there is a refusal's number
-abbrev pub outcomeFor : ℕ → List ℕ → Outcome
-outcomeFor n new = pick (eqb n 0) (made new) (refused n)
 
 -- a string of an admitted image with another value
 unfoldable pub patchKnown : Layout → List ℕ → ℕ → List ℕ → Outcome

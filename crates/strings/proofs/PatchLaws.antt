@@ -8,7 +8,7 @@ use borrow.Author.Tests.{le-leb, lt-leb, ne-eqb, not-true, not-false}
 use lib.Dec.{leb, eqb}
 use lib.ListN.{length}
 use Rattle.bits.specs.Choice.{Check, check, judge}
-use Rattle.bits.specs.Outcome.{Answers, roomed}
+use Rattle.bits.specs.Outcome.{Answers, roomed, outcomeFor}
 use Rattle.bits.specs.declared.Answer.{Answer}
 use Rattle.bits.specs.declared.Answer.the-variants.{Refused}
 use Rattle.format.specs.declared.Layout.{Layout}
@@ -22,7 +22,7 @@ use Rattle.admission.specs.declared.Admission.the-variants as answer
 use Rattle.admission.specs.Admission.{admission, numberOf}
 use Rattle.admission.proofs.AnswerLaws.{refused-is, refused-then, laid-is, laid-then, laid-layout}
 use Rattle.find_string.specs.Find.{findId}
-use Rattle.string_patch.specs.Patch.{resultChecks, outcomeFor, patched, patchKnown}
+use Rattle.string_patch.specs.Patch.{resultChecks, patched, patchKnown}
 use Rattle.strings.specs.Patch.{byIdRefusal, patchById, byValueRefusal, patchByValue}
 
 module _ (l : Layout) (s : List ℕ) (r : Admission) (e : r ≡ admission l s) where

@@ -4,13 +4,13 @@ use mathlib.Core.List.{List, _∷_, _++_}
 use Prim.Native.Nat.{ℕ}
 use lib.Dec.{leb}
 use Rattle.bits.specs.Choice.{check, judge}
-use Rattle.bits.specs.Outcome.{Outcome}
+use Rattle.bits.specs.Outcome.{Outcome, outcomeFor}
 use Rattle.format.specs.declared.Layout.{Layout}
 use Rattle.unicode.specs.Utf8.{isUtf8, utf16}
 use Rattle.image.specs.Sections.{stringsIn}
 use Rattle.image.specs.Admission.{checks}
 use Rattle.find_string.specs.Find.{findId}
-use Rattle.string_patch.specs.Patch.{resultChecks, outcomeFor, patched}
+use Rattle.string_patch.specs.Patch.{resultChecks, patched}
 
 -- "1 to 6 as numbered; by id 7, 8; .. then 11, 12"
 unfoldable pub byIdRefusal : Layout → List ℕ → ℕ → List ℕ → ℕ

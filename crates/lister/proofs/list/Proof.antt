@@ -14,7 +14,7 @@ put-part-requires c κs =
     (laid-placed (a .layout) (a .image .now) (c .before .before .before .before .before .admit .result) (c .before .before .before .before .before .admit .ensures) _ f (λ i. c .before .before .before .before .before .before .before .shared-slice-known .given i .fits), laid-admitted (a .layout) (a .image .now) (c .before .before .before .before .before .admit .result) (c .before .before .before .before .before .admit .ensures) _ f (λ i. c .before .before .before .before .before .before .before .shared-slice-known .given i .fits))
 
 returns-2 : tie.Need-returns-2
-returns-2 c = let a = c .before .before .before .before .before .before .before .before .before .before .before .args in part-listed (a .layout) (a .image .now) (c .before .before .before .before .before .before .before .before .admit .result) (c .before .before .before .before .before .before .before .before .admit .ensures) _ (a .from) (a .out .now) _ (c .before .before .before .before .before .before .answer .given .1) (c .before .before .put-part .result) _ (part-fits _) (c .before .before .put-part .ensures)
+returns-2 c = let a = c .before .before .before .before .before .before .before .before .before .before .before .args in part-listed (a .layout) (a .image .now) (c .before .before .before .before .before .before .before .before .admit .result) (c .before .before .before .before .before .before .before .before .admit .ensures) _ (a .from) (a .out .now) _ (c .before .before .before .before .before .before .answer .given .1) (c .before .before .put-part .result) _ (part-fits _ .0) (c .before .before .put-part .ensures)
 
 pub list-spec : {M : Type 1} → statement M
 list-spec =

@@ -5,10 +5,10 @@ use native.Mathlib.Omega.{arith}
 use Rattle.lister.proofs.PartLaws.{limit-fits, limit-written}
 
 put-lines-requires : tie.Need-put-lines-requires
-put-lines-requires c κs = (c .before .before .before .before .before .pre, (omega (arith, c .before .before .before .before .before .good), limit-fits _ _ (c .before .before .least .ensures)))
+put-lines-requires c κs = (c .before .before .before .before .before .pre, (omega (arith, c .before .before .before .before .before .good), limit-fits _ _ (c .before .before .least .ensures .0)))
 
 returns : tie.Need-returns
-returns c = limit-written _ _ (c .before .before .before .before .before .least .ensures) _ _ _ _ (c .before .before .put-lines .ensures)
+returns c = limit-written _ _ (c .before .before .before .before .before .least .ensures .0) _ _ _ _ (c .before .before .put-lines .ensures)
 
 pub put-part-spec : {M : Type 1} → statement M
 put-part-spec = tie.close (tie.spec (λ c κs. search needs) put-lines-requires (λ c. search needs) returns)

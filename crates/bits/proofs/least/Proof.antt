@@ -1,5 +1,5 @@
-use Rattle.jobs.proofs.least.Statement.{statement}
-use Rattle.jobs.proofs.least.Tie as tie
+use Rattle.bits.proofs.least.Statement.{statement}
+use Rattle.bits.proofs.least.Tie as tie
 use native.Mathlib.Omega.{arith}
 use borrow.Author.Tests.{lt-ltb, le-ltb}
 
