@@ -1,5 +1,5 @@
-// Nepuladrim for callers in C: the proved functions of crate `hbc`. `rt staticlib hbc` writes the archive,
-// target/staticlib/libhbc.a, for x86-64.
+// Nepuladrim for callers in C: the proved functions of crate `hbc`. `./hbc install DIR` puts this file and their archive, libhbc.a for
+// x86-64, below a folder; `rt staticlib hbc` writes the archive to target/staticlib.
 //
 // A slice is a pointer and a length; the pointer of an empty one must not be null. What a function reads and what it writes must
 // not overlap. `layout` is 0 modern; 1 legacy, 2 with big integers, 3 with function sources, 4 both. Strings and functions go by
@@ -21,7 +21,8 @@ uint8_t nepuladrim_admit(const uint8_t *image, size_t image_length, uint8_t layo
 // File length and footer, in the lent image. Refused with 1.
 uint64_t nepuladrim_finalize(uint8_t *image, size_t image_length);
 
-// A minimal modern image: strings as one text and their end places, and the body of one function. Refused with 15, 8, 12, 11, 13.
+// A minimal modern image: strings as one text and their end places, and the body of one function. `ends_length` counts the ends,
+// which are words, and not bytes. Refused with 15, 8, 12, 11, 13.
 uint64_t nepuladrim_build(uint32_t version, const uint8_t *text, size_t text_length, const uint32_t *ends, size_t ends_length,
                           const uint8_t *body, size_t body_length, uint8_t *out, size_t out_length);
 
@@ -49,5 +50,44 @@ uint64_t nepuladrim_patch_function_bytes(const uint8_t *image, size_t image_leng
 // A part of the listing of an image, from byte `from` on: its strings and functions as text, as much as there is room for, at most
 // 67,108,864 bytes. A part that is shorter than both is the last. Refused with 15, 1 to 6.
 uint64_t nepuladrim_list(const uint8_t *image, size_t image_length, uint8_t layout, size_t from, uint8_t *out, size_t out_length);
+
+// What is known of an image, as NEPULADRIM_IMAGE_FACTS numbers at the front of `out`, in the order of the names below. Section K
+// reaches from its start to that of the next; the last one, the footer, to the image's end. Refused with 15, 1 to 6, 13.
+uint64_t nepuladrim_image_facts(const uint8_t *image, size_t image_length, uint8_t layout, uint64_t *out, size_t out_length);
+
+enum nepuladrim_image_fact {
+    NEPULADRIM_LENGTH,
+    NEPULADRIM_STATED_LENGTH, // the file length that the header states
+    NEPULADRIM_LENGTH_IS_RIGHT, // 1 where that is the length, else 0
+    NEPULADRIM_FOOTER_IS_RIGHT, // 1 where the footer is the SHA-1 of all bytes before it, else 0
+    NEPULADRIM_FUNCTIONS,
+    NEPULADRIM_KINDS,
+    NEPULADRIM_IDENTIFIERS,
+    NEPULADRIM_STRINGS,
+    NEPULADRIM_OVERFLOWS,
+    NEPULADRIM_STORAGE_SIZE, // in bytes, without the zeros up to the tail
+    NEPULADRIM_RECORDS_AT,
+    NEPULADRIM_KINDS_AT,
+    NEPULADRIM_HASHES_AT,
+    NEPULADRIM_SMALL_AT,
+    NEPULADRIM_OVERFLOW_AT,
+    NEPULADRIM_STORAGE_AT,
+    NEPULADRIM_TAIL_AT,
+    NEPULADRIM_FOOTER_AT,
+    NEPULADRIM_IMAGE_FACTS
+};
+
+// What is known of string `id`, as NEPULADRIM_STRING_FACTS numbers likewise. Refused with 15, 1 to 7, 13.
+uint64_t nepuladrim_string_facts(const uint8_t *image, size_t image_length, uint8_t layout, uint32_t id, uint64_t *out,
+                                 size_t out_length);
+
+enum nepuladrim_string_fact {
+    NEPULADRIM_STRING_AT,
+    NEPULADRIM_STRING_BYTES,
+    NEPULADRIM_STRING_UNITS, // of 16 bits where it is wide, else bytes
+    NEPULADRIM_STRING_IS_WIDE, // 1 or 0
+    NEPULADRIM_STRING_IS_IDENTIFIER, // 1 or 0
+    NEPULADRIM_STRING_FACTS
+};
 
 #endif

@@ -8,7 +8,7 @@ use std::path::{Path, PathBuf};
 
 fn main() -> io::Result<()> {
     println!("cargo::rerun-if-env-changed=HBC_RUST_SRC");
-    let given = env::var_os("HBC_RUST_SRC").unwrap_or("../../../shared/docs/src".into());
+    let given = env::var_os("HBC_RUST_SRC").expect("HBC_RUST_SRC names no folder: oracle/README.md");
     let text = PathBuf::from(given).join("crates/hbc-decomp/src");
     assert!(text.is_dir(), "no Rust at {}: set HBC_RUST_SRC to its folder", text.display());
 

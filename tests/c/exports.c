@@ -81,12 +81,45 @@ int main(void) {
     }
     is(memcmp(out, lines, all) == 0 && out[all] == 0xa5);
 
+    // what is known of the image and of its strings
+    uint64_t facts[NEPULADRIM_IMAGE_FACTS + 1], known[NEPULADRIM_STRING_FACTS + 1];
+    const uint64_t of_image[] = {220, 220, 1, 1, 1, 1, 0, 2, 0, 3, 128, 140, 144, 144, 152, 152, 156, 200};
+    const uint64_t of_string[] = {153, 2, 2, 0, 0};
+    is(sizeof of_image == NEPULADRIM_IMAGE_FACTS * sizeof *facts && sizeof of_string == NEPULADRIM_STRING_FACTS * sizeof *known);
+    memset(facts, 0xa5, sizeof facts);
+    memset(known, 0xa5, sizeof known);
+    is(nepuladrim_image_facts(image, 220, 5, facts, NEPULADRIM_IMAGE_FACTS) == refused(15));
+    is(nepuladrim_image_facts(image, 147, 0, facts, NEPULADRIM_IMAGE_FACTS) == refused(1));
+    is(nepuladrim_image_facts(image, 220, 1, facts, 0) == refused(4));
+    is(nepuladrim_image_facts(image, 220, 0, facts, NEPULADRIM_IMAGE_FACTS - 1) == refused(13));
+    is(nepuladrim_string_facts(image, 220, 5, 0, known, NEPULADRIM_STRING_FACTS) == refused(15));
+    is(nepuladrim_string_facts(image, 147, 0, 0, known, NEPULADRIM_STRING_FACTS) == refused(1));
+    is(nepuladrim_string_facts(image, 220, 0, 2, known, 0) == refused(7));
+    is(nepuladrim_string_facts(image, 220, 0, 1, known, NEPULADRIM_STRING_FACTS - 1) == refused(13));
+    is(facts[0] == UINT64_C(0xa5a5a5a5a5a5a5a5) && known[0] == facts[0]);
+    is(nepuladrim_image_facts(image, 220, 0, facts, NEPULADRIM_IMAGE_FACTS + 1) == NEPULADRIM_IMAGE_FACTS);
+    is(memcmp(facts, of_image, sizeof of_image) == 0 && facts[NEPULADRIM_IMAGE_FACTS] == UINT64_C(0xa5a5a5a5a5a5a5a5));
+    is(nepuladrim_string_facts(image, 220, 0, 1, known, NEPULADRIM_STRING_FACTS + 1) == NEPULADRIM_STRING_FACTS);
+    is(memcmp(known, of_string, sizeof of_string) == 0 && known[NEPULADRIM_STRING_FACTS] == facts[NEPULADRIM_IMAGE_FACTS]);
+    is(facts[NEPULADRIM_STORAGE_AT] + 1 == known[NEPULADRIM_STRING_AT]);
+    // stale, each by itself: the footer goes over the file length
+    image[219] ^= 1;
+    is(nepuladrim_image_facts(image, 220, 0, facts, NEPULADRIM_IMAGE_FACTS) == NEPULADRIM_IMAGE_FACTS);
+    is(facts[NEPULADRIM_LENGTH_IS_RIGHT] == 1 && facts[NEPULADRIM_FOOTER_IS_RIGHT] == 0);
+    image[219] ^= 1;
+    image[32] ^= 1;
+    is(nepuladrim_image_facts(image, 220, 0, facts, NEPULADRIM_IMAGE_FACTS) == NEPULADRIM_IMAGE_FACTS);
+    is(facts[NEPULADRIM_STATED_LENGTH] == 221 && facts[NEPULADRIM_LENGTH_IS_RIGHT] == 0);
+    image[32] ^= 1;
+
     // an accented value of as many bytes: two bytes of a wide string
     memset(out, 0xa5, sizeof out);
     is(nepuladrim_patch_string_replace(image, 220, 0, BYTES("cb"), BYTES("x"), out, sizeof out) == refused(14));
     is(untouched());
     is(nepuladrim_patch_string_replace(image, 220, 0, BYTES("bc"), BYTES("\303\251"), out, sizeof out) == 220);
     is(memcmp(out + 144, "\0\0\0\1\3\0\0\1" "a\351\0\0", 12) == 0);
+    is(nepuladrim_string_facts(out, 220, 0, 1, known, NEPULADRIM_STRING_FACTS) == NEPULADRIM_STRING_FACTS);
+    is(known[NEPULADRIM_STRING_BYTES] == 2 && known[NEPULADRIM_STRING_UNITS] == 1 && known[NEPULADRIM_STRING_IS_WIDE] == 1);
 
     memset(out, 0xa5, sizeof out);
     is(nepuladrim_patch_function_bytes(image, 220, 0, 1, BYTES("x"), out, sizeof out) == refused(7));

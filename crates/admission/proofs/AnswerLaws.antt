@@ -16,6 +16,7 @@ use Rattle.image.specs.Admitted.{Admitted}
 use Rattle.image.proofs.AdmitLaws.{admitted}
 use Rattle.sections.specs.declared.Places.{Places}
 use Rattle.sections.specs.Places.{placesOf, Placed}
+use Rattle.sections.specs.Places as places
 use Rattle.admission.specs.declared.Admission.{Admission}
 use Rattle.admission.specs.declared.Admission.the-variants.{Laid, Refused}
 use Rattle.admission.specs.Admission.{admission}
@@ -40,7 +41,10 @@ module _ (l : Layout) (s : List ℕ) where
     pub refused-is : (k : ℕ) → r ≡ Refused k → (refusal l s ≡ k) × (0 < k)
     unfolding admission
     refused-is k f =
-        let (h, q) = is-refused (refusal l s) (Laid (placesOf l s)) Refused (Refused k) (sym e ∙ f) (λ z. let y : _≡_ {A = ℕ} 0 1 = cc in omega arith) in
+        let (h, q)
+        =
+        is-refused (refusal l s) (Laid (placesOf l s)) Refused (Refused k) (sym e ∙ f)
+        (λ z. let y : _≡_ {A = ℕ} 0 1 = cc in omega arith) in
         let z : refusal l s ≡ k = cc in
         (z, omega arith)
 
@@ -54,7 +58,10 @@ module _ (l : Layout) (s : List ℕ) where
       pub laid-is : (refusal l s ≡ 0) × (p ≡ placesOf l s)
       unfolding admission
       laid-is =
-          let (z, q) = is-found (refusal l s) (Laid (placesOf l s)) Refused (Laid p) (sym e ∙ f) (λ k z. let y : _≡_ {A = ℕ} 0 1 = cc in omega arith) in
+          let (z, q)
+          =
+          is-found (refusal l s) (Laid (placesOf l s)) Refused (Laid p) (sym e ∙ f)
+          (λ k z. let y : _≡_ {A = ℕ} 0 1 = cc in omega arith) in
           (z, cc)
 
       pub laid-then : (ds : List Check) → judge (checks l s ++ ds) ≡ judge ds
@@ -65,13 +72,17 @@ module _ (l : Layout) (s : List ℕ) where
       laid-layout = ap (λ (x : Places). x .layout) (laid-is .1)
 
       module _ (bytes : (i : ℕ) → getD s i 0 < 256) where
-        pub laid-admitted : Admitted (p .layout) s
+        laid-admitted : Admitted (p .layout) s
         laid-admitted = subst⁻¹ (λ (x : Layout). Admitted x s) laid-layout (admitted l s bytes (laid-is .0))
 
-        pub laid-placed : Placed p s
+        laid-placed : Placed p s
         laid-placed =
             let a : Admitted (p .layout) s = laid-admitted in
             record {
               is = laid-is .1 ∙ ap (λ (x : Layout). placesOf x s) (sym laid-layout);
               fits = record { most = a .most; room = a .room };
             }
+
+        -- so that whoever is answered with places has an admitted image
+        pub is-laid : places.Laid p s
+        is-laid = record { placed = laid-placed; admitted = laid-admitted }

@@ -8,19 +8,18 @@ use lib.Dec.{ltb, eqb}
 use lib.ListN.{length, take, drop}
 use borrow.Author.Tests.{lt-ltb, le-ltb, ltb-false, eq-eqb, ne-eqb, not-true, not-false}
 use Rattle.bits.specs.Choice.{pick, both, judge}
-use Rattle.bits.specs.Bytes.{numberAt}
 use Rattle.bits.proofs.TestLaws.{both-0}
-use Rattle.format.specs.declared.Field.{Field}
 use Rattle.format.specs.declared.Layout.{Layout}
 use Rattle.format.specs.Table as table
+use Rattle.format.specs.Number.{numberHeld}
 use Rattle.footer.specs.Footer.{footerLength}
 use Rattle.footer.specs.Finalize.{sizeLimit}
 use Rattle.image.specs.Sections.{kindsIn, identifiersIn, stringsIn, tailAt}
 use Rattle.image.specs.Kinds.{kindIn, covered, identified}
-use Rattle.image.specs.Admission.{overflowsCounted, overflowsNumbered, stringsStored, stringsNarrow, headersIn, bodiesIn, infosIn, debugInTail, headersApart, bodiesApart, checks, refusal}
+use Rattle.image.specs.Admission.{overflowsCounted, overflowsNumbered, stringsStored, stringsNarrow, headersIn, bodiesIn, infosIn}
+use Rattle.image.specs.Admission.{debugInTail, headersApart, bodiesApart, checks, refusal}
 use Rattle.sections.specs.declared.Places.{Places}
 use Rattle.sections.specs.Places.{placesOf, Fits, Placed}
-use Rattle.sections.proofs.SectionLaws.{record-start}
 use Rattle.string_tables.specs.Kinds.{kindsGood}
 use Rattle.string_tables.specs.Strings.{stringsGood}
 use Rattle.function_table.specs.Functions.{functionsInTail}
@@ -31,26 +30,27 @@ use Rattle.admission.specs.Admission.{answerFor, admission, laidOut, str
 
 -- ---- size, magic, sections
 
-module _ (l : Layout) (s : List ℕ) (f : Field) (e : f ≡ table.recordRow l) where
-  least : f .at + footerLength ≡ table.recordRow l .at + footerLength
-  least = ap (λ (x : Field). x .at + footerLength) e
-
-  pub start-is : f .at ≡ 128
-  start-is = ap (λ (x : Field). x .at) e ∙ record-start l
-
-  pub too-short : length s < f .at + footerLength → Refused 1 ≡ laidOut l s
+module _ (l : Layout) (s : List ℕ) where
+  pub too-short : length s < table.headerLength + footerLength → Refused 1 ≡ laidOut l s
   unfolding laidOut checks judge
-  too-short h = rw (← least, lt-ltb (length s) (f .at + footerLength) h)
+  too-short h = rw (lt-ltb (length s) (table.headerLength + footerLength) h)
 
-  module _ (h₁ : f .at + footerLength ≤ length s) where
+  module _ (h₁ : table.headerLength + footerLength ≤ length s) where
     pub too-long : sizeLimit < length s → Refused 1 ≡ laidOut l s
     unfolding laidOut checks judge
-    too-long h = rw (← least, le-ltb (length s) (f .at + footerLength) h₁, lt-ltb sizeLimit (length s) h)
+    too-long h = rw (le-ltb (length s) (table.headerLength + footerLength) h₁, lt-ltb sizeLimit (length s) h)
 
-    module _ (h₂ : length s ≤ sizeLimit) (m : ℕ) (g : m ≡ numberAt s (table.magic .at) (table.magic .width)) where
+    module _ (h₂ : length s ≤ sizeLimit) (m : ℕ) (g : m ≡ numberHeld table.magic s) where
       pub no-magic : (m ≡ table.magicNumber → ⊥) → Refused 2 ≡ laidOut l s
       unfolding laidOut checks judge
-      no-magic h = rw (← least, le-ltb (length s) (f .at + footerLength) h₁, le-ltb sizeLimit (length s) h₂, ← g, ne-eqb m table.magicNumber h)
+      no-magic h =
+          rw (
+            le-ltb (length s) (table.headerLength + footerLength) h₁,
+            le-ltb sizeLimit (length s) h₂,
+            ← g,
+            ne-eqb m
+                table.magicNumber h,
+          )
 
       module _ (h₃ : m ≡ table.magicNumber) (p : Places) (k : p ≡ placesOf l s) where
         ends : (p .tail ≡ tailAt l s) × (p .footer ≡ length s - footerLength)
@@ -60,14 +60,27 @@ module _ (l : Layout) (s : List ℕ) (f : Field) (e : f ≡ table.recordRow l) w
         pub no-room : p .footer < p .tail → Refused 3 ≡ laidOut l s
         unfolding laidOut checks judge
         no-room h =
-            let r : length s < tailAt l s + footerLength = omega (arith, ends, start-is) in
-            rw (← least, le-ltb (length s) (f .at + footerLength) h₁, le-ltb sizeLimit (length s) h₂, ← g, eq-eqb m table.magicNumber h₃, lt-ltb (length s) (tailAt l s + footerLength) r)
+            let r : length s < tailAt l s + footerLength = omega (arith, ends) in
+            rw (
+              le-ltb (length s) (table.headerLength + footerLength) h₁,
+              le-ltb sizeLimit (length s) h₂,
+              ← g,
+              eq-eqb m table.magicNumber h₃,
+              lt-ltb (length s) (tailAt l s + footerLength) r,
+            )
 
         pub all-laid : p .tail ≤ p .footer → Laid p ≡ laidOut l s
         unfolding laidOut checks judge
         all-laid h =
-            let r : tailAt l s + footerLength ≤ length s = omega (arith, ends, start-is) in
-            rw (← least, le-ltb (length s) (f .at + footerLength) h₁, le-ltb sizeLimit (length s) h₂, ← g, eq-eqb m table.magicNumber h₃, le-ltb (length s) (tailAt l s + footerLength) r) (ap Laid k)
+            let r : tailAt l s + footerLength ≤ length s = omega (arith, ends) in
+            rw (
+              le-ltb (length s) (table.headerLength + footerLength) h₁,
+              le-ltb sizeLimit (length s) h₂,
+              ← g,
+              eq-eqb m table.magicNumber h₃,
+              le-ltb (length s) (tailAt l s + footerLength) r,
+            )
+            (ap Laid k)
 
 -- ---- strings and functions
 
@@ -117,13 +130,15 @@ two true true n r = refl
 two true false n r = refl
 two false b n r = refl
 
-four : (a b c d : Bool) (n r : ℕ) → pick (not a) n (pick (not b) n (pick (not c) n (pick (not d) n r))) ≡ pick (both a (both b (both c d))) r n
+four : (a b c d : Bool) (n r : ℕ) → pick (not a) n (pick (not b) n (pick (not c) n (pick (not d) n r))) ≡ pick
+    (both a (both b (both c d))) r n
 four true true c d n r = two c d n r
 four true false c d n r = refl
 four false b c d n r = refl
 
 six : (a b c d e f : Bool) (n r : ℕ)
-    → pick (not a) n (pick (not b) n (pick (not c) n (pick (not d) n (pick (not e) n (pick (not f) n r))))) ≡ pick (both (both a (both b c)) (both d (both e f))) r n
+    → pick (not a) n (pick (not b) n (pick (not c) n (pick (not d) n (pick (not e) n (pick (not f) n r))))) ≡ pick
+    (both (both a (both b c)) (both d (both e f))) r n
 six true true true d e f n r = four true d e f n r
 six true true false d e f n r = refl
 six true false c d e f n r = refl
@@ -131,7 +146,8 @@ six false b c d e f n r = refl
 
 -- the first four, and the rest where they pass
 first-four : (a b c d : Bool) (r : ℕ)
-    → pick a 1 (pick b 1 (pick c 2 (pick d 3 r))) ≡ pick (eqb (pick a 1 (pick b 1 (pick c 2 (pick d 3 0)))) 0) r (pick a 1 (pick b 1 (pick c 2 (pick d 3 0))))
+    → pick a 1 (pick b 1 (pick c 2 (pick d 3 r))) ≡ pick (eqb (pick a 1 (pick b 1 (pick c 2 (pick d 3 0)))) 0) r
+    (pick a 1 (pick b 1 (pick c 2 (pick d 3 0))))
 first-four true b c d r = refl
 first-four false true c d r = refl
 first-four false false true d r = refl
@@ -149,7 +165,8 @@ module _ (l : Layout) (s : List ℕ) where
 
   kinds-stage : from 4 ≡ pick (kindsGood l s) (from 6) 4
   unfolding checks judge kindsGood
-  kinds-stage = two (eqb (covered (kindIn l s) (kindsIn s)) (stringsIn s)) (eqb (identified (kindIn l s) (kindsIn s)) (identifiersIn s)) 4 (from 6)
+  kinds-stage =
+      two (eqb (covered (kindIn l s) (kindsIn s)) (stringsIn s)) (eqb (identified (kindIn l s) (kindsIn s)) (identifiersIn s)) 4 (from 6)
 
   strings-stage : from 6 ≡ pick (stringsGood l s) (from 10) 5
   unfolding checks judge stringsGood
@@ -162,8 +179,8 @@ module _ (l : Layout) (s : List ℕ) where
   first-stage : refusal l s ≡ pick (eqb stage 0) (from 4) stage
   unfolding refusal checks judge
   first-stage =
-      first-four (ltb (length s) (table.recordRow l .at + footerLength)) (ltb sizeLimit (length s))
-      (not (eqb (numberAt s (table.magic .at) (table.magic .width)) table.magicNumber)) (ltb (length s) (tailAt l s + footerLength)) (from 4)
+      first-four (ltb (length s) (table.headerLength + footerLength)) (ltb sizeLimit (length s))
+      (not (eqb (numberHeld table.magic s) table.magicNumber)) (ltb (length s) (tailAt l s + footerLength)) (from 4)
 
   -- ---- the ways out of admission
 
@@ -188,12 +205,13 @@ module _ (l : Layout) (s : List ℕ) where
       fits : Fits l s
       unfolding checks judge
       fits =
-          go (ltb (length s) (table.recordRow l .at + footerLength)) (ltb sizeLimit (length s))
-          (not (eqb (numberAt s (table.magic .at) (table.magic .width)) table.magicNumber)) (ltb (length s) (tailAt l s + footerLength)) refl refl (passed .0)
+          go (ltb (length s) (table.headerLength + footerLength)) (ltb sizeLimit (length s))
+          (not (eqb (numberHeld table.magic s) table.magicNumber)) (ltb (length s) (tailAt l s + footerLength)) refl refl (passed .0)
         where
           go : (a b c d : Bool) → ltb sizeLimit (length s) ≡ b → ltb (length s) (tailAt l s + footerLength) ≡ d
               → eqb (pick a 1 (pick b 1 (pick c 2 (pick d 3 0)))) 0 ≡ true → Fits l s
-          go false false false false h g q = record { most = ltb-false sizeLimit (length s) h; room = ltb-false (length s) (tailAt l s + footerLength) g }
+          go false false false false h g
+              q = record { most = ltb-false sizeLimit (length s) h; room = ltb-false (length s) (tailAt l s + footerLength) g }
           go true b c d h g q = let z : _≡_ {A = ℕ} 0 1 = cc in absurd (omega arith)
           go false true c d h g q = let z : _≡_ {A = ℕ} 0 1 = cc in absurd (omega arith)
           go false false true d h g q = let z : _≡_ {A = ℕ} 0 1 = cc in absurd (omega arith)
@@ -204,7 +222,11 @@ module _ (l : Layout) (s : List ℕ) where
       own-layout = ap (λ (x : Places). x .layout) (passed .1)
 
       pub placed : Placed p s
-      placed = record { is = passed .1 ∙ ap (λ (x : Layout). placesOf x s) (sym own-layout); fits = subst⁻¹ (λ (x : Layout). Fits x s) own-layout fits }
+      placed = record {
+        is = passed .1
+            ∙ ap (λ (x : Layout). placesOf x s) (sym own-layout);
+        fits = subst⁻¹ (λ (x : Layout). Fits x s) own-layout fits;
+      }
 
       -- what is left of the definition
       rest : refusal l s ≡ from 4
@@ -222,8 +244,10 @@ module _ (l : Layout) (s : List ℕ) where
         pub refused-second : (k : ℕ) → j ≡ Refused k → j ≡ admission l s
         unfolding admission
         refused-second k h =
-            let n : refusal l s ≡ pick (kindsGood l s) (pick (stringsGood l s) (from 10) 5) 4 = rest ∙ rw (kinds-stage, strings-stage) in
-            g ∙ strings-are ∙ go (kindsGood l s) (stringsGood l s) (sym strings-are ∙ sym g ∙ h) ∙ ap (λ (m : ℕ). answerFor l s m) (sym n)
+            let n : refusal l s ≡ pick (kindsGood l s) (pick (stringsGood l s) (from 10) 5) 4
+            = rest ∙ rw (kinds-stage, strings-stage) in
+            g ∙ strings-are ∙ go (kindsGood l s) (stringsGood l s) (sym strings-are ∙ sym g ∙ h)
+            ∙ ap (λ (m : ℕ). answerFor l s m) (sym n)
           where
             go : (a b : Bool) → pick a (pick b (Laid p) (Refused 5)) (Refused 4) ≡ Refused k
                 → pick a (pick b (Laid p) (Refused 5)) (Refused 4) ≡ answerFor l s (pick a (pick b (from 10) 5) 4)
@@ -236,7 +260,8 @@ module _ (l : Layout) (s : List ℕ) where
         judged-last q h r d =
             let n : refusal l s ≡ pick (kindsGood l s) (pick (stringsGood l s) (pick (functionsGood l s) 0 6) 5) 4
             = rest ∙ rw (kinds-stage, strings-stage, functions-stage) in
-            d ∙ functions-are ∙ go (kindsGood l s) (stringsGood l s) (functionsGood l s) (sym strings-are ∙ sym g ∙ h) ∙ ap (λ (m : ℕ). answerFor l s m) (sym n)
+            d ∙ functions-are ∙ go (kindsGood l s) (stringsGood l s) (functionsGood l s) (sym strings-are ∙ sym g ∙ h)
+            ∙ ap (λ (m : ℕ). answerFor l s m) (sym n)
           where
             go : (a b c : Bool) → pick a (pick b (Laid p) (Refused 5)) (Refused 4) ≡ Laid q
                 → pick c (Laid p) (Refused 6) ≡ answerFor l s (pick a (pick b (pick c 0 6) 5) 4)

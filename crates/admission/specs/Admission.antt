@@ -1,9 +1,11 @@
 -- What admission answers. 01: "A refusal answers its number"; the record of places otherwise.
+-- docs/FORMAT.md: Admission.
 use mathlib.Core.Bool.{Bool}
 use mathlib.Core.List.{List}
 use Prim.Native.Nat.{ℕ}
 use lib.Dec.{eqb}
 use lib.ListN.{take}
+use Rattle.refusals.specs.Numbers as refusals
 use Rattle.bits.specs.Choice.{pick, both, judge}
 use Rattle.format.specs.declared.Layout.{Layout}
 use Rattle.image.specs.Admission.{debugInTail, checks, refusal}
@@ -37,11 +39,12 @@ laidOut l s = answerFor l s (judge (take 4 (checks l s)))
 
 -- numbers 4 and 5
 unfoldable pub stringsJudged : Places → List ℕ → Admission
-stringsJudged p s = pick (kindsGood (p .layout) s) (pick (stringsGood (p .layout) s) (Laid p) (Refused 5)) (Refused 4)
+stringsJudged p s =
+    pick (kindsGood (p .layout) s) (pick (stringsGood (p .layout) s) (Laid p) (Refused refusals.string)) (Refused refusals.kinds)
 
 -- none of the conditions of number 6
 unfoldable pub functionsGood : Layout → List ℕ → Bool
 functionsGood l s = both (functionsInTail l s) (both (debugInTail l s) (allApart l s))
 
 unfoldable pub functionsJudged : Places → List ℕ → Admission
-functionsJudged p s = pick (functionsGood (p .layout) s) (Laid p) (Refused 6)
+functionsJudged p s = pick (functionsGood (p .layout) s) (Laid p) (Refused refusals.function)

@@ -16,18 +16,18 @@ pub enum Admission {
 fn lay_out(image: &[u8], layout: Layout) -> Admission
     ensures { λ r. ⌜ r ≡ laidOut layout (now (image .entry)) ⌝ }
 {
-    if image.len() < format::record_row(layout).at + footer::FOOTER_LEN {
-        return Admission::Refused(1);
+    if image.len() < format::HEADER_LEN + footer::FOOTER_LEN {
+        return Admission::Refused(refusals::SIZE);
     }
     if footer::SIZE_LIMIT < image.len() {
-        return Admission::Refused(1);
+        return Admission::Refused(refusals::SIZE);
     }
     if bits::word64(image, format::at(format::MAGIC)) != format::MAGIC_NUMBER {
-        return Admission::Refused(2);
+        return Admission::Refused(refusals::MAGIC);
     }
     let p = sections::places_of(image, layout);
     if p.footer < p.tail {
-        return Admission::Refused(3);
+        return Admission::Refused(refusals::SECTIONS);
     }
     Admission::Laid(p)
 }
@@ -38,10 +38,10 @@ fn judge_strings(image: &[u8], p: Places) -> Admission
     ensures { λ r. ⌜ r ≡ stringsJudged p (now (image .entry)) ⌝ }
 {
     if !string_tables::are_kinds_good(image, p) {
-        return Admission::Refused(4);
+        return Admission::Refused(refusals::KINDS);
     }
     if !string_tables::are_strings_good(image, p) {
-        return Admission::Refused(5);
+        return Admission::Refused(refusals::STRING);
     }
     Admission::Laid(p)
 }
@@ -52,14 +52,14 @@ fn judge_functions(image: &[u8], p: Places) -> Admission
     ensures { λ r. ⌜ r ≡ functionsJudged p (now (image .entry)) ⌝ }
 {
     if !function_table::are_functions_in_tail(image, p) {
-        return Admission::Refused(6);
+        return Admission::Refused(refusals::FUNCTION);
     }
     if !function_table::is_debug_in_tail(image, p) {
-        return Admission::Refused(6);
+        return Admission::Refused(refusals::FUNCTION);
     }
     let layout = p.layout;
     if !large_headers::are_headers_apart(image, layout, p.functions) {
-        return Admission::Refused(6);
+        return Admission::Refused(refusals::FUNCTION);
     }
     Admission::Laid(p)
 }

@@ -1,21 +1,26 @@
--- Bytes gathered by `or`, and one test of what was gathered.
+-- Bytes gathered by `or`, one test of what was gathered, and what the test says of each byte.
 use mathlib.Core.Path.{_≡_, sym, _∙_}
-use mathlib.Core.Bool.{Bool}
+use mathlib.Core.Bool.{Bool, true}
 use mathlib.Core.Logic.{inl, inr}
 use mathlib.Core.List.{List}
 use Prim.Native.Nat.{ℕ, _+_}
 use native.Mathlib.Omega.{arith}
-use borrow.Author.Tests.{ltb-true, ltb-false, lt-ltb, le-ltb, le-leb, lt-leb}
+use borrow.Author.Tests.{ltb-true, ltb-false, lt-ltb, le-ltb, le-leb, lt-leb, leb-true}
 use lib.Bits.{bitOr, or-add-and, and-le-l, and-le-r, or-lt}
 use lib.Dec.{leb, ltb}
-use lib.ListN.{length, getD}
+use lib.ListN.{length, getD, List·getD-eq-default}
 use Rattle.bits.specs.Choice.{both, allBelow}
 use Rattle.bits.specs.Bytes.{ascii}
-use Rattle.bits.proofs.TestLaws.{which, below-or, all-none, all-next}
+use Rattle.bits.proofs.TestLaws.{which, below-or, all-none, all-next, all-at}
+use Rattle.bits.proofs.ListLaws.{AllBelow}
 
 -- the code's form of the test
 narrow : (b : ℕ) → leb b 0x7F ≡ ltb b 128
-narrow b = elim (below-or b 128) [ inl h ↦ le-leb b 127 (omega arith) ∙ sym (lt-ltb b 128 h) | inr h ↦ lt-leb b 127 (omega arith) ∙ sym (le-ltb b 128 h) ]
+narrow b =
+    elim (below-or b 128) [
+      | inl h ↦ le-leb b 127 (omega arith) ∙ sym (lt-ltb b 128 h)
+      | inr h ↦ lt-leb b 127 (omega arith) ∙ sym (le-ltb b 128 h)
+    ]
 
 or-below : (a b : ℕ) → ltb (bitOr a b) 128 ≡ both (ltb b 128) (ltb a 128)
 or-below a b =
@@ -40,3 +45,12 @@ ascii-next s i seen h = or-below seen (getD s i 0) ∙ rw (h, ← narrow (getD s
 pub ascii-all : (s : List ℕ) (i : ℕ) → i ≡ length s → asciiTo s i ≡ ascii s
 unfolding ascii
 ascii-all s i e = rw e
+
+-- each byte of ASCII bytes is below 0x80
+pub ascii-below : (s : List ℕ) → ascii s ≡ true → AllBelow 0x80 s
+unfolding ascii
+ascii-below s t p =
+    elim (below-or p (length s)) [
+      | inl h ↦ omega (arith, leb-true (getD s p 0) 0x7F (all-at (λ i. leb (getD s i 0) 0x7F) (length s) p t h))
+      | inr h ↦ rw (List·getD-eq-default s 0 {n = p} h) (omega arith)
+    ]

@@ -1,15 +1,15 @@
 -- Bytes and numbers, over the number of bytes.
 use mathlib.Core.Path.{_≡_, refl, ap, sym, _∙_}
-use mathlib.Core.List.{List, [], _∷_, _++_, append-assoc, append-nil}
+use mathlib.Core.List.{List, [], _∷_, _++_}
 use Prim.Native.Nat.{ℕ, zero, suc, _+_, _*_, _/_, _%_, _^_, _≤_, _<_}
-use native.Mathlib.Nat.{not-suc-le-zero, le-of-suc-le-suc, add-zero, zero-add, add-suc, suc-add, add-assoc, add-mul, mul-assoc, mul-one, pow-suc, div-div-eq-div-mul, mul-comm, add-comm, mul-add-mod-self-right, mul-add-div-right}
-use native.Mathlib.Numerals.{add-one}
+use native.Mathlib.Nat.{not-suc-le-zero, le-of-suc-le-suc, add-zero, zero-add, add-suc, suc-add, add-assoc, add-mul, mul-assoc}
+use native.Mathlib.Nat.{mul-one, pow-suc, div-div-eq-div-mul, mul-comm, add-comm, mul-add-mod-self-right, mul-add-div-right}
 use native.Mathlib.Omega.{arith}
 use lib.ListN.{length, getD, take, drop, length-append, List·getD-append}
 use lib.Pow.{high}
-use lib.Seq.{drop-cons, take-suc}
+use lib.Seq.{drop-cons}
 use Rattle.bits.specs.Bytes.{bytesAt, number, bytesOf, numberAt, wordsOf}
-use Rattle.bits.proofs.ListLaws.{getD-past, AllBelow, below-nil, below-append, below-bytesOf}
+use Rattle.bits.proofs.ListLaws.{getD-past, Lies, AllBelow, below-nil, below-append, below-bytesOf}
 
 pub length-bytesOf : (n x : ℕ) → length (bytesOf n x) ≡ n
 unfolding bytesOf
@@ -24,7 +24,8 @@ length-bytesAt s at (suc n) = ap suc (length-bytesAt s (suc at) n)
 -- ---- reading n bytes
 
 -- two lists that agree byte by byte read as the same bytes
-pub bytesAt-ext : (s t : List ℕ) (n p q : ℕ) → ((j : ℕ) → j < n → getD s (p + j) 0 ≡ getD t (q + j) 0) → bytesAt s p n ≡ bytesAt t q n
+pub bytesAt-ext : (s t : List ℕ) (n p q : ℕ) → ((j : ℕ) → j < n → getD s (p + j) 0 ≡ getD t (q + j) 0)
+    → bytesAt s p n ≡ bytesAt t q n
 unfolding bytesAt
 bytesAt-ext s t zero p q h = refl
 bytesAt-ext s t (suc n) p q h =
@@ -51,11 +52,13 @@ bytesAt-self [] = refl
 bytesAt-self (x ∷ xs) = rw (bytesAt-cons x xs (length xs) 0, bytesAt-self xs)
 
 -- and as the same number
-pub numberAt-ext : (s t : List ℕ) (n p q : ℕ) → ((j : ℕ) → j < n → getD s (p + j) 0 ≡ getD t (q + j) 0) → numberAt s p n ≡ numberAt t q n
+pub numberAt-ext : (s t : List ℕ) (n p q : ℕ) → ((j : ℕ) → j < n → getD s (p + j) 0 ≡ getD t (q + j) 0)
+    → numberAt s p n ≡ numberAt t q n
 numberAt-ext s t n p q h = ap number (bytesAt-ext s t n p q h)
 
 -- n bytes from a place on are a list, if byte by byte they are
-pub bytesAt-is : (s xs : List ℕ) (p n : ℕ) → length xs ≡ n → ((j : ℕ) → j < n → getD s (p + j) 0 ≡ getD xs j 0) → bytesAt s p n ≡ xs
+pub bytesAt-is : (s xs : List ℕ) (p n : ℕ) → length xs ≡ n → ((j : ℕ) → j < n → getD s (p + j) 0 ≡ getD xs j 0)
+    → bytesAt s p n ≡ xs
 bytesAt-is s xs p n l h = bytesAt-ext s xs n p 0 (λ j k. h j k ∙ rw zero-add) ∙ rw (← l) (bytesAt-self xs)
 
 -- they are the part of a slice that code lends
@@ -79,7 +82,8 @@ numberAt-split s at zero n = rw (zero-add, add-zero, zero-add) (sym (mul-one (nu
 numberAt-split s at (suc m) n =
     let e : suc at + m ≡ at + suc m = omega arith in
     rw (suc-add, numberAt-split s (suc at) m n, e)
-    (regroup (getD s at 0) (numberAt s (suc at) m) (numberAt s (at + suc m) n) (256 ^ m) ∙ ap (λ (k : ℕ). getD s at 0 + numberAt s (suc at) m * 256 + numberAt s (at + suc m) n * k) (sym (pow-suc 256 m)))
+    (regroup (getD s at 0) (numberAt s (suc at) m) (numberAt s (at + suc m) n) (256 ^ m)
+    ∙ ap (λ (k : ℕ). getD s at 0 + numberAt s (suc at) m * 256 + numberAt s (at + suc m) n * k) (sym (pow-suc 256 m)))
   where
     regroup : (a b c k : ℕ) → a + (b + c * k) * 256 ≡ a + b * 256 + c * (k * 256)
     regroup a b c k = rw (add-mul b (c * k) 256, mul-assoc c k 256) (sym (add-assoc a (b * 256) (c * (k * 256))))
@@ -90,7 +94,13 @@ unfolding bytesOf
 bytesOf-past zero h x = refl
 bytesOf-past (suc n) h x =
     let e : h * 256 ^ suc n + x ≡ h * 256 ^ n * 256 + x = rw (pow-suc 256 n, mul-assoc h (256 ^ n) 256) in
-    rw (e, mul-add-mod-self-right (h * 256 ^ n) 256 x, mul-add-div-right {m = 256} (omega arith) (h * 256 ^ n) x, bytesOf-past n h (x / 256))
+    rw (
+      e,
+      mul-add-mod-self-right (h * 256 ^ n) 256 x,
+      mul-add-div-right {m = 256} (omega arith) (h * 256 ^ n) x,
+      bytesOf-past n h
+          (x / 256),
+    )
 
 -- a number of two words, the second of n bytes
 pub bytesOf-words : (n hi lo : ℕ) → lo < 2 ^ 64 → bytesOf (8 + n) (hi * 2 ^ 64 + lo) ≡ bytesOf 8 lo ++ bytesOf n hi
@@ -107,6 +117,14 @@ pub number-back : (n x : ℕ) → x < 256 ^ n → number (bytesOf n x) ≡ x
 unfolding number bytesOf
 number-back zero x h = omega arith
 number-back (suc n) x h = rw (number-back n (x / 256) (omega arith)) (omega arith)
+
+-- a number is read where its bytes lie, and a number of other bytes where those lie
+pub number-lies : (s : List ℕ) (at n x : ℕ) → Lies s at (bytesOf n x) → x < 256 ^ n → numberAt s at n ≡ x
+number-lies s at n x h k =
+    ap number (bytesAt-is s (bytesOf n x) at n (length-bytesOf n x) (λ j g. h j (rw length-bytesOf g))) ∙ number-back n x k
+
+pub numberAt-lies : (s xs : List ℕ) (at p n : ℕ) → Lies s at xs → p + n ≤ length xs → numberAt s (at + p) n ≡ numberAt xs p n
+numberAt-lies s xs at p n h k = numberAt-ext s xs n (at + p) p (λ j g. rw add-assoc (h (p + j) (omega arith)))
 
 -- n bytes hold a number below 256 ^ n
 number-lt : (bs : List ℕ) → AllBelow 256 bs → number bs < 256 ^ length bs
@@ -140,18 +158,9 @@ unfolding wordsOf
 length-words [] = refl
 length-words (w ∷ ws) = length-append (bytesOf 4 w) (wordsOf ws) ∙ rw (length-bytesOf 4 w, length-words ws) (omega arith)
 
-pub words-append : (a b : List ℕ) → wordsOf (a ++ b) ≡ wordsOf a ++ wordsOf b
-unfolding wordsOf
-words-append [] b = refl
-words-append (w ∷ a) b = rw (words-append a b, append-assoc)
-
--- one word more
-pub words-next : (ws : List ℕ) (i : ℕ) → i < length ws → wordsOf (take (i + 1) ws) ≡ wordsOf (take i ws) ++ bytesOf 4 (getD ws i 0)
-unfolding wordsOf
-words-next ws i h = rw (add-one, take-suc ws i 0 h, words-append (take i ws), append-nil)
-
 -- word j
-pub words-at : (ws : List ℕ) (j : ℕ) → j < length ws → ((k : ℕ) → k < length ws → getD ws k 0 < 2 ^ 32) → numberAt (wordsOf ws) (j * 4) 4 ≡ getD ws j 0
+pub words-at : (ws : List ℕ) (j : ℕ) → j < length ws → ((k : ℕ) → k < length ws → getD ws k 0 < 2 ^ 32)
+    → numberAt (wordsOf ws) (j * 4) 4 ≡ getD ws j 0
 unfolding wordsOf
 words-at [] j h f = absurd (not-suc-le-zero h)
 words-at (w ∷ ws) zero h f =

@@ -7,7 +7,8 @@ use Prim.Native.Nat.{ℕ, _≤_, _<_}
 use borrow.Author.Tests.{leb-true, leb-false, le-leb, lt-leb, eqb-true, eqb-false, eq-eqb, ne-eqb, not-true, not-false}
 use lib.Dec.{leb, eqb}
 use Rattle.bits.specs.Choice.{both, implies, allBelow}
-use Rattle.bits.proofs.TestLaws.{both-0, both-1, both-of, both-false, imp-use, imp-of, imp-false, all-at, all-of, all-fails, all-not}
+use Rattle.bits.proofs.TestLaws.{both-0, both-1, both-of, both-false, imp-use, imp-of, imp-false, all-at, all-of}
+use Rattle.bits.proofs.TestLaws.{all-fails, all-not}
 
 pub record Decides (b : Bool) (P F : Type 0) : Type 0 where
   pub holds : b ≡ true → P

@@ -25,7 +25,8 @@ pub field-part : (n at w v w′ : ℕ) → w′ ≤ w → fieldOf (withField n a
 unfolding fieldOf
 field-part n at w v w′ h =
     let e : w - w′ + w′ ≡ w = omega arith in
-    let f : (x : ℕ) → x % 2 ^ w′ ≡ x % 2 ^ w % 2 ^ w′ = λ x. sym (mod-mod-pow x (w - w′) w′) ∙ ap (λ (k : ℕ). x % 2 ^ k % 2 ^ w′) e in
+    let f : (x : ℕ) → x % 2 ^ w′ ≡ x % 2 ^ w % 2 ^ w′
+    = λ x. sym (mod-mod-pow x (w - w′) w′) ∙ ap (λ (k : ℕ). x % 2 ^ k % 2 ^ w′) e in
     rw (
       cut n at w v,
       high (n / 2 ^ (w + at) * 2 ^ w + v % 2 ^ w) at (mod-lt n (pow-pos at)),
@@ -54,7 +55,9 @@ unfolding fieldOf
 field-below n at w v at′ w′ h =
     let e : at - (w′ + at′) + (w′ + at′) ≡ at = omega arith in
     let f : (x : ℕ) → x / 2 ^ at′ % 2 ^ w′ ≡ x % 2 ^ at % 2 ^ (w′ + at′) / 2 ^ at′ =
-    λ x. sym (field x w′ at′) ∙ ap (λ (k : ℕ). k / 2 ^ at′) (sym (mod-mod-pow x (at - (w′ + at′)) (w′ + at′)) ∙ ap (λ (k : ℕ). x % 2 ^ k % 2 ^ (w′ + at′)) e) in
+    λ x. sym (field x w′ at′)
+    ∙ ap (λ (k : ℕ). k / 2 ^ at′)
+    (sym (mod-mod-pow x (at - (w′ + at′)) (w′ + at′)) ∙ ap (λ (k : ℕ). x % 2 ^ k % 2 ^ (w′ + at′)) e) in
     rw (f (withField n at w v), f n, below n at w v)
 
 -- a number below its width stays below
@@ -63,7 +66,8 @@ unfolding withField
 with-lt n at w v k h b =
     let e : k - (w + at) + (w + at) ≡ k = omega arith in
     let c : n < 2 ^ (k - (w + at) + (w + at)) = rw e b in
-    let r : v % 2 ^ w * 2 ^ at + n % 2 ^ at < 2 ^ (w + at) = rw (pow-add 2 w at) (digits-lt (mod-lt v (pow-pos w)) (mod-lt n (pow-pos at))) in
+    let r : v % 2 ^ w * 2 ^ at + n % 2 ^ at < 2 ^ (w + at)
+    = rw (pow-add 2 w at) (digits-lt (mod-lt v (pow-pos w)) (mod-lt n (pow-pos at))) in
     rw (← e, pow-add 2 (k - (w + at)) (w + at)) (digits-lt (shr-lt (k - (w + at)) (w + at) c) r)
 
 -- ---- two writes
@@ -84,7 +88,8 @@ unfolding withField
 with-mod n at w u k h =
     let e : k - (w + at) + (w + at) ≡ k = omega arith in
     let f : k - at + at ≡ k = omega arith in
-    let r : u % 2 ^ w * 2 ^ at + n % 2 ^ at < 2 ^ (w + at) = rw (pow-add 2 w at) (digits-lt (mod-lt u (pow-pos w)) (mod-lt n (pow-pos at))) in
+    let r : u % 2 ^ w * 2 ^ at + n % 2 ^ at < 2 ^ (w + at)
+    = rw (pow-add 2 w at) (digits-lt (mod-lt u (pow-pos w)) (mod-lt n (pow-pos at))) in
     let a : n % 2 ^ k / 2 ^ (w + at) ≡ n / 2 ^ (w + at) % 2 ^ (k - (w + at)) =
     ap (λ (x : ℕ). n % 2 ^ x / 2 ^ (w + at)) (sym e) ∙ field n (k - (w + at)) (w + at) in
     let b : n % 2 ^ k % 2 ^ at ≡ n % 2 ^ at = ap (λ (x : ℕ). n % 2 ^ x % 2 ^ at) (sym f) ∙ mod-mod-pow n (k - at) at in
@@ -93,14 +98,22 @@ with-mod n at w u k h =
     ∙ mod-pow-add (withField n at w u) (k - (w + at)) (w + at)
     ∙ rw (high (n / 2 ^ (w + at)) (w + at) r, low (n / 2 ^ (w + at)) (w + at) r))
 
-pub with-comm : (n at w u at′ w′ v : ℕ) → w + at ≤ at′ → withField (withField n at w u) at′ w′ v ≡ withField (withField n at′ w′ v) at w u
+pub with-comm : (n at w u at′ w′ v : ℕ) → w + at ≤ at′
+    → withField (withField n at w u) at′ w′ v ≡ withField (withField n at′ w′ v) at w u
 with-comm n at w u at′ w′ v h =
     let a : ℕ = withField n at w u in
     let b : ℕ = withField n at′ w′ v in
     cut a at′ w′ v
-    ∙ rw (with-past n at w u (w′ + at′) (omega arith), with-mod n at w u at′ h, ← below n at′ w′ v, ← with-mod b at w u at′ h)
+    ∙ rw (
+      with-past n at w u (w′ + at′) (omega arith),
+      with-mod n at w u at′ h,
+      ← below n at′ w′ v,
+      ← with-mod b at w u
+          at′ h,
+    )
     (ap (λ (y : ℕ). y * 2 ^ at′ + withField b at w u % 2 ^ at′)
-    (sym (with-past b at w u at′ h ∙ rw (cut n at′ w′ v) (high (n / 2 ^ (w′ + at′) * 2 ^ w′ + v % 2 ^ w′) at′ (mod-lt n (pow-pos at′)))))
+    (sym (with-past b at w u at′ h
+    ∙ rw (cut n at′ w′ v) (high (n / 2 ^ (w′ + at′) * 2 ^ w′ + v % 2 ^ w′) at′ (mod-lt n (pow-pos at′)))))
     ∙ split (withField b at w u) at′)
 
 -- ---- a number of two words: a field of it lies in one of them
@@ -142,9 +155,12 @@ with-high hi lo at w v h =
     let p : 64 + at ≡ at + 64 = omega arith in
     let q : w + (64 + at) ≡ 64 + (w + at) = omega arith in
     let r : 64 + (w + at) ≡ (w + at) + 64 = omega arith in
-    let d : (hi * 2 ^ 64 + lo) / 2 ^ (64 + (w + at)) ≡ hi / 2 ^ (w + at) = rw (← shr-shr (hi * 2 ^ 64 + lo) 64 (w + at), high hi 64 h) in
-    let m : (hi * 2 ^ 64 + lo) % 2 ^ (at + 64) ≡ hi % 2 ^ at * 2 ^ 64 + lo = rw (mod-pow-add (hi * 2 ^ 64 + lo) at 64, high hi 64 h, low hi 64 h) in
-    rw (q, d, p, m, r, pow-add 2 (w + at) 64, pow-add 2 at 64) (regroup (hi / 2 ^ (w + at)) (2 ^ (w + at)) (v % 2 ^ w) (2 ^ at) (hi % 2 ^ at) (2 ^ 64) lo)
+    let d : (hi * 2 ^ 64 + lo) / 2 ^ (64 + (w + at)) ≡ hi / 2 ^ (w + at)
+    = rw (← shr-shr (hi * 2 ^ 64 + lo) 64 (w + at), high hi 64 h) in
+    let m : (hi * 2 ^ 64 + lo) % 2 ^ (at + 64) ≡ hi % 2 ^ at * 2 ^ 64 + lo
+    = rw (mod-pow-add (hi * 2 ^ 64 + lo) at 64, high hi 64 h, low hi 64 h) in
+    rw (q, d, p, m, r, pow-add 2 (w + at) 64, pow-add 2 at 64)
+    (regroup (hi / 2 ^ (w + at)) (2 ^ (w + at)) (v % 2 ^ w) (2 ^ at) (hi % 2 ^ at) (2 ^ 64) lo)
   where
     regroup : (a b c d e k l : ℕ) → a * (b * k) + (c * (d * k) + (e * k + l)) ≡ (a * b + (c * d + e)) * k + l
     regroup a b c d e k l = rw (← mul-assoc a b k, ← mul-assoc c d k, add-mul, add-mul) (omega arith)

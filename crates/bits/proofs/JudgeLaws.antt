@@ -45,7 +45,8 @@ unfolding judge
 judge-shows F cs nothing h = absurd (omega arith)
 judge-shows F cs (_also_ {c = c} {cs = ds} f x) h = go (c .met) f (λ k. judge-shows F ds x k) h
   where
-    go : (b : Bool) → (b ≡ true → F (c .number)) → (0 < judge ds → F (judge ds)) → 0 < pick b (c .number) (judge ds) → F (pick b (c .number) (judge ds))
+    go : (b : Bool) → (b ≡ true → F (c .number)) → (0 < judge ds → F (judge ds)) → 0 < pick b (c .number) (judge ds)
+        → F (pick b (c .number) (judge ds))
     go true f r h = f refl
     go false f r h = r h
 
@@ -81,7 +82,8 @@ module _ (m : ℕ) where
       ]
 
   -- nor is it less than the answer, which then is one of the numbers
-  pub judge-least : (k n : ℕ) (cs : List Check) → rising k m cs ≡ true → given n cs ≡ true → (k ≤ judge cs) × (judge cs ≤ n)
+  pub judge-least : (k n : ℕ) (cs : List Check) → rising k m cs ≡ true → given n cs ≡ true → (k ≤ judge cs)
+      × (judge cs ≤ n)
   unfolding judge
   judge-least k n [] t g = let z : _≡_ {A = ℕ} 0 1 = cc in absurd (omega arith)
   judge-least k n (c ∷ cs) t g =
@@ -94,11 +96,15 @@ module _ (m : ℕ) where
       ])
       l
     where
-      go : (b : Bool) → c .met ≡ b → c .number ≤ n → (c .met ≡ true) ⊎ ((c .number ≤ judge cs) × (judge cs ≤ n)) → k ≤ c .number
+      go : (b : Bool) → c .met ≡ b → c .number ≤ n → (c .met ≡ true) ⊎ ((c .number ≤ judge cs) × (judge cs ≤ n))
+          → k ≤ c .number
           → (k ≤ pick b (c .number) (judge cs)) × (pick b (c .number) (judge cs) ≤ n)
       go true e f w l = (l, f)
       go false e f w l =
-          elim w [ inl h ↦ let z : _≡_ {A = ℕ} 0 1 = cc (sym e ∙ h) in absurd (omega arith) | inr h ↦ (omega (arith, h .0), h .1) ]
+          elim w [
+            | inl h ↦ let z : _≡_ {A = ℕ} 0 1 = cc (sym e ∙ h) in absurd (omega arith)
+            | inr h ↦ (omega (arith, h .0), h .1)
+          ]
 
 -- ---- checks behind others
 
@@ -116,7 +122,8 @@ judge-append (c ∷ cs) ys t =
     go (c .met) (ne-eqb (c .number) 0 (λ e. omega arith)) (judge-append cs ys (both-1 (ltb 0 (c .number)) (numbered cs) t))
   where
     go : (b : Bool) → eqb (c .number) 0 ≡ false → judge (cs ++ ys) ≡ pick (eqb (judge cs) 0) (judge ys) (judge cs)
-        → pick b (c .number) (judge (cs ++ ys)) ≡ pick (eqb (pick b (c .number) (judge cs)) 0) (judge ys) (pick b (c .number) (judge cs))
+        → pick b (c .number) (judge (cs ++ ys)) ≡ pick (eqb (pick b (c .number) (judge cs)) 0) (judge ys)
+        (pick b (c .number) (judge cs))
     go true e r = rw e
     go false e r = r
 
@@ -143,7 +150,8 @@ shows-map F G (c ∷ cs) w (f also r) = (λ t. w (c .number) (f t)) also shows-m
 
 -- ---- exactly: F names what is wrong, number by number
 
-module _ (F : ℕ → Type 0) (m : ℕ) (cs : List Check) (up : rising 1 m cs ≡ true) (shows : Shows F cs) (gives : (n : ℕ) → F n → given n cs ≡ true) where
+module _ (F : ℕ → Type 0) (m : ℕ) (cs : List Check) (up : rising 1 m cs ≡ true) (shows : Shows F cs)
+    (gives : (n : ℕ) → F n → given n cs ≡ true) where
   -- the answer is n where F holds of n and of no number before it
   pub judged-exactly : (n : ℕ) → 0 < n → judge cs ≡ n ↔ (F n × ((k : ℕ) → k < n → F k → ⊥))
   judged-exactly n h = (

@@ -11,6 +11,10 @@ use Rattle.bits.specs.Bytes.{bytesOf}
 pub getD-past : (xs ys : List ℕ) (n j : ℕ) → length xs ≡ n → getD (xs ++ ys) (n + j) 0 ≡ getD ys j 0
 getD-past xs ys n j e = rw (← e) (getD-append-add xs ys j 0)
 
+-- bytes stand in a list from a place on
+abbrev pub Lies : List ℕ → ℕ → List ℕ → Type 0
+Lies s at xs = (j : ℕ) → j < length xs → getD s (at + j) 0 ≡ getD xs j 0
+
 -- ---- every element is below k
 
 abbrev pub AllBelow : ℕ → List ℕ → Type 0

@@ -49,7 +49,8 @@ unfolding allBelow
 all-true zero = refl
 all-true (suc n) = all-true n
 
-pub all-swap : (p : ℕ → ℕ → Bool) (m n : ℕ) → allBelow n (λ j. allBelow m (λ i. p i j)) ≡ allBelow m (λ i. allBelow n (p i))
+pub all-swap : (p : ℕ → ℕ → Bool) (m n : ℕ)
+    → allBelow n (λ j. allBelow m (λ i. p i j)) ≡ allBelow m (λ i. allBelow n (p i))
 unfolding allBelow
 all-swap p m zero = sym (all-true m)
 all-swap p m (suc n) = rw (all-swap p m n) (sym (all-both (λ i. p i n) (λ i. allBelow n (p i)) m))

@@ -43,7 +43,8 @@ and-is (suc k) a b h g =
 -- a word of k + j digits, moved up by k: what stays and what comes back share no digit
 rotated : (j k x : ℕ) → x < 2 ^ (k + j) → bitOr (x * 2 ^ k % 2 ^ (j + k)) (x / 2 ^ j) ≡ x * 2 ^ k % 2 ^ (j + k) + x / 2 ^ j
 rotated j k x h =
-    let e : x * 2 ^ k % 2 ^ (j + k) ≡ (x % 2 ^ j) * 2 ^ k = rw (mod-pow-add (x * 2 ^ k) j k, shl-shr x k, mul-mod-left x (2 ^ k)) (add-zero _) in
+    let e : x * 2 ^ k % 2 ^ (j + k) ≡ (x % 2 ^ j) * 2 ^ k
+    = rw (mod-pow-add (x * 2 ^ k) j k, shl-shr x k, mul-mod-left x (2 ^ k)) (add-zero _) in
     rw e (or-shifted (x % 2 ^ j) k (x / 2 ^ j) (shr-lt k j h))
 
 pub rotl-is : (n x : ℕ) → n < 32 → x < 2 ^ 32 → bitOr (x * 2 ^ n % 2 ^ 32) (x / 2 ^ (32 - n)) ≡ rotl32 n x

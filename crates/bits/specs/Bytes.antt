@@ -1,4 +1,5 @@
 -- Bytes of a list and the numbers that they stand for. 01, Image rules: "All words are little-endian."
+-- docs/FORMAT.md: Words and layouts.
 use mathlib.Core.Bool.{Bool}
 use mathlib.Core.List.{List, [], _∷_, _++_}
 use Prim.Native.Nat.{ℕ, zero, suc, _+_, _-_, _*_, _/_, _%_}

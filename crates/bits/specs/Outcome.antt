@@ -1,10 +1,12 @@
 -- What a call that writes does to its lent buffer. 01, Refusal numbers: "A refusal answers its number and changes no lent byte";
 -- "the first that many output bytes are the image and later bytes stay".
+-- docs/FORMAT.md: Answers.
 use mathlib.Core.Path.{_≡_}
 use mathlib.Core.List.{List, _++_}
 use Prim.Native.Nat.{ℕ}
 use lib.Dec.{ltb, eqb}
 use lib.ListN.{length, drop}
+use Rattle.refusals.specs.Numbers as refusals
 use Rattle.bits.specs.Choice.{pick}
 use Rattle.bits.specs.declared.Answer.{Answer}
 use Rattle.bits.specs.declared.Answer.the-variants.{Length, Refused}
@@ -35,4 +37,4 @@ Answers o r old new = (r ≡ answered o) × (new ≡ written o old)
 -- the outcome in a buffer of `room` bytes. 01, refusal 13: "output shorter than the result"
 unfoldable pub roomed : ℕ → Outcome → Outcome
 roomed room (refused n) = refused n
-roomed room (made new) = pick (ltb room (length new)) (refused 13) (made new)
+roomed room (made new) = pick (ltb room (length new)) (refused refusals.room) (made new)

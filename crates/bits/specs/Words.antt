@@ -1,4 +1,5 @@
 -- A number of up to 128 bits in two words. 01, Forms to change: "`u128` becomes two 64-bit words by shifts and masks."
+-- docs/FORMAT.md: Function records.
 use Prim.Native.Nat.{ℕ, _+_, _*_, _^_, _≤_, _<_}
 use Rattle.bits.specs.declared.Words.{Words}
 

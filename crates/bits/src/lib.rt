@@ -8,7 +8,7 @@ ghost use lib.Dec.{ltb};
 ghost use lib.ListN.{length, replicate};
 ghost use lib.Seq.{sets};
 ghost use Rattle.bits.specs.Choice.{pick};
-ghost use Rattle.bits.specs.Bytes.{wordAt, numberAt, bytesOf, wordsOf, ascii};
+ghost use Rattle.bits.specs.Bytes.{wordAt, numberAt, bytesOf, up4, ascii};
 ghost use Rattle.bits.specs.Fields.{fieldOf, withField};
 ghost use Rattle.bits.specs.Words.{whole, InOneWord};
 
@@ -35,6 +35,14 @@ pub fn least(a: usize, b: usize) -> usize
     ensures { λ r. ⌜ (r ≡ pick (ltb a b) a b) × (r ≤ b) ⌝ }
 {
     if a < b { a } else { b }
+}
+
+// The next multiple of 4.
+pub fn up4(n: usize) -> usize
+    requires { ⌜ n < 9223372036854775808 ⌝ }
+    ensures { λ r. ⌜ r ≡ up4 n ⌝ }
+{
+    (n + 3) / 4 * 4
 }
 
 // The 4 bytes from `at` on, as a number.
@@ -177,18 +185,6 @@ pub fn put_bytes(s: &mut [u8], at: usize, src: &[u8])
     let mut i = 0;
     while i < src.len() {
         s[at + i] = src[i];
-        i += 1;
-    }
-}
-
-// All words of `words`, stored from `at` on.
-pub fn put_words(s: &mut [u8], at: usize, words: &[u32])
-    requires { ⌜ at + length (now words) * 4 ≤ length (now s) ⌝ }
-    ensures { λ _. ⌜ now (s .exit) ≡ sets (now (s .entry)) at (wordsOf (now (words .entry))) ⌝ }
-{
-    let mut i = 0;
-    while i < words.len() {
-        put_word(s, at + i * 4, words[i] as u64);
         i += 1;
     }
 }

@@ -1,17 +1,20 @@
 -- The marked examples of 01: one table, one claim.
+-- docs/FORMAT.md: Marked examples.
 use mathlib.Core.Bool.{Bool, true, false}
 use mathlib.Core.List.{List, [], _∷_}
-use Prim.Native.Nat.{ℕ, _+_}
+use Prim.Native.Nat.{ℕ}
 use lib.Dec.{T, eqb}
 use lib.ListN.{length}
 use Rattle.bits.specs.Choice.{both, allBelow, sumBelow, judge}
-use Rattle.bits.specs.Bytes.{bytesAt, number, bytesOf, numberAt, wordAt, wordsOf, ascii}
+use Rattle.bits.specs.Bytes.{bytesAt, number, bytesOf, wordAt, ascii}
 use Rattle.bits.specs.Fields.{fieldOf, withField}
 use Rattle.bits.specs.Word32.{add32, xorN}
 use Rattle.format.specs.declared.Layout.{Layout}
 use Rattle.format.specs.declared.Layout.the-variants.{Modern, Legacy}
-use Rattle.format.specs.Table.{modernPointerLow, modernPointerHigh, legacyPointerLow, legacyInfo, placeIn, debugRow, modernRecord, storageSize, largeOffset, modernLargeSize}
+use Rattle.format.specs.Table.{modernPointerLow, modernPointerHigh, legacyPointerLow, legacyInfo, placeIn, debugRow}
+use Rattle.format.specs.Table.{modernRecord, storageSize, largeOffset}
 use Rattle.format.specs.Record.{withValue, isLarge, pointer, putPointer}
+use Rattle.format.specs.Number.{numberHeld, numberFrom}
 use Rattle.format.specs.Entry.{Place, bit, isOver, entry, smallWord}
 use Rattle.format.specs.Hash.{mixed, hashStep, hashFrom, hashOf}
 use Rattle.format.specs.Move.{moved}
@@ -20,19 +23,22 @@ use Rattle.sha1.specs.BigEndian.{bigBytes}
 use Rattle.sha1.specs.Sha1.{digestBytes, digest}
 use Rattle.footer.specs.Footer.{footed}
 use Rattle.footer.specs.Finalize.{lengthed, sealed}
-use Rattle.serialize.specs.Parts.{startOf, storageOf, headerOf, recordOf, smallTable, sections, largeHeader, tailOf, laid, minimal}
+use Rattle.serialize.specs.Parts.{startOf, storageOf, headerOf, recordOf, smallTable, sections, largeHeader, tailOf, allButFooter, minimal}
+use Rattle.serialize.specs.Builder as builder
 use Rattle.image.specs.Sections.{kindsAt, hashesAt, smallAt, overAt, storageAt, tailAt}
 use Rattle.image.specs.Strings.{overBefore, placeOf, locate, smallIn, overIn, placeAt, stringOf}
 use Rattle.image.specs.Kinds.{kindIn, covered, identified}
 use Rattle.image.specs.Functions as function
-use Rattle.image.specs.Admission.{overflowsCounted, overflowsNumbered, stringsStored, bytesNarrow, stringsNarrow, headersIn, bodiesIn, infosIn, debugInTail, headersApart, bodiesApart, checks}
-use Rattle.image.specs.Fit.{fieldsFit}
+use Rattle.image.specs.Admission.{overflowsCounted, overflowsNumbered, stringsStored, bytesNarrow, stringsNarrow}
+use Rattle.image.specs.Admission.{headersIn, bodiesIn, infosIn, debugInTail, headersApart, bodiesApart, checks}
+use Rattle.edits.specs.Fit.{fieldsFit}
 use Rattle.unicode.specs.Utf8 as utf8
-use Rattle.image.specs.Edit.{splice, writeAll, groups, putSmall, pointed, putHeader, recordGroup, headerGroup, edit}
-use Rattle.image.specs.Rebuild.{layFrom, storeOf, smallsFrom, pairsFor, overs, region, padded, rebuild}
-use Rattle.overlap.specs.Overlap.{isApart, isAlone}
-use Rattle.string_region.specs.Strings.{asString, tabulate, stringWith, stringsWith, newTail}
-use Rattle.string_patch.specs.Patch.{fitsInPlace, inPlace, changed, newLength, patchFits}
+use Rattle.edits.specs.Edit.{splice, writeAll, groups, putSmall, pointed, putHeader, recordGroup, headerGroup, edit}
+use Rattle.edits.specs.Packing.{storeOf}
+use Rattle.edits.specs.Rebuild.{smalls, pairOf, pairs, overs, region, padded, rebuild}
+use Rattle.string_overlap.specs.Overlap.{isApart, isAlone}
+use Rattle.string_packing.specs.Strings.{asString, stringWith, stringsWith}
+use Rattle.string_in_place.specs.Patch.{fitsInPlace, inPlace, changed, newLength, patchFits}
 use Rattle.strings.specs.Patch.{byIdRefusal}
 
 -- what a definition gives, and what 01 says
@@ -52,12 +58,16 @@ abbrev pub debug : Layout → ℕ
 debug l = placeIn l (debugRow l)
 
 -- what a definition makes of the strings "a" and "bc" and a 4-byte body
-abbrev pub ofJ : (ℕ → List ℕ → List ℕ → List ℕ → List ℕ) → List ℕ
-ofJ image = let ends : List ℕ = 1 ∷ 3 ∷ [] in image 97 (storageOf (0x61 ∷ 0x62 ∷ 0x63 ∷ []) ends) ends (1 ∷ 2 ∷ 3 ∷ 4 ∷ [])
+abbrev pub toJ : {A : Type 0} → (ℕ → List ℕ → List ℕ → List ℕ → A) → A
+toJ build = build 97 (0x61 ∷ 0x62 ∷ 0x63 ∷ []) (1 ∷ 3 ∷ []) (1 ∷ 2 ∷ 3 ∷ 4 ∷ [])
+
+-- the finished image
+abbrev pub ofJ : List ℕ
+ofJ = toJ (λ version text ends. minimal version (storageOf text ends) ends)
 
 -- what a definition makes of that image when its string 0 is set to "aaaaa"
 abbrev pub toK : {A : Type 0} → (Layout → List ℕ → ℕ → List ℕ → A) → A
-toK patch = patch Modern (ofJ minimal) 0 (0x61 ∷ 0x61 ∷ 0x61 ∷ 0x61 ∷ 0x61 ∷ [])
+toK patch = patch Modern ofJ 0 (0x61 ∷ 0x61 ∷ 0x61 ∷ 0x61 ∷ 0x61 ∷ [])
 
 abbrev pub ofK : List ℕ
 ofK = toK changed
@@ -86,29 +96,30 @@ rows =
     ∷ row (hashOf []) 0
     ∷ row (hashOf (0x61 ∷ [])) 0x18270
     ∷ row (hashOf (0x61 ∷ 0x62 ∷ [])) 0x614F9F9
-    ∷ row (hashOf (0xE9 ∷ [])) 0x3AA7A
+    ∷ row (hashOf (utf8.utf16 (0xC3 ∷ 0xA9 ∷ []))) 0x3AA7A
     -- i. debug positions
     ∷ row (debug (Legacy false false)) 92
     ∷ row (debug (Legacy false true)) 96
     ∷ row (debug (Legacy true false)) 100
     ∷ row (debug (Legacy true true)) 104
     ∷ row (debug Modern) 108
-    -- j. builder, "a", "bc", 4-byte body: small words, body at 156, large header at 160, length 220
-    ∷ row (wordAt (ofJ laid) 144) 0x01000000
-    ∷ row (wordAt (ofJ laid) 148) 0x02000002
-    ∷ row (wordAt (ofJ laid) 156) 0x04030201
-    ∷ row (pointer Modern (numberAt (ofJ laid) (modernRecord .at) (modernRecord .width))) 160
-    ∷ row (wordAt (ofJ laid) (160 + largeOffset .at)) 156
-    ∷ row (wordAt (ofJ laid) (160 + modernLargeSize .at)) 4
-    ∷ row (length (ofJ minimal)) 220
+    -- j. builder, "a", "bc", 4-byte body: accepted; small words, body at 156, large header at 160, length 220
+    ∷ row (toJ (λ version text ends body. judge (builder.checks version text ends body))) 0
+    ∷ row (smallIn Modern ofJ 0) 0x01000000
+    ∷ row (smallIn Modern ofJ 1) 0x02000002
+    ∷ row (function.funcOf Modern ofJ 0 .begin) 156
+    ∷ row (function.funcOf Modern ofJ 0 .size) 4
+    ∷ row (wordAt ofJ 156) 0x04030201
+    ∷ row (function.funcOf Modern ofJ 0 .ptr) 160
+    ∷ row (length ofJ) 220
     -- k. then id 0 to "aaaaa": accepted; small words, storage 7, body at 160, large header 164, length 224
     ∷ row (toK byIdRefusal) 0
     ∷ row (wordAt ofK 144) 0x05000000
     ∷ row (wordAt ofK 148) 0x0200000A
-    ∷ row (wordAt ofK (storageSize .at)) 7
+    ∷ row (numberHeld storageSize ofK) 7
     ∷ row (wordAt ofK 160) 0x04030201
-    ∷ row (pointer Modern (numberAt ofK (modernRecord .at) (modernRecord .width))) 164
-    ∷ row (wordAt ofK (164 + largeOffset .at)) 160
+    ∷ row (pointer Modern (numberHeld modernRecord ofK)) 164
+    ∷ row (numberFrom 164 largeOffset ofK) 160
     ∷ row (length ofK) 224
     ∷ []
 
@@ -119,5 +130,13 @@ allMarked (r ∷ rs) = both (eqb (r .given) (r .marked)) (allMarked rs)
 
 -- the claim
 pub marked : T (allMarked rows)
-unfolding rows allMarked smallWord entry withField fieldOf pointer moved hashOf hashFrom hashStep mixed add32 xorN laid sections headerOf modernHeader identity putAll recordOf putPointer smallTable startOf tailOf largeHeader wordsOf bytesOf bytesAt number minimal sealed lengthed footed digest digestBytes bigBytes kindsAt hashesAt smallAt overAt storageAt tailAt overBefore placeOf locate smallIn overIn placeAt stringOf function.small function.header function.recordIn function.funcOf isLarge splice writeAll groups putSmall pointed putHeader recordGroup headerGroup edit layFrom storeOf smallsFrom pairsFor overs region padded rebuild isApart isAlone asString tabulate stringWith stringsWith fitsInPlace inPlace changed ascii allBelow sumBelow judge kindIn covered identified overflowsCounted overflowsNumbered stringsStored bytesNarrow stringsNarrow headersIn bodiesIn infosIn debugInTail headersApart bodiesApart checks fieldsFit utf8.isUtf8 utf8.readingOf utf8.nextByte utf8.opens newTail newLength patchFits byIdRefusal
+unfolding rows allMarked smallWord entry withField fieldOf pointer moved hashOf hashFrom hashStep mixed add32 xorN allButFooter sections
+    headerOf modernHeader identity putAll recordOf putPointer smallTable startOf tailOf largeHeader bytesOf bytesAt number
+    minimal sealed lengthed footed digest digestBytes bigBytes kindsAt hashesAt smallAt overAt storageAt tailAt overBefore placeOf
+    locate smallIn overIn placeAt stringOf function.small function.header function.recordIn function.funcOf isLarge splice
+    writeAll groups putSmall pointed putHeader recordGroup headerGroup edit storeOf smalls pairOf pairs overs region padded rebuild
+    isApart isAlone asString stringWith stringsWith fitsInPlace inPlace changed ascii allBelow sumBelow judge kindIn covered
+    identified overflowsCounted overflowsNumbered stringsStored bytesNarrow stringsNarrow headersIn bodiesIn infosIn debugInTail
+    headersApart bodiesApart checks fieldsFit utf8.isUtf8 utf8.readingOf utf8.nextByte utf8.opens newLength patchFits byIdRefusal
+    builder.checks builder.endsAscend builder.endsWithin builder.allSmall utf8.utf16 utf8.unitsFrom utf8.unitsOfPoint
 marked = tt

@@ -1,5 +1,5 @@
 -- The footer: its room, what is stored, and bytes that are compared.
-use mathlib.Core.Path.{_≡_, _∙_}
+use mathlib.Core.Path.{_≡_, refl, _∙_}
 use mathlib.Core.Bool.{true, false}
 use mathlib.Core.List.{List, _++_}
 use Prim.Native.Nat.{ℕ, _+_, _-_, _≤_, _<_}
@@ -8,7 +8,8 @@ use native.Mathlib.Omega.{arith}
 use borrow.Author.Tests.{ne-eqb, eq-eqb, le-leb, lt-leb}
 use lib.ListN.{length, take, drop, getD, length-append, length-take, length-drop, drop-of-length-le}
 use lib.Seq.{sets, sets-eq, length-take-le, drop-cons, take-all}
-use Rattle.bits.specs.Outcome.{refused, made}
+use Rattle.bits.specs.Outcome.{refused, made, Answers}
+use Rattle.bits.specs.declared.Answer.the-variants.{Refused}
 use Rattle.bits.proofs.OutcomeLaws.{roomed-short, roomed-fits}
 use Rattle.sha1.specs.Sha1.{digest}
 use Rattle.sha1.proofs.BlockLaws.{length-digest}
@@ -21,9 +22,13 @@ length-footed body = length-append body (digest body) ∙ rw (length-digest body
 -- ---- append and rehash
 
 module _ (buf : List ℕ) (len : ℕ) where
-  pub append-short : length buf < len + footerLength → appendOf buf len ≡ refused 13
+  append-short : length buf < len + footerLength → appendOf buf len ≡ refused 13
   unfolding appendOf
   append-short h = roomed-short (length buf) (footed (take len buf)) (rw (length-footed (take len buf), length-take) (omega arith))
+
+  -- and then nothing is written
+  pub append-out : length buf < len + footerLength → Answers (appendOf buf len) (Refused 13) buf buf
+  append-out h = rw (append-short h) (refl, refl)
 
   pub length-made : len ≤ length buf → length (footed (take len buf)) ≡ len + footerLength
   length-made h = length-footed (take len buf) ∙ rw (length-take-le len buf h)
@@ -33,7 +38,8 @@ module _ (buf : List ℕ) (len : ℕ) where
   append-fits h = roomed-fits (length buf) (footed (take len buf)) (omega (arith, length-made (omega arith)))
 
   -- what is stored at `len` is the image with its footer, and the bytes after it
-  pub footed-stored : len + footerLength ≤ length buf → sets buf len (digest (take len buf)) ≡ footed (take len buf) ++ drop (length (footed (take len buf))) buf
+  pub footed-stored : len + footerLength ≤ length buf → sets buf len (digest (take len buf)) ≡ footed (take len buf)
+      ++ drop (length (footed (take len buf))) buf
   unfolding footed
   footed-stored h =
       let d : length (digest (take len buf)) ≡ footerLength = length-digest (take len buf) in
@@ -72,4 +78,9 @@ module _ (buf : List ℕ) where
       → same (take (length buf - (length buf - footerLength)) (drop (length buf - footerLength) buf)) hash ≡ verified buf
   unfolding verified
   verified-long hash h e =
-      rw (le-leb _ _ h, e, take-all (length buf - (length buf - footerLength)) (drop (length buf - footerLength) buf) (rw length-drop (omega arith)))
+      rw (
+        le-leb _ _ h,
+        e,
+        take-all (length buf - (length buf - footerLength)) (drop (length buf - footerLength) buf)
+            (rw length-drop (omega arith)),
+      )

@@ -1,2 +1,3 @@
 pub mod FooterLaws
 pub mod FinalizeLaws
+pub mod SealLaws

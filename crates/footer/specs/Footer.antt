@@ -1,4 +1,5 @@
 -- The footer of an image. 01, Image rules: "The last 20 bytes are the footer"; FIPS 180-4 decides the hash.
+-- docs/FORMAT.md: Footer functions.
 use mathlib.Core.Bool.{Bool, true, false}
 use mathlib.Core.List.{List, [], _∷_, _++_}
 use Prim.Native.Nat.{ℕ, _-_}

@@ -17,7 +17,7 @@ ghost use Rattle.footer.specs.Finalize.{finalizeOf};
 pub const FOOTER_LEN: usize = 20;
 
 // The least length of an image that can be finalized: its file length field ends there.
-pub const LEAST_LENGTH: usize = 36;
+pub const LEAST_LENGTH: usize = format::FILE_LENGTH_END;
 
 // The greatest length of an image.
 pub const SIZE_LIMIT: usize = 67108864;
@@ -44,10 +44,10 @@ pub fn append_footer(buf: &mut [u8], len: usize) -> Answer
     ensures { λ r. ⌜ Answers (appendOf (now (buf .entry)) len) r (now (buf .entry)) (now (buf .exit)) ⌝ }
 {
     if buf.len() < FOOTER_LEN {
-        return Answer::Refused(13);
+        return Answer::Refused(refusals::ROOM);
     }
     if buf.len() - FOOTER_LEN < len {
-        return Answer::Refused(13);
+        return Answer::Refused(refusals::ROOM);
     }
     put_footer(buf, len);
     Answer::Length(len + FOOTER_LEN)
@@ -99,12 +99,12 @@ pub fn finalize_raw_image(buf: &mut [u8]) -> Answer
 {
     let n = buf.len();
     if n < LEAST_LENGTH {
-        return Answer::Refused(1);
+        return Answer::Refused(refusals::SIZE);
     }
     if SIZE_LIMIT < n {
-        return Answer::Refused(1);
+        return Answer::Refused(refusals::SIZE);
     }
-    bits::put_word(buf, format::at(format::FILE_LENGTH), n as u64);
+    format::put_word(buf, 0, format::FILE_LENGTH, n as u64);
     put_footer(buf, n - FOOTER_LEN);
     Answer::Length(n)
 }

@@ -9,10 +9,15 @@ use lib.Dec.{leb}
 use Rattle.bits.specs.Choice.{pick}
 use Rattle.bits.proofs.TestLaws.{either-0, either-1}
 use Rattle.bits.proofs.FieldLaws.{with-lt}
-use Rattle.format.specs.Table.{entryWide, entryOffset, entryLength}
+use Rattle.format.specs.Table.{ifSet, entryWide, entryOffset, entryLength}
 use Rattle.format.specs.Record.{valueOf, withValue}
-use Rattle.format.specs.Entry.{Place, bit, entry, isOver, smallWord}
+use Rattle.format.specs.Entry.{Place, bit, entry, far, long, full, isOver, smallWord}
 use Rattle.format.proofs.RecordLaws.{value-kept, value-put}
+
+-- a fact as the code counts it
+pub set-bit : (b : Bool) → ifSet b 1 ≡ bit b
+set-bit true = refl
+set-bit false = refl
 
 bit-mod : (b : Bool) → bit b % 2 ≡ bit b
 bit-mod true = refl
@@ -23,7 +28,7 @@ module _ (wide : Bool) (offset len : ℕ) where
   unfolding entry
   entry-length h = value-put entryLength len (withValue entryOffset offset (withValue entryWide (bit wide) 0)) ∙ mod-eq-of-lt h
 
-  pub entry-offset : offset < 0x800000 → valueOf entryOffset (entry wide offset len) ≡ offset
+  pub entry-offset : offset < far → valueOf entryOffset (entry wide offset len) ≡ offset
   unfolding entry
   entry-offset h =
       value-kept entryLength entryOffset len (withValue entryOffset offset (withValue entryWide (bit wide) 0)) (omega arith)
@@ -38,19 +43,27 @@ module _ (wide : Bool) (offset len : ℕ) where
 
   entry-lt : entry wide offset len < 2 ^ 32
   unfolding entry
-  entry-lt = with-lt _ 24 8 len 32 (omega arith) (with-lt _ 1 23 offset 32 (omega arith) (with-lt 0 0 1 (bit wide) 32 (omega arith) (omega arith)))
+  entry-lt =
+      with-lt _ 24 8 len 32 (omega arith) (with-lt _ 1 23 offset 32 (omega arith) (with-lt 0 0 1 (bit wide) 32 (omega arith) (omega arith)))
+
+-- an entry made field by field
+pub entry-is : (wide : Bool) (offset len b x y z : ℕ) → b ≡ ifSet wide 1 → x ≡ withValue entryWide b 0
+    → y ≡ withValue entryOffset offset x
+    → z ≡ withValue entryLength len y → z ≡ entry wide offset len
+unfolding entry
+entry-is wide offset len b x y z e f g h = rw (h, g, f, e, set-bit wide)
 
 pub small-lt : (k : ℕ) (p : Place) → smallWord k p < 2 ^ 32
 unfolding smallWord
 small-lt k p = go (isOver p)
   where
-    go : (b : Bool) → pick b (entry (p .wide) k 0xFF) (entry (p .wide) (p .at) (p .count)) < 2 ^ 32
-    go true = entry-lt (p .wide) k 0xFF
+    go : (b : Bool) → pick b (entry (p .wide) k full) (entry (p .wide) (p .at) (p .count)) < 2 ^ 32
+    go true = entry-lt (p .wide) k full
     go false = entry-lt (p .wide) (p .at) (p .count)
 
 -- what does not go to the overflow table fits a small entry
-pub not-over : (p : Place) → isOver p ≡ false → (p .at < 0x800000) × (p .count < 255)
+pub not-over : (p : Place) → isOver p ≡ false → (p .at < far) × (p .count < long)
 not-over p o = (
-  leb-false 0x800000 (p .at) (either-0 (leb 0x800000 (p .at)) (leb 255 (p .count)) o),
-  leb-false 255 (p .count) (either-1 (leb 0x800000 (p .at)) (leb 255 (p .count)) o),
+  leb-false far (p .at) (either-0 (leb far (p .at)) (leb long (p .count)) o),
+  leb-false long (p .count) (either-1 (leb far (p .at)) (leb long (p .count)) o),
 )

@@ -2,3 +2,4 @@ pub mod RecordLaws
 pub mod RowLaws
 pub mod EntryLaws
 pub mod MoveLaws
+pub mod NumberLaws

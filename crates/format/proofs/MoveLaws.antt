@@ -29,7 +29,8 @@ side a b p w h = elim (below-or p b) [ inl t ↦ inl (t, h t) | inr t ↦ inr t 
 
 module _ (a b n : ℕ) where
   -- where they go
-  pub moved-side : (p w : ℕ) → Side a b p w → ((p + w ≤ a) × (moved b (a + n) p ≡ p)) ⊎ ((b ≤ p) × (moved b (a + n) p ≡ p - b + (a + n)))
+  pub moved-side : (p w : ℕ) → Side a b p w → ((p + w ≤ a) × (moved b (a + n) p ≡ p))
+      ⊎ ((b ≤ p) × (moved b (a + n) p ≡ p - b + (a + n)))
   moved-side p w (inl h) = inl (h .1, moved-low b (a + n) p (h .0))
   moved-side p w (inr h) = inr (h, moved-high b (a + n) p h)
 
@@ -39,7 +40,8 @@ module _ (a b n : ℕ) where
 
   -- they stay within what they were within
   pub moved-within : (p w x : ℕ) → Side a b p w → p + w ≤ x → b ≤ x → moved b (a + n) p + w ≤ x - b + (a + n)
-  moved-within p w x d h k = elim (moved-side p w d) [ inl r ↦ rw (r .1) (omega (arith, r .0)) | inr r ↦ rw (r .1) (omega (arith, r .0)) ]
+  moved-within p w x d h k =
+      elim (moved-side p w d) [ inl r ↦ rw (r .1) (omega (arith, r .0)) | inr r ↦ rw (r .1) (omega (arith, r .0)) ]
 
   -- bytes that share none with others still share none
   pub moved-apart : (p w q v : ℕ) → Side a b p w → Side a b q v → (p < q + v → p + w ≤ q)
@@ -57,8 +59,12 @@ module _ (a b n : ℕ) where
       ]
 
   -- a place among them moves with them
-  pub moved-run : a ≤ b → (p w j : ℕ) → Side a b p w → j < w → Side a b (p + j) 1 × (moved b (a + n) (p + j) ≡ moved b (a + n) p + j)
-  moved-run o p w j (inl h) k =
-      (inl (omega (arith, h .1), omega (arith, h .1)), moved-low b (a + n) (p + j) (omega (arith, h .1)) ∙ rw (moved-low b (a + n) p (h .0)))
+  pub moved-run : a ≤ b → (p w j : ℕ) → Side a b p w → j < w → Side a b (p + j) 1
+      × (moved b (a + n) (p + j) ≡ moved b (a + n) p + j)
+  moved-run o p w j (inl h) k = (
+    inl (omega (arith, h .1), omega (arith, h .1)),
+    moved-low b (a + n) (p + j) (omega (arith, h .1))
+        ∙ rw (moved-low b (a + n) p (h .0)),
+  )
   moved-run o p w j (inr h) k =
       (inr (omega arith), moved-high b (a + n) (p + j) (omega arith) ∙ rw (moved-high b (a + n) p h) (omega arith))

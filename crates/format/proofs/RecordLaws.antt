@@ -11,7 +11,8 @@ use Rattle.bits.proofs.FieldLaws.{field-same, field-part, field-above, field-be
 use Rattle.format.specs.declared.Field.{Field}
 use Rattle.format.specs.declared.Layout.{Layout}
 use Rattle.format.specs.declared.Layout.the-variants.{Modern, Legacy}
-use Rattle.format.specs.Table.{modernFlags, modernPointerLow, modernPointerHigh, legacyOffset, legacyInfo, legacyFlags, legacyPointerLow, recordRow}
+use Rattle.format.specs.Table.{modernFlags, modernPointerLow, modernPointerHigh, legacyOffset, legacyInfo, legacyFlags}
+use Rattle.format.specs.Table.{legacyPointerLow, recordRow}
 use Rattle.format.specs.Record.{valueOf, withValue, isLarge, pointer, putPointer}
 
 -- two fields have no bit in common
@@ -47,7 +48,8 @@ highRow Modern = modernPointerHigh
 highRow (Legacy big sources) = legacyInfo
 
 -- it leaves every field alone that has no bit in common with these two: bit 24 of a modern record stays
-pub pointer-keeps : (l : Layout) (g : Field) (p n : ℕ) → Apart (lowRow l) g → Apart (highRow l) g → valueOf g (putPointer l p n) ≡ valueOf g n
+pub pointer-keeps : (l : Layout) (g : Field) (p n : ℕ) → Apart (lowRow l) g → Apart (highRow l) g
+    → valueOf g (putPointer l p n) ≡ valueOf g n
 unfolding putPointer
 pointer-keeps Modern g p n a b =
     value-kept modernPointerHigh g (p / 2 ^ 24) (withValue modernPointerLow p n) b ∙ value-kept modernPointerLow g p n a

@@ -1,4 +1,6 @@
--- The hash of an identifier. 01, Strings: "per UTF-16 unit, add it, add the sum shifted left 10, xor with itself shifted right 6, all modulo 2^32".
+-- The hash of an identifier. 01, Strings: "per UTF-16 unit, add it, add the sum shifted left 10, xor with itself shifted right 6,
+-- all modulo 2^32".
+-- docs/FORMAT.md: Identifier hash.
 use mathlib.Core.List.{List, [], _∷_}
 use Prim.Native.Nat.{ℕ, _*_, _/_, _^_}
 use Rattle.bits.specs.Word32.{add32, xor32}

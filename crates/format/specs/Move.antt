@@ -1,4 +1,5 @@
 -- Places that move. 01, Bodies: "a place at or past the tail (rebuild) or threshold (body) moves by delta, any other and 0 stay".
+-- docs/FORMAT.md: Relocation.
 use Prim.Native.Nat.{ℕ, _+_, _-_}
 use lib.Dec.{ltb}
 use Rattle.bits.specs.Choice.{pick}

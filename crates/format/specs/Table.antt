@@ -1,4 +1,5 @@
 -- The one table of places and widths. 01, Image rules; 01, Forms: "positions and widths of header and record fields for all layouts".
+-- docs/FORMAT.md: Header, Sections, Function records, Large headers.
 use mathlib.Core.Bool.{Bool, true, false}
 use mathlib.Core.List.{List, [], _∷_}
 use Prim.Native.Nat.{ℕ, _+_}
@@ -214,27 +215,55 @@ kindRun = fixed 0 31
 abbrev pub kindIdentifier : Field
 kindIdentifier = fixed 31 1
 
+-- ---- Words of what has several, in bytes from its start: rows that several fields share.
+
+abbrev pub firstWord : Field
+firstWord = fixed 0 4
+
+abbrev pub secondWord : Field
+secondWord = fixed 4 4
+
 -- ---- Entries of the sections after the records, in bytes: the size of each.
 
 abbrev pub kindEntry : Field
-kindEntry = fixed 0 4
+kindEntry = firstWord
 
 abbrev pub hashEntry : Field
-hashEntry = fixed 0 4
+hashEntry = firstWord
 
 abbrev pub smallEntry : Field
-smallEntry = fixed 0 4
+smallEntry = firstWord
 
 abbrev pub overflowEntry : Field
 overflowEntry = fixed 0 8
 
--- ---- Words of a large header, in bytes from its pointer; then all of its words.
+-- ---- Words of an overflow entry, in bytes from its start.
+
+abbrev pub overflowOffset : Field
+overflowOffset = firstWord
+
+abbrev pub overflowLength : Field
+overflowLength = secondWord
+
+-- ---- Fields of a large header, in bytes from its pointer.
 
 abbrev pub largeOffset : Field
-largeOffset = fixed 0 4
+largeOffset = firstWord
+
+abbrev pub modernLargeParams : Field
+modernLargeParams = secondWord
 
 abbrev pub modernLargeSize : Field
 modernLargeSize = fixed 12 4
+
+abbrev pub modernLargeNonPtrRegs : Field
+modernLargeNonPtrRegs = fixed 24 4
+
+abbrev pub modernLargeFrame : Field
+modernLargeFrame = fixed 28 4
+
+abbrev pub modernLargeFlags : Field
+modernLargeFlags = fixed 36 1
 
 abbrev pub legacyLargeSize : Field
 legacyLargeSize = fixed 8 4
@@ -242,13 +271,18 @@ legacyLargeSize = fixed 8 4
 abbrev pub legacyLargeInfo : Field
 legacyLargeInfo = fixed 16 4
 
+-- ---- From the pointer on: the words that no other header or body may share, and a whole modern header with zeros to a multiple of 4.
+
 abbrev pub modernLarge : Field
 modernLarge = fixed 0 16
 
 abbrev pub legacyLarge : Field
 legacyLarge = fixed 0 20
 
--- ---- all rows, in the order of the code's table
+abbrev pub modernLargeWhole : Field
+modernLargeWhole = fixed 0 40
+
+-- ---- all rows, in the order of the code's table; what is the same four numbers may stand there once
 
 abbrev pub rows : List Field
 rows =
@@ -301,7 +335,6 @@ rows =
     legacyWriteCache ∷
     legacyFlags ∷
     legacyPointerLow ∷
-    modernOffset ∷
     modernSize ∷
     modernFlags ∷
     modernPointerLow ∷
@@ -312,16 +345,17 @@ rows =
     entryLength ∷
     kindRun ∷
     kindIdentifier ∷
-    kindEntry ∷
-    hashEntry ∷
-    smallEntry ∷
+    firstWord ∷
+    secondWord ∷
     overflowEntry ∷
-    largeOffset ∷
     modernLargeSize ∷
-    legacyLargeSize ∷
+    modernLargeNonPtrRegs ∷
+    modernLargeFrame ∷
+    modernLargeFlags ∷
     legacyLargeInfo ∷
     modernLarge ∷
     legacyLarge ∷
+    modernLargeWhole ∷
     []
 
 -- how many there are
@@ -331,6 +365,10 @@ rowCount = length rows
 -- row k of the table
 abbrev pub rowOf : ℕ → Field
 rowOf k = getD rows k (fixed 0 0)
+
+-- the length of the file header: 01, "Sections follow each other from byte 128", in every layout
+abbrev pub headerLength : ℕ
+headerLength = modernRecord .at
 
 -- 01: "Bytes 0..8 hold 0x1F1903C103BC1FC6"
 abbrev pub magicNumber : ℕ
@@ -357,11 +395,6 @@ recordRow (Legacy big sources) = legacyRecord
 abbrev pub largeRow : Layout → Field
 largeRow Modern = modernLarge
 largeRow (Legacy big sources) = legacyLarge
-
--- the word of a large header that holds the body's size: 01, "size at 12 modern, 8 legacy"
-abbrev pub largeSizeRow : Layout → Field
-largeSizeRow Modern = modernLargeSize
-largeSizeRow (Legacy big sources) = legacyLargeSize
 
 -- the debug offset's field
 abbrev pub debugRow : Layout → Field

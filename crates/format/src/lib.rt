@@ -1,8 +1,12 @@
 // The layouts of an image, and the one table of the places and widths of its fields.
 ghost use mathlib.Core.Path.{_≡_};
 ghost use Prim.Native.Nat.{_+_, _<_, _≤_, _^_};
-ghost use Rattle.format.specs.Table.{rowOf, rowCount, placeIn, ifSet, recordRow, largeRow, debugRow};
-ghost use Rattle.format.specs.Record.{valueOf};
+ghost use lib.ListN.{length};
+ghost use lib.Seq.{sets};
+ghost use Rattle.format.specs.Table.{rowOf, rowCount, headerLength, placeIn, ifSet, recordRow, largeRow, debugRow};
+ghost use Rattle.format.specs.Record.{valueOf, withValue};
+ghost use Rattle.format.specs.Number.{numberFrom, bytesFor};
+ghost use Rattle.format.specs.Entry.{entry};
 
 // The layout of an image, as its caller states it.
 pub enum Layout {
@@ -25,9 +29,18 @@ pub struct Field {
 // What the first 8 bytes of every image hold.
 pub const MAGIC_NUMBER: u64 = 0x1F1903C103BC1FC6;
 
+// From this offset or this length on a string goes to the overflow table.
+pub const FAR: usize = 0x800000;
+
+pub const LONG: usize = 255;
+
+// The length field of a small entry whose place stands in the overflow table.
+pub const FULL: u64 = 0xFF;
+
 // The one table. A row is the four numbers of a field as groups of decimal digits, in the order of
 // `Field`: 92_04_8_4 stands at 92, is 4 wide, and is pushed by 8 and by 4. A row that is one number
-// costs nothing where its name is a constant. The names of the rows follow below, in the same order.
+// costs nothing where its name is a constant, in a table of up to 70 rows; so fields with the same four
+// numbers may share one. The names of the rows follow below, in the same order.
 pub const FIELDS: [usize; 70] = [
     // Header fields of every layout, in bytes.
     0_08_0_0, // magic
@@ -84,8 +97,7 @@ pub const FIELDS: [usize; 70] = [
     112_08_0_0, // legacy write cache
     120_08_0_0, // legacy flags
     0_16_0_0, // legacy pointer low
-    // Fields of a modern record, in bits.
-    0_25_0_0, // modern offset
+    // Fields of a modern record, in bits. Its offset stands where a legacy one does.
     32_14_0_0, // modern size
     88_08_0_0, // modern flags
     0_24_0_0, // modern pointer low
@@ -99,18 +111,22 @@ pub const FIELDS: [usize; 70] = [
     // Fields of a kind word, in bits.
     0_31_0_0, // kind run
     31_01_0_0, // kind identifier
-    // Entries of the sections after the records, in bytes: the size of each.
-    0_04_0_0, // kind entry
-    0_04_0_0, // hash entry
-    0_04_0_0, // small entry
+    // Words of what has several, in bytes from its start.
+    0_04_0_0, // first word: kind, hash and small entry, overflow offset, large offset
+    4_04_0_0, // second word: overflow length, modern large params
+    // An entry of the overflow table, in bytes.
     0_08_0_0, // overflow entry
-    // Words of a large header, in bytes from its pointer; then all of its words.
-    0_04_0_0, // large offset
+    // Other fields of a large header, in bytes from its pointer. The legacy size stands at 8, as the version.
     12_04_0_0, // modern large size
-    8_04_0_0, // legacy large size
+    24_04_0_0, // modern large non ptr regs
+    28_04_0_0, // modern large frame
+    36_01_0_0, // modern large flags
     16_04_0_0, // legacy large info
+    // From the pointer on: the words that no other header or body may share, and a whole modern header
+    // with zeros to a multiple of 4.
     0_16_0_0, // modern large
     0_20_0_0, // legacy large
+    0_40_0_0, // modern large whole
 ];
 
 pub const MAGIC: usize = 0;
@@ -211,47 +227,72 @@ pub const LEGACY_FLAGS: usize = 47;
 
 pub const LEGACY_POINTER_LOW: usize = 48;
 
-pub const MODERN_OFFSET: usize = 49;
+pub const MODERN_OFFSET: usize = LEGACY_OFFSET;
 
-pub const MODERN_SIZE: usize = 50;
+pub const MODERN_SIZE: usize = 49;
 
-pub const MODERN_FLAGS: usize = 51;
+pub const MODERN_FLAGS: usize = 50;
 
-pub const MODERN_POINTER_LOW: usize = 52;
+pub const MODERN_POINTER_LOW: usize = 51;
 
-pub const MODERN_POINTER_HIGH: usize = 53;
+pub const MODERN_POINTER_HIGH: usize = 52;
 
-pub const LARGE_FLAG: usize = 54;
+pub const LARGE_FLAG: usize = 53;
 
-pub const ENTRY_WIDE: usize = 55;
+pub const ENTRY_WIDE: usize = 54;
 
-pub const ENTRY_OFFSET: usize = 56;
+pub const ENTRY_OFFSET: usize = 55;
 
-pub const ENTRY_LENGTH: usize = 57;
+pub const ENTRY_LENGTH: usize = 56;
 
-pub const KIND_RUN: usize = 58;
+pub const KIND_RUN: usize = 57;
 
-pub const KIND_IDENTIFIER: usize = 59;
+pub const KIND_IDENTIFIER: usize = 58;
 
-pub const KIND_ENTRY: usize = 60;
+pub const FIRST_WORD: usize = 59;
 
-pub const HASH_ENTRY: usize = 61;
+pub const SECOND_WORD: usize = 60;
 
-pub const SMALL_ENTRY: usize = 62;
+pub const KIND_ENTRY: usize = FIRST_WORD;
 
-pub const OVERFLOW_ENTRY: usize = 63;
+pub const HASH_ENTRY: usize = FIRST_WORD;
 
-pub const LARGE_OFFSET: usize = 64;
+pub const SMALL_ENTRY: usize = FIRST_WORD;
 
-pub const MODERN_LARGE_SIZE: usize = 65;
+pub const OVERFLOW_ENTRY: usize = 61;
 
-pub const LEGACY_LARGE_SIZE: usize = 66;
+pub const OVERFLOW_OFFSET: usize = FIRST_WORD;
 
-pub const LEGACY_LARGE_INFO: usize = 67;
+pub const OVERFLOW_LENGTH: usize = SECOND_WORD;
 
-pub const MODERN_LARGE: usize = 68;
+pub const LARGE_OFFSET: usize = FIRST_WORD;
 
-pub const LEGACY_LARGE: usize = 69;
+pub const MODERN_LARGE_PARAMS: usize = SECOND_WORD;
+
+pub const MODERN_LARGE_SIZE: usize = 62;
+
+pub const MODERN_LARGE_NON_PTR_REGS: usize = 63;
+
+pub const MODERN_LARGE_FRAME: usize = 64;
+
+pub const MODERN_LARGE_FLAGS: usize = 65;
+
+pub const LEGACY_LARGE_SIZE: usize = VERSION;
+
+pub const LEGACY_LARGE_INFO: usize = 66;
+
+pub const MODERN_LARGE: usize = 67;
+
+pub const LEGACY_LARGE: usize = 68;
+
+pub const MODERN_LARGE_WHOLE: usize = 69;
+
+// Constants that are read off the table: the file header ends where the records start.
+pub const HEADER_LEN: usize = FIELDS[MODERN_RECORD] / 10000;
+
+pub const SOURCE_HASH_LEN: usize = FIELDS[SOURCE_HASH] / 100 % 100;
+
+pub const FILE_LENGTH_END: usize = FIELDS[FILE_LENGTH] / 10000 + FIELDS[FILE_LENGTH] / 100 % 100;
 
 // A row of the table, by its name: here the table and the definitions are joined, for every row.
 pub fn get(k: usize) -> Field
@@ -293,6 +334,43 @@ pub fn value(word: u64, k: usize) -> u64
     bits::field(word, f.at, f.width)
 }
 
+// A 32-bit word with the low bits of `v` in a field, by the name of its row.
+fn with_value(word: u64, k: usize, v: u64) -> u64
+    requires { ⌜ k < rowCount ⌝ }
+    requires { ⌜ rowOf k .at + rowOf k .width ≤ 32 ⌝ }
+    ensures { λ r. ⌜ r ≡ withValue (rowOf k) v word ⌝ }
+{
+    let f = get(k);
+    bits::with_field(word, f.at, f.width, v)
+}
+
+// The small string entry of a width, an offset and a length.
+pub fn entry(wide: bool, offset: u64, len: u64) -> u64
+    ensures { λ r. ⌜ r ≡ entry wide offset len ⌝ }
+{
+    let widened = with_value(0, ENTRY_WIDE, if_set(wide, 1) as u64);
+    let offset_put = with_value(widened, ENTRY_OFFSET, offset);
+    with_value(offset_put, ENTRY_LENGTH, len)
+}
+
+// The word that stands in a field, by the name of its row. The field's place is counted from `from`.
+pub fn word(s: &[u8], from: usize, k: usize) -> u64
+    requires { ⌜ (k < rowCount) × (rowOf k .width ≡ 4) ⌝ }
+    requires { ⌜ from + rowOf k .at + rowOf k .width ≤ length (now s) ⌝ }
+    ensures { λ r. ⌜ (r ≡ numberFrom from (rowOf k) (now (s .entry))) × (r < 4294967296) ⌝ }
+{
+    bits::word(s, from + at(k))
+}
+
+// A word stored in such a field.
+pub fn put_word(s: &mut [u8], from: usize, k: usize, x: u64)
+    requires { ⌜ (k < rowCount) × (rowOf k .width ≡ 4) ⌝ }
+    requires { ⌜ from + rowOf k .at + rowOf k .width ≤ length (now s) ⌝ }
+    ensures { λ _. ⌜ now (s .exit) ≡ sets (now (s .entry)) (from + rowOf k .at) (bytesFor (rowOf k) x) ⌝ }
+{
+    bits::put_word(s, from + at(k), x);
+}
+
 // `n` where the fact holds, else 0.
 pub fn if_set(fact: bool, n: usize) -> usize
     ensures { λ r. ⌜ (r ≡ ifSet fact n) × (r ≤ n) ⌝ }
@@ -302,7 +380,7 @@ pub fn if_set(fact: bool, n: usize) -> usize
 
 // Where a header field stands in an image of a layout.
 pub fn place(f: Field, layout: Layout) -> usize
-    requires { ⌜ f .at + f .big + f .sources ≤ 128 ⌝ }
+    requires { ⌜ f .at + f .big + f .sources ≤ headerLength ⌝ }
     ensures { λ r. ⌜ r ≡ placeIn layout f ⌝ }
 {
     match layout {

@@ -6,13 +6,14 @@ use Prim.Native.Nat.{ℕ, _+_, _-_, _≤_, _<_}
 use native.Mathlib.Omega.{arith}
 use lib.ListN.{length, take, drop, length-drop}
 use lib.Seq.{length-take-le}
-use Rattle.bits.specs.Bytes.{number, numberAt, wordAt}
+use Rattle.bits.specs.Bytes.{number, numberAt}
 use Rattle.bits.proofs.ByteLaws.{bytesAt-take, bytesAt-self}
 use Rattle.format.specs.declared.Field.{Field}
 use Rattle.format.specs.declared.Layout.{Layout}
 use Rattle.format.specs.declared.Layout.the-variants.{Modern, Legacy}
 use Rattle.format.specs.Table as table
 use Rattle.format.specs.Record.{valueOf, isLarge, pointer}
+use Rattle.format.specs.Number.{numberFrom}
 use Rattle.image.specs.Sections.{functionsIn, recordAt}
 use Rattle.image.specs.Functions.{Func, small, header, recordIn, funcOf}
 use Rattle.image.specs.Admission.{headersIn}
@@ -27,7 +28,8 @@ slot-number s at n h =
     let e : length (take n (drop at s)) ≡ n = length-take-le n (drop at s) (rw length-drop (omega arith)) in
     ap number (rw e at (bytesAt-self (take n (drop at s))) ∙ sym (bytesAt-take s n at h))
 
-module _ (l : Layout) (s : List ℕ) (i at : ℕ) (f : Field) (e : at ≡ recordAt l i) (g : f ≡ table.recordRow l) (h : Fits l s) (k : i < functionsIn s) where
+module _ (l : Layout) (s : List ℕ) (i at : ℕ) (f : Field) (e : at ≡ recordAt l i) (g : f ≡ table.recordRow l) (h : Fits l s)
+    (k : i < functionsIn s) where
   slot-width : f .width ≡ table.recordRow l .width
   slot-width = ap (λ (x : Field). x .width) g
 
@@ -39,9 +41,11 @@ module _ (l : Layout) (s : List ℕ) (i at : ℕ) (f : Field) (e : at ≡ record
 
   pub slot-long : table.recordRow l .width ≤ length (take (at + f .width - at) (drop at s))
   slot-long =
-      rw (slot-count, length-take-le (table.recordRow l .width) (drop at s) (rw length-drop (omega (arith, records-fit l s i h k)))) (omega arith)
+      rw (slot-count, length-take-le (table.recordRow l .width) (drop at s) (rw length-drop (omega (arith, records-fit l s i h k))))
+      (omega arith)
 
-  pub slot-record : (n : ℕ) → n ≡ numberAt (take (at + f .width - at) (drop at s)) 0 (table.recordRow l .width) → n ≡ recordIn l s i
+  pub slot-record : (n : ℕ) → n ≡ numberAt (take (at + f .width - at) (drop at s)) 0 (table.recordRow l .width)
+      → n ≡ recordIn l s i
   unfolding recordIn
   slot-record n d =
       d ∙ rw (slot-count, e) (slot-number s (recordAt l i) (table.recordRow l .width) (records-fit l s i h k))
@@ -61,19 +65,21 @@ module _ (l : Layout) (n : ℕ) where
   unfolding small
   small-modern e a b h k = rw (e, h, k)
 
-  pub small-legacy : (x y : Bool) → l ≡ Legacy x y → (a b c : ℕ) → a ≡ valueOf table.legacyOffset n → b ≡ valueOf table.legacySize n
+  pub small-legacy : (x y : Bool) → l ≡ Legacy x y → (a b c : ℕ) → a ≡ valueOf table.legacyOffset n
+      → b ≡ valueOf table.legacySize n
       → c ≡ valueOf table.legacyInfo n → record { large = false; ptr = 0; begin = a; size = b; info = c } ≡ small l n
   unfolding small
   small-legacy x y e a b c h k j = rw (e, h, k, j)
 
 module _ (l : Layout) (s : List ℕ) (p : ℕ) where
-  pub header-modern : l ≡ Modern → (a b : ℕ) → a ≡ wordAt s (p + table.largeOffset .at) → b ≡ wordAt s (p + table.modernLargeSize .at)
+  pub header-modern : l ≡ Modern → (a b : ℕ) → a ≡ numberFrom p table.largeOffset s → b ≡ numberFrom p table.modernLargeSize s
       → record { large = true; ptr = p; begin = a; size = b; info = 0 } ≡ header l p s
   unfolding header
   header-modern e a b h k = rw (e, h, k)
 
-  pub header-legacy : (x y : Bool) → l ≡ Legacy x y → (a b c : ℕ) → a ≡ wordAt s (p + table.largeOffset .at) → b ≡ wordAt s (p + table.legacyLargeSize .at)
-      → c ≡ wordAt s (p + table.legacyLargeInfo .at) → record { large = true; ptr = p; begin = a; size = b; info = c } ≡ header l p s
+  pub header-legacy : (x y : Bool) → l ≡ Legacy x y → (a b c : ℕ) → a ≡ numberFrom p table.largeOffset s
+      → b ≡ numberFrom p table.legacyLargeSize s → c ≡ numberFrom p table.legacyLargeInfo s
+      → record { large = true; ptr = p; begin = a; size = b; info = c } ≡ header l p s
   unfolding header
   header-legacy x y e a b c h k j = rw (e, h, k, j)
 

@@ -8,7 +8,6 @@ use lib.Dec.{leb, eqb}
 use lib.ListN.{length}
 use borrow.Author.Tests.{le-leb, lt-leb, leb-true, eq-eqb, ne-eqb, not-true, not-false}
 use Rattle.bits.specs.Choice.{pick, both, implies, allBelow}
-use Rattle.bits.specs.Bytes.{wordAt}
 use Rattle.bits.proofs.TestLaws.{both-1}
 use Rattle.bits.proofs.PassLaws.{all-both, pass-stop, pass-end}
 use Rattle.format.specs.declared.Field.{Field}
@@ -19,7 +18,7 @@ use Rattle.format.specs.Record.{isLarge, pointer}
 use Rattle.header_write.specs.declared.Pointer.{Pointer}
 use Rattle.header_write.specs.declared.Pointer.the-variants as answer
 use Rattle.footer.specs.Footer.{footerLength}
-use Rattle.image.specs.Sections.{functionsIn, tailAt}
+use Rattle.image.specs.Sections.{functionsIn, debugIn, tailAt}
 use Rattle.image.specs.Functions.{Func, small, header, recordIn, funcOf}
 use Rattle.image.specs.Admission.{inTail, placeInTail, headersIn, bodiesIn, infosIn, debugInTail}
 use Rattle.sections.specs.declared.Places.{Places}
@@ -28,7 +27,8 @@ use Rattle.sections.proofs.SectionLaws.{Sectioned, sectioned}
 use Rattle.function_table.specs.declared.Function.{Function}
 use Rattle.function_table.specs.declared.FunctionRead.{FunctionRead}
 use Rattle.function_table.specs.declared.FunctionRead.the-variants.{Found, Refused}
-use Rattle.function_table.specs.Functions.{asFunc, asFunction, WordSized, FoundSized, pointerJudged, headerIn, functionRead, within, functionIn, functionsInTail}
+use Rattle.function_table.specs.Functions.{asFunc, asFunction, WordSized, FoundSized, pointerJudged, headerIn, functionRead}
+use Rattle.function_table.specs.Functions.{within, functionIn, functionsInTail}
 use Rattle.function_table.proofs.ReadLaws.{small-is, header-is, is-large, points-to, is-small}
 
 -- ---- bytes and places in the tail
@@ -43,7 +43,8 @@ module _ (tail len at : ℕ) where
   pub no-place : at ≡ 0 → true ≡ implies (not (eqb at 0)) (within tail len at 0)
   no-place h = rw (eq-eqb at 0 h)
 
-  pub some-place : (at ≡ 0 → ⊥) → (r : Bool) → r ≡ within tail len at 0 → r ≡ implies (not (eqb at 0)) (within tail len at 0)
+  pub some-place : (at ≡ 0 → ⊥) → (r : Bool) → r ≡ within tail len at 0
+      → r ≡ implies (not (eqb at 0)) (within tail len at 0)
   some-place h r e = rw (ne-eqb at 0 h, e)
 
 within-end : (tail len at n : ℕ) → within tail len at n ≡ true → at + n + footerLength ≤ len
@@ -66,7 +67,8 @@ module _ (p : Places) (s : List ℕ) (h : Placed p s) where
   pub tail-is : (at n : ℕ) (r : Bool) → r ≡ within (p .tail) (length s) at n → r ≡ inTail (p .layout) s at n
   tail-is at n r e = e ∙ in-tail at n
 
-  pub place-is : (at : ℕ) (r : Bool) → r ≡ implies (not (eqb at 0)) (within (p .tail) (length s) at 0) → r ≡ placeInTail (p .layout) s at
+  pub place-is : (at : ℕ) (r : Bool) → r ≡ implies (not (eqb at 0)) (within (p .tail) (length s) at 0)
+      → r ≡ placeInTail (p .layout) s at
   place-is at r e = e ∙ ap (λ (b : Bool). implies (not (eqb at 0)) b) (in-tail at 0)
 
   module _ (n ptr : ℕ) (f : Field) (r : Bool) (e : ptr ≡ pointer (p .layout) n) (g : f ≡ table.largeRow (p .layout))
@@ -96,7 +98,8 @@ module _ (l : Layout) (s : List ℕ) (n : ℕ) (j : Pointer) (e : j ≡ pointerJ
       go true q = let z : _≡_ {A = ℕ} 0 1 = cc in absurd (omega arith)
       go false q = refl
 
-  pub judged-in : (ptr : ℕ) → j ≡ answer.At ptr → (inTail l s (pointer l n) (table.largeRow l .width) ≡ true) × (ptr ≡ pointer l n)
+  pub judged-in : (ptr : ℕ) → j ≡ answer.At ptr → (inTail l s (pointer l n) (table.largeRow l .width) ≡ true)
+      × (ptr ≡ pointer l n)
   unfolding pointerJudged
   judged-in ptr f = go (inTail l s (pointer l n) (table.largeRow l .width)) (sym e ∙ f)
     where
@@ -154,7 +157,8 @@ module _ (l : Layout) (s : List ℕ) (i : ℕ) (r : FunctionRead) (e : r ≡ fun
     unfolding functionRead
     found-is = go (headerIn l s (funcOf l s i)) (sym e ∙ g)
       where
-        go : (b : Bool) → pick b (Found (asFunction (funcOf l s i))) (Refused 6) ≡ Found f → (b ≡ true) × (funcOf l s i ≡ asFunc f)
+        go : (b : Bool) → pick b (Found (asFunction (funcOf l s i))) (Refused 6) ≡ Found f → (b ≡ true)
+            × (funcOf l s i ≡ asFunc f)
         go true q = let z : asFunction (funcOf l s i) ≡ f = cc in (refl, ap asFunc z)
         go false q = let z : _≡_ {A = ℕ} 0 1 = cc in absurd (omega arith)
 
@@ -182,25 +186,17 @@ module _ (l : Layout) (s : List ℕ) where
   all-functions =
       all-both _ _ (functionsIn s) ∙ ap (λ (b : Bool). both (headersIn l s) b) (all-both _ _ (functionsIn s))
 
-  pub function-fails : (i n : ℕ) (r : Bool) → n ≡ functionsIn s → i < n → r ≡ functionIn l s (funcOf l s i) → not r ≡ true → false ≡ functionsInTail l s
+  pub function-fails : (i n : ℕ) (r : Bool) → n ≡ functionsIn s → i < n → r ≡ functionIn l s (funcOf l s i) → not r ≡ true
+      → false ≡ functionsInTail l s
   function-fails i n r c k e h = pass-stop _ (functionsIn s) i r (rw c at k) e h ∙ all-functions
 
-  pub functions-end : (i n : ℕ) → n ≡ functionsIn s → i ≡ n → allBelow i (λ j. functionIn l s (funcOf l s j)) ≡ true → true ≡ functionsInTail l s
+  pub functions-end : (i n : ℕ) → n ≡ functionsIn s → i ≡ n → allBelow i (λ j. functionIn l s (funcOf l s j)) ≡ true
+      → true ≡ functionsInTail l s
   functions-end i n c e h = pass-end _ (functionsIn s) i (e ∙ c) h ∙ all-functions
 
 -- ---- the debug place
 
-pub debug-fits : (l : Layout) (f : Field) → f ≡ table.debugRow l → (f .at + f .big + f .sources ≤ 128) × (table.placeIn l f ≤ 108)
-debug-fits l f e = rw e (go l)
-  where
-    go : (l : Layout) → (table.debugRow l .at + table.debugRow l .big + table.debugRow l .sources ≤ 128) × (table.placeIn l (table.debugRow l) ≤ 108)
-    go Modern = (omega arith, omega arith)
-    go (Legacy true true) = (omega arith, omega arith)
-    go (Legacy true false) = (omega arith, omega arith)
-    go (Legacy false true) = (omega arith, omega arith)
-    go (Legacy false false) = (omega arith, omega arith)
-
-pub debug-in : (p : Places) (s : List ℕ) → Placed p s → (f : Field) (at x : ℕ) (r : Bool) → f ≡ table.debugRow (p .layout) → at ≡ table.placeIn (p .layout) f
-    → x ≡ wordAt s at → r ≡ implies (not (eqb x 0)) (within (p .tail) (length s) x 0) → r ≡ debugInTail (p .layout) s
+pub debug-in : (p : Places) (s : List ℕ) → Placed p s → (x : ℕ) (r : Bool) → x ≡ debugIn (p .layout) s
+    → r ≡ implies (not (eqb x 0)) (within (p .tail) (length s) x 0) → r ≡ debugInTail (p .layout) s
 unfolding debugInTail
-debug-in p s h f at x r e g d k = rw (k, d, g, e, sectioned p s h .tailFrom)
+debug-in p s h x r e k = rw (k, e, sectioned p s h .tailFrom)

@@ -1,8 +1,11 @@
 -- Functions as code reads them, and the part of refusal 6 that speaks of one function at a time.
-use mathlib.Core.Bool.{Bool}
+-- docs/FORMAT.md: Large headers, Admission.
+use mathlib.Core.Path.{_≡_}
+use mathlib.Core.Bool.{Bool, true}
 use mathlib.Core.List.{List}
 use Prim.Native.Nat.{ℕ, _+_, _<_}
 use lib.Dec.{leb}
+use Rattle.refusals.specs.Numbers as refusals
 use Rattle.bits.specs.Choice.{pick, both, implies}
 use Rattle.format.specs.declared.Layout.{Layout}
 use Rattle.format.specs.Table as table
@@ -12,6 +15,7 @@ use Rattle.header_write.specs.declared.Pointer.the-variants as pointer-is
 use Rattle.footer.specs.Footer.{footerLength}
 use Rattle.image.specs.Functions.{Func, funcOf}
 use Rattle.image.specs.Admission.{inTail, placeInTail, headersIn, bodiesIn, infosIn}
+use Rattle.sections.specs.Places.{Fits}
 use Rattle.function_table.specs.declared.Function.{Function}
 use Rattle.function_table.specs.declared.FunctionRead.{FunctionRead}
 use Rattle.function_table.specs.declared.FunctionRead.the-variants as read-is
@@ -31,11 +35,16 @@ pub record WordSized (f : Function) : Type 0 where
   pub size : f .size < 4294967296
   pub info : f .info < 4294967296
 
+-- an image whose sections and large headers may be read: what reading a function goes by, also before the image is admitted
+abbrev pub Readable : Layout → List ℕ → Type 0
+Readable l s = Fits l s × (headersIn l s ≡ true)
+
 -- ---- a header is read only where its words stand in the tail
 
 -- the pointer of record n, judged as a whole number
 unfoldable pub pointerJudged : Layout → List ℕ → ℕ → Pointer
-pointerJudged l s n = pick (inTail l s (pointer l n) (table.largeRow l .width)) (pointer-is.At (pointer l n)) (pointer-is.Refused 6)
+pointerJudged l s n =
+    pick (inTail l s (pointer l n) (table.largeRow l .width)) (pointer-is.At (pointer l n)) (pointer-is.Refused refusals.function)
 
 -- the words of a function's large header stand in the tail
 abbrev pub headerIn : Layout → List ℕ → Func → Bool
@@ -43,7 +52,7 @@ headerIn l s f = implies (f .large) (inTail l s (f .ptr) (table.largeRow l .widt
 
 -- function i, or 6
 unfoldable pub functionRead : Layout → List ℕ → ℕ → FunctionRead
-functionRead l s i = pick (headerIn l s (funcOf l s i)) (read-is.Found (asFunction (funcOf l s i))) (read-is.Refused 6)
+functionRead l s i = pick (headerIn l s (funcOf l s i)) (read-is.Found (asFunction (funcOf l s i))) (read-is.Refused refusals.function)
 
 -- the words of a function that was found
 abbrev pub FoundSized : FunctionRead → Type 0

@@ -11,15 +11,17 @@ ghost use lib.Dec.{eqb};
 ghost use lib.ListN.{length};
 ghost use Rattle.bits.specs.Choice.{implies};
 ghost use Rattle.bits.specs.Words.{whole};
-ghost use Rattle.bits.specs.Bytes.{numberAt, wordAt};
+ghost use Rattle.bits.specs.Bytes.{numberAt};
 ghost use Rattle.format.specs.Table.{rowOf, rowCount, recordRow, largeRow};
 ghost use Rattle.format.specs.Record.{valueOf, flagsRow, isLarge, pointer};
+ghost use Rattle.format.specs.Number.{numberFrom};
 ghost use Rattle.footer.specs.Finalize.{sizeLimit};
 ghost use Rattle.image.specs.Sections.{functionsIn};
 ghost use Rattle.image.specs.Functions.{small, header, recordIn, funcOf};
 ghost use Rattle.image.specs.Admission.{headersIn, debugInTail};
 ghost use Rattle.sections.specs.Places.{Fits, Placed};
-ghost use Rattle.function_table.specs.Functions.{asFunc, WordSized, FoundSized, pointerJudged, functionRead, within, functionIn, functionsInTail};
+ghost use Rattle.function_table.specs.Functions.{asFunc, WordSized, Readable, FoundSized, pointerJudged, functionRead};
+ghost use Rattle.function_table.specs.Functions.{within, functionIn, functionsInTail};
 
 // A function: whether it has a large header, the pointer to that, its body's start and size, and its
 // info place; 0 where there is none.
@@ -125,11 +127,11 @@ pub fn small_function(words: Words, layout: Layout) -> Function
 
 // A word of the large header at `ptr`, by the name of its row.
 fn large_word(image: &[u8], ptr: usize, k: usize) -> usize
-    requires { ⌜ k < rowCount ⌝ }
-    requires { ⌜ ptr + rowOf k .at + 4 ≤ length (now image) ⌝ }
-    ensures { λ r. ⌜ (r ≡ wordAt (now (image .entry)) (ptr + rowOf k .at)) × (r < 4294967296) ⌝ }
+    requires { ⌜ (k < rowCount) × (rowOf k .width ≡ 4) ⌝ }
+    requires { ⌜ ptr + rowOf k .at + rowOf k .width ≤ length (now image) ⌝ }
+    ensures { λ r. ⌜ (r ≡ numberFrom ptr (rowOf k) (now (image .entry))) × (r < 4294967296) ⌝ }
 {
-    bits::word(image, ptr + format::at(k)) as usize
+    format::word(image, ptr, k) as usize
 }
 
 // The function whose large header stands at `ptr`.
@@ -160,7 +162,7 @@ pub fn large_function(image: &[u8], layout: Layout, ptr: usize) -> Function
 
 // Function `i` of an image whose large headers were all judged.
 pub fn function_at(image: &[u8], layout: Layout, i: usize) -> Function
-    requires { ⌜ Fits layout (now image) × (headersIn layout (now image) ≡ true) ⌝ }
+    requires { ⌜ Readable layout (now image) ⌝ }
     requires { ⌜ i < functionsIn (now image) ⌝ }
     ensures { λ r. ⌜ (asFunc r ≡ funcOf layout (now (image .entry)) i) × WordSized r ⌝ }
 {
@@ -204,7 +206,7 @@ fn judged_pointer(image: &[u8], p: Places, words: Words) -> Pointer
     let layout = p.layout;
     let ptr = pointer_of(words, layout) as usize;
     if !is_in_tail(image, p.tail, ptr, format::large_row(layout).width) {
-        return Pointer::Refused(6);
+        return Pointer::Refused(refusals::FUNCTION);
     }
     Pointer::At(ptr as u32)
 }
@@ -222,7 +224,7 @@ fn read_function(image: &[u8], p: Places, i: usize) -> FunctionRead
     }
     let judged = judged_pointer(image, p, words);
     let Pointer::At(ptr) = judged else {
-        return FunctionRead::Refused(6);
+        return FunctionRead::Refused(refusals::FUNCTION);
     };
     FunctionRead::Found(large_function(image, layout, ptr as usize))
 }
@@ -264,6 +266,5 @@ pub fn is_debug_in_tail(image: &[u8], p: Places) -> bool
     ensures { λ r. ⌜ r ≡ debugInTail (p .layout) (now (image .entry)) ⌝ }
 {
     let layout = p.layout;
-    let at = format::place(format::debug_row(layout), layout);
-    is_place_in_tail(image, p.tail, bits::word(image, at) as usize)
+    is_place_in_tail(image, p.tail, sections::debug_of(image, layout))
 }

@@ -9,7 +9,7 @@ use native.Mathlib.Omega.{arith}
 use borrow.Author.Tests.{eq-eqb, ne-eqb, ltb-false}
 use borrow.Rule.Slice.PartMut.{putMid}
 use lib.Dec.{ltb}
-use lib.ListN.{length, take, drop, drop-of-length-le}
+use lib.ListN.{length, getD, take, drop, drop-of-length-le}
 use lib.Seq.{sets, sets-eq, length-take-le}
 use Rattle.bits.specs.Outcome.{Outcome, refused, made, answered, roomed, Answers}
 use Rattle.bits.specs.declared.Answer.{Answer}
@@ -20,17 +20,18 @@ use Rattle.format.specs.declared.Layout.{Layout}
 use Rattle.footer.specs.Finalize.{finalizeOf}
 use Rattle.footer.proofs.FinalizeLaws.{finalize-within}
 use Rattle.image.specs.Functions.{Func, funcOf}
-use Rattle.image.specs.Edit.{splice}
+use Rattle.image.proofs.CheckLaws.{bodies-in, bodies-apart}
+use Rattle.edits.specs.Edit.{splice}
 use Rattle.function_table.specs.declared.Function.{Function}
-use Rattle.relocate.specs.declared.Patch.the-variants.{Body}
+use Rattle.relocate.specs.declared.Cause.the-variants.{Body}
 use Rattle.relocate.specs.declared.Move.{Move}
 use Rattle.relocate.specs.Relocate.{relocated, Movable}
 use Rattle.relocate.proofs.EditLaws.{resize-is}
 use Rattle.relocate.proofs.MovableLaws.{resize-movable}
-use Rattle.body_checks.specs.Checks.{Target}
-use Rattle.functions.specs.Patch.{bodied, patched, patchBody}
+use Rattle.function_checks.specs.Checks.{FunctionIs}
+use Rattle.functions.specs.Patch.{bodied, patchedBody, patchBody}
 use Rattle.functions.specs.Stages.{Accepted}
-use Rattle.functions.proofs.AdmitLaws.{body-ends, target-ends}
+use Rattle.functions.proofs.AdmitLaws.{fits, readable, body-ends, target-ends}
 use Rattle.functions.proofs.JudgeLaws.{length-moved, length-bodied, length-patched, makes, accepted}
 
 -- ---- the image with the new body
@@ -40,9 +41,10 @@ splice-same : (a b : ℕ) (new s : List ℕ) → b ≡ a + length new → b ≤ 
 unfolding splice
 splice-same a b new s e h = rw e (sym (sets-eq new s a (omega arith) ∙ append-assoc (take a s) new (drop (a + length new) s)))
 
-module _ (l : Layout) (s : List ℕ) (id : ℕ) (body : List ℕ) (room : ℕ) (ok : Accepted l s id body room) (f : Function) (t : Target l s id f) where
+module _ (l : Layout) (s : List ℕ) (id : ℕ) (body : List ℕ) (room : ℕ) (ok : Accepted l s id body room) (f : Function)
+    (t : FunctionIs l s id f) where
   abbrev moveOf : Func → Move
-  moveOf x = record { from = x .begin + x .size; to = x .begin + length body; patch = Body id (length body) }
+  moveOf x = record { from = x .begin + x .size; to = x .begin + length body; cause = Body id (length body) }
 
   begin-is : f .begin ≡ funcOf l s id .begin
   begin-is = ap (λ (x : Func). x .begin) (t .is)
@@ -51,12 +53,13 @@ module _ (l : Layout) (s : List ℕ) (id : ℕ) (body : List ℕ) (room : ℕ) (
   size-is = ap (λ (x : Func). x .size) (t .is)
 
   ends : f .begin + f .size + 20 ≤ length s
-  ends = target-ends l s (ok .image) id f (ok .known) t
+  ends = target-ends l s (ok .admitted) id f (ok .known) t
 
   room-is : room ≡ length s - f .size + length body
-  room-is = ok .exact ∙ length-moved l s id body (omega (arith, body-ends l s (ok .image) id (ok .known))) ∙ rw (← size-is)
+  room-is = ok .exact ∙ length-moved l s id body (omega (arith, body-ends l s (ok .admitted) id (ok .known))) ∙ rw (← size-is)
 
-  pub splice-asked : (f .begin ≤ f .begin + f .size) × (f .begin + f .size ≤ length s) × (room ≡ length s - (f .begin + f .size) + (f .begin + length body))
+  pub splice-asked : (f .begin ≤ f .begin + f .size) × (f .begin + f .size ≤ length s)
+      × (room ≡ length s - (f .begin + f .size) + (f .begin + length body))
   splice-asked = (omega arith, omega (arith, ends), omega (arith, ends, room-is))
 
   module _ (o₁ : List ℕ) (e : o₁ ≡ splice (f .begin) (f .begin + f .size) body s) where
@@ -67,7 +70,8 @@ module _ (l : Layout) (s : List ℕ) (id : ℕ) (body : List ℕ) (room : ℕ) (
 
     module _ (h : length body ≡ f .size → ⊥) where
       pub other-size : (o₂ : List ℕ)
-          → o₂ ≡ relocated l s (record { from = f .begin + f .size; to = f .begin + length body; patch = Body id (length body) }) o₁ → o₂ ≡ bodied l s id body
+          → o₂ ≡ relocated l s (record { from = f .begin + f .size; to = f .begin + length body; cause = Body id (length body) }) o₁
+          → o₂ ≡ bodied l s id body
       other-size o₂ k =
           k ∙ ap (relocated l s (moveOf (record { large = f .large; ptr = f .ptr; begin = f .begin; size = f .size; info = f .info }))) e
           ∙ ap (λ (x : Func). relocated l s (moveOf x) (splice (x .begin) (x .begin + x .size) body s)) (t .is)
@@ -85,24 +89,29 @@ module _ (l : Layout) (s : List ℕ) (id : ℕ) (body : List ℕ) (room : ℕ) (
                 absurd (h (omega (arith, ltb-false 0 (length body) n, size-is)))
           ]
 
-      pub may-move : Movable l s (record { from = f .begin + f .size; to = f .begin + length body; patch = Body id (length body) }) room
+      pub may-move : Movable l s (record { from = f .begin + f .size; to = f .begin + length body; cause = Body id (length body) }) room
       may-move =
           subst (λ (x : Func). Movable l s (moveOf x) room) (sym (t .is))
-          (resize-movable l s (ok .image .fits) (ok .image .headers) room (ok .limit) id body (ok .known) (ok .image .bodies) (ok .image .clear) some
+          (resize-movable l s (fits l s (ok .admitted)) (readable l s (ok .admitted) .1) room (ok .limit) id body (ok .known)
+          (bodies-in l s .passed (ok .admitted .body)) (bodies-apart l s .passed (λ i b j k w. ok .admitted .clear i j b k w)) some
           (omega (arith, splice-asked .2, begin-is, size-is)))
 
 -- ---- and finalized
 
 module _ (l : Layout) (s : List ℕ) (id : ℕ) (body o : List ℕ) (ok : Accepted l s id body (length o)) where
-  pub finalized : (o₁ o₂ : List ℕ) (r : Answer) → o₁ ≡ bodied l s id body → Answers (finalizeOf o₁) r o₁ o₂ → Answers (made (patched l s id body)) r o o₂
-  unfolding patched
+  pub finalized : (o₁ o₂ : List ℕ) (r : Answer) → o₁ ≡ bodied l s id body → Answers (finalizeOf o₁) r o₁ o₂
+      → Answers (made (patchedBody l s id body)) r o o₂
+  unfolding patchedBody
   finalized o₁ o₂ r e a =
-      let n : length o₁ ≡ length o = ap length e ∙ length-bodied l s id body (omega (arith, body-ends l s (ok .image) id (ok .known))) ∙ sym (ok .exact) in
-      let p = length-patched l s id body (ok .image) (ok .known) in
-      let m : length (patched l s id body) ≡ length o = p .0 ∙ sym (ok .exact) in
-      let g : finalizeOf o₁ ≡ made (patched l s id body) = finalize-within o₁ (omega (arith, n, p .1, ok .exact)) (omega (arith, n, ok .limit)) ∙ rw e in
+      let n : length o₁ ≡ length o
+      = ap length e ∙ length-bodied l s id body (omega (arith, body-ends l s (ok .admitted) id (ok .known))) ∙ sym (ok .exact) in
+      let p = length-patched l s id body (ok .admitted) (ok .known) in
+      let m : length (patchedBody l s id body) ≡ length o = p .0 ∙ sym (ok .exact) in
+      let g : finalizeOf o₁ ≡ made (patchedBody l s id body)
+      = finalize-within o₁ (omega (arith, n, p .1, ok .exact)) (omega (arith, n, ok .limit)) ∙ rw e in
       let b = rw g at a in
-      let d : (x : List ℕ) → length x ≡ length o → drop (length (patched l s id body)) x ≡ [] = λ x i. drop-of-length-le x {i = length (patched l s id body)} (omega (arith, m, i)) in
+      let d : (x : List ℕ) → length x ≡ length o → drop (length (patchedBody l s id body)) x ≡ []
+      = λ x i. drop-of-length-le x {i = length (patchedBody l s id body)} (omega (arith, m, i)) in
       (b .0, b .1 ∙ rw (d o₁ n, d o refl))
 
 -- ---- the ways out
@@ -121,17 +130,18 @@ module _ (l : Layout) (s : List ℕ) (id : ℕ) (body out : List ℕ) (r : Answe
       go (made new) g = let z : _≡_ {A = ℕ} 0 1 = cc in absurd (omega arith)
 
   module _ (n : ℕ) (f : r ≡ answer.Length n) where
-    made-so : (patchBody l s id body ≡ made (patched l s id body)) × (n ≡ length (patched l s id body))
+    made-so : (patchBody l s id body ≡ made (patchedBody l s id body)) × (n ≡ length (patchedBody l s id body))
     made-so = makes l s id body n (sym f ∙ e)
 
     pub no-room : length out < n → Answers outcome (answer.Refused 13) out out
-    no-room h = rw (made-so .0, roomed-short (length out) (patched l s id body) (omega (arith, made-so .1))) (refl, refl)
+    no-room h = rw (made-so .0, roomed-short (length out) (patchedBody l s id body) (omega (arith, made-so .1))) (refl, refl)
 
     module _ (h : n ≤ length out) where
-      pub room-made : Accepted l s id body (length (take (n - 0) (drop 0 out)))
-      room-made = rw (sub-zero, length-take-le n out h) (accepted l s id body n (sym f ∙ e))
+      pub room-made : ((i : ℕ) → getD s i 0 < 256) → Accepted l s id body (length (take (n - 0) (drop 0 out)))
+      room-made bytes = rw (sub-zero, length-take-le n out h) (accepted l s id body n (sym f ∙ e) bytes)
 
-      pub written-out : (q : Answer) (part : List ℕ) → Answers (made (patched l s id body)) q (take (n - 0) (drop 0 out)) part → Answers outcome q out (putMid 0 (n - 0) out part)
+      pub written-out : (q : Answer) (part : List ℕ) → Answers (made (patchedBody l s id body)) q (take (n - 0) (drop 0 out)) part
+          → Answers outcome q out (putMid 0 (n - 0) out part)
       written-out q part a =
-          rw (sub-zero, made-so .0, roomed-fits (length out) (patched l s id body) (omega (arith, made-so .1)))
-          (lent-front (patched l s id body) out part n q (made-so .1) h (rw sub-zero at a))
+          rw (sub-zero, made-so .0, roomed-fits (length out) (patchedBody l s id body) (omega (arith, made-so .1)))
+          (lent-front (patchedBody l s id body) out part n q (made-so .1) h (rw sub-zero at a))

@@ -4,8 +4,8 @@ use admission::Admission;
 use bits::Answer;
 use format::Layout;
 use function_table::Function;
+use relocate::Cause;
 use relocate::Move;
-use relocate::Patch;
 use sections::Places;
 ghost use mathlib.Core.Path.{_≡_};
 ghost use Prim.Native.Nat.{_<_};
@@ -13,38 +13,39 @@ ghost use lib.ListN.{length};
 ghost use Rattle.bits.specs.Choice.{judge};
 ghost use Rattle.bits.specs.Outcome.{made, answered, roomed, Answers};
 ghost use Rattle.image.specs.Sections.{functionsIn};
-ghost use Rattle.sections.specs.Places.{Placed};
-ghost use Rattle.body_checks.specs.Checks.{movedBy, Target};
-ghost use Rattle.functions.specs.Patch.{bodied, patched, bodyChecks, patchBody, answerFor};
-ghost use Rattle.functions.specs.Stages.{Admits, Accepted};
+ghost use Rattle.sections.specs.Places.{Laid};
+ghost use Rattle.function_checks.specs.Checks.{movedPastBody, FunctionIs};
+ghost use Rattle.functions.specs.Patch.{bodied, patchedBody, bodyChecks, patchBody, answerFor};
+ghost use Rattle.functions.specs.Stages.{Accepted};
 
 // Numbers 9 to 12 for the body of function `id`, which is `f`, or the length of the result.
 fn judge_body(image: &[u8], p: Places, id: usize, f: Function, body: &[u8]) -> Answer
-    requires { ⌜ Admits (p .layout) (now image) × Placed p (now image) ⌝ }
-    requires { ⌜ (id < functionsIn (now image)) × Target (p .layout) (now image) id f ⌝ }
-    ensures { λ r. ⌜ r ≡ answerFor (judge (bodyChecks (p .layout) (now (image .entry)) id (now (body .entry)))) (movedBy (p .layout) (now (image .entry)) id (now (body .entry)) (length (now (image .entry)))) ⌝ }
+    requires { ⌜ Laid p (now image) ⌝ }
+    requires { ⌜ (id < functionsIn (now image)) × FunctionIs (p .layout) (now image) id f ⌝ }
+    ensures { λ r. ⌜ r ≡ answerFor (judge (bodyChecks (p .layout) (now (image .entry)) id (now (body .entry))))
+        (movedPastBody (p .layout) (now (image .entry)) id (now (body .entry)) (length (now (image .entry)))) ⌝ }
 {
     let layout = p.layout;
     let begin = f.begin;
     let old = f.size;
     let new = body.len();
-    if !body_checks::stands_alone(image, p, id, f) {
-        return Answer::Refused(9);
+    if !function_checks::stands_alone(image, p, id, f) {
+        return Answer::Refused(refusals::INSIDE);
     }
-    if !body_checks::is_debug_past(image, layout, begin + old) {
-        return Answer::Refused(9);
+    if !function_checks::is_debug_past(image, layout, begin + old) {
+        return Answer::Refused(refusals::INSIDE);
     }
-    if body_checks::is_from_nothing(old, new) {
-        return Answer::Refused(10);
+    if function_checks::is_from_nothing(old, new) {
+        return Answer::Refused(refusals::EMPTY);
     }
-    if body_checks::is_too_long(image.len(), old, new) {
-        return Answer::Refused(11);
+    if function_checks::is_too_long(image.len(), old, new) {
+        return Answer::Refused(refusals::LIMIT);
     }
-    if !body_checks::does_size_fit(layout, f, new) {
-        return Answer::Refused(12);
+    if !function_checks::does_size_fit(layout, f, new) {
+        return Answer::Refused(refusals::FIELD);
     }
-    if !moves::fields_fit(image, p, begin + old, begin + new) {
-        return Answer::Refused(12);
+    if !moved_fields::fields_fit(image, p, begin + old, begin + new) {
+        return Answer::Refused(refusals::FIELD);
     }
     Answer::Length(image.len() - old + new)
 }
@@ -58,7 +59,7 @@ fn measure(image: &[u8], layout: Layout, id: usize, body: &[u8]) -> Answer
         return Answer::Refused(admission::number_of(admitted));
     };
     if p.functions <= id {
-        return Answer::Refused(7);
+        return Answer::Refused(refusals::ID);
     }
     let f = function_table::function_at(image, layout, id);
     judge_body(image, p, id, f, body)
@@ -81,7 +82,7 @@ fn put_body(out: &mut [u8], image: &[u8], layout: Layout, id: usize, body: &[u8]
     let m = Move {
         from: end,
         to: begin + size,
-        patch: Patch::Body { id, size },
+        cause: Cause::Body { id, size },
     };
     relocate::relocate(out, image, layout, m);
 }
@@ -89,7 +90,8 @@ fn put_body(out: &mut [u8], image: &[u8], layout: Layout, id: usize, body: &[u8]
 // The patched image, in a buffer of its length.
 fn put_patched(out: &mut [u8], image: &[u8], layout: Layout, id: usize, body: &[u8]) -> Answer
     requires { ⌜ Accepted layout (now image) id (now body) (length (now out)) ⌝ }
-    ensures { λ r. ⌜ Answers (made (patched layout (now (image .entry)) id (now (body .entry)))) r (now (out .entry)) (now (out .exit)) ⌝ }
+    ensures { λ r. ⌜ Answers (made (patchedBody layout (now (image .entry)) id (now (body .entry)))) r (now (out .entry))
+        (now (out .exit)) ⌝ }
 {
     put_body(out, image, layout, id, body);
     footer::finalize_raw_image(out)
@@ -107,14 +109,15 @@ pub fn patch_function_bytes(
     body: &[u8],
     out: &mut [u8],
 ) -> Answer
-    ensures { λ r. ⌜ Answers (roomed (length (now (out .entry))) (patchBody layout (now (image .entry)) id (now (body .entry)))) r (now (out .entry)) (now (out .exit)) ⌝ }
+    ensures { λ r. ⌜ Answers (roomed (length (now (out .entry))) (patchBody layout (now (image .entry)) id (now (body .entry)))) r
+        (now (out .entry)) (now (out .exit)) ⌝ }
 {
     let measured = measure(image, layout, id, body);
     let Answer::Length(length) = measured else {
         return measured;
     };
     if out.len() < length {
-        return Answer::Refused(13);
+        return Answer::Refused(refusals::ROOM);
     }
     put_patched(&mut out[0..length], image, layout, id, body)
 }

@@ -8,7 +8,8 @@ use borrow.Author.Tests.{eqb-true, ltb-false}
 use lib.Dec.{ltb, eqb}
 use lib.ListN.{length, getD}
 use Rattle.bits.specs.Choice.{pick, judge}
-use Rattle.bits.specs.Outcome.{Outcome, refused, made, answered, roomed}
+use Rattle.bits.specs.Outcome.{Outcome, refused, made, written, answered, roomed}
+use Rattle.bits.proofs.OutcomeLaws.{one-outcome}
 use Rattle.bits.specs.declared.Answer.the-variants.{Length, Refused}
 use Rattle.bits.proofs.ByteLaws.{length-bytesAt}
 use Rattle.bits.proofs.JudgeLaws.{judge-pass}
@@ -25,23 +26,29 @@ use Rattle.image.specs.Admitted.{Admitted}
 use Rattle.image.proofs.AdmitLaws.{admitted}
 use Rattle.image.proofs.PlaceLaws.{string-in}
 use Rattle.admission.proofs.AnswerLaws.{judged-none}
-use Rattle.reader.specs.Reading.{idRefusal}
+use Rattle.reader.specs.Reading.{idRefusal, stringPlace}
 use Rattle.reader.proofs.ReadingLaws.{read-is}
 use Rattle.strings.specs.Patch.{byIdRefusal, patchById, byValueRefusal, patchByValue}
 use Rattle.functions.specs.Patch.{bodyRefusal, patchBody}
 use Rattle.patches.specs.Patches.{Patch, byId, byValue, toBody, outcomeOf}
 use Rattle.patches.specs.Lists.{InBytes}
 use Rattle.patches.proofs.StepLaws.{made-of, patch-promise}
-use Rattle.lister.specs.Listing.{listed, partRoom, listingPart}
-use Rattle.lister.proofs.PartLaws.{part-short, part-fits}
+use Rattle.listing_pieces.specs.Listing.{listed, partRoom, listingPart}
+use Rattle.listing_pieces.proofs.PartLaws.{part-short, part-fits}
 use Rattle.input_records.specs.Heads.{layoutOf}
-use Rattle.hbc.specs.Numbers.{coded, stated}
+use Rattle.hbc.specs.Numbers.{coded, Codes, stated}
 use Rattle.hbc.specs.Reads.{stringReading, bodyReading}
+use Rattle.hbc.specs.Facts.{factsOf, imageFacts, factsOfPlace, stringFacts}
 
 -- what is made is no longer than an image
 abbrev pub Short : Outcome → Type 0
 Short (refused n) = Unit {0}
 Short (made new) = length new ≤ sizeLimit
+
+-- two runs that both promise `Codes` end alike
+pub one-code : (o : Outcome) (r r′ : ℕ) (old new new′ : List ℕ) → Codes o r old new → Codes o r′ old new′ → (r ≡ r′)
+    × (new ≡ new′)
+one-code o r r′ old new new′ p q = one-outcome (coded o) r r′ (written o old) new new′ p q
 
 -- TWO OUTCOMES WITH ONE NUMBER HAVE ONE ANSWER
 pub told-apart : (o o′ : Outcome) → Short o → Short o′ → coded o ≡ coded o′ → answered o ≡ answered o′
@@ -87,7 +94,8 @@ short-finalize s = short-made (finalizeOf s) (λ t e. omega (arith, finalize-len
 
 pub short-built : (version : ℕ) (text ends body : List ℕ) → Short (built version text ends body)
 unfolding built checks
-short-built version text ends body = short-judged (judge (checks version text ends body)) (minimal version (storageOf text ends) ends body) (λ e.
+short-built version text ends body =
+    short-judged (judge (checks version text ends body)) (minimal version (storageOf text ends) ends body) (λ e.
     let (a, e₁) = judge-pass _ _ (omega arith) e in
     let (b, e₂) = judge-pass _ _ (omega arith) e₁ in
     let (c, e₃) = judge-pass _ _ (omega arith) e₂ in
@@ -105,7 +113,8 @@ module _ (l : Layout) (s : List ℕ) (bytes : (i : ℕ) → getD s i 0 < 256) wh
   passed (toBody id body) t e = judged-none l s _ (made-of _ _ _ e .0) .0
 
   pub short-patch : (p : Patch) → InBytes p → Short (outcomeOf l s p)
-  short-patch p b = short-made (outcomeOf l s p) (λ t e. patch-promise l s (admitted l s bytes (passed p t e)) p t b e .kept .admitted .most)
+  short-patch p b =
+      short-made (outcomeOf l s p) (λ t e. patch-promise l s (admitted l s bytes (passed p t e)) p t b e .kept .admitted .most)
 
   pub short-string : (id : ℕ) → Short (stringReading l s id)
   unfolding stringReading stringOf
@@ -123,4 +132,13 @@ module _ (l : Layout) (s : List ℕ) (bytes : (i : ℕ) → getD s i 0 < 256) wh
 
 pub short-list : (room from : ℕ) (l : Layout) (s : List ℕ) → Short (listingPart (partRoom room) from l s)
 unfolding listingPart
-short-list room from l s = short-judged (refusal l s) _ (λ e. omega (arith, part-short from (partRoom room) (listed l s), part-fits room .1))
+short-list room from l s =
+    short-judged (refusal l s) _ (λ e. omega (arith, part-short from (partRoom room) (listed l s), part-fits room .1))
+
+pub short-image-facts : (l : Layout) (s : List ℕ) → Short (imageFacts l s)
+unfolding imageFacts factsOf
+short-image-facts l s = short-judged (refusal l s) (factsOf l s) (λ e. omega arith)
+
+pub short-string-facts : (l : Layout) (s : List ℕ) (id : ℕ) → Short (stringFacts l s id)
+unfolding stringFacts
+short-string-facts l s id = short-judged (idRefusal l s (stringsIn s) id) (factsOfPlace (stringPlace l s id)) (λ e. omega arith)

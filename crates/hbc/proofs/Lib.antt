@@ -1,3 +1,4 @@
 pub mod NumberLaws
 pub mod ReadLaws
 pub mod CodeLaws
+pub mod FactLaws

@@ -30,7 +30,8 @@ number-of-answer l s = go (refusal l s) (eqb (refusal l s) 0) refl
     go n true e = rw e (sym (eqb-true n 0 e))
     go n false e = rw e refl
 
-pub layout-stated : (byte : ℕ) (s : List ℕ) → byte ≤ 4 → (l : Layout) → l ≡ layoutOf byte → (a : Admission) → a ≡ admission l s
+pub layout-stated : (byte : ℕ) (s : List ℕ) → byte ≤ 4 → (l : Layout) → l ≡ layoutOf byte → (a : Admission)
+    → a ≡ admission l s
     → (r : ℕ) → r ≡ numberOf a → r ≡ admitNumber byte s
 unfolding admitNumber
 layout-stated byte s h l e a f r g =
@@ -48,7 +49,8 @@ pub finalize-codes : (s : List ℕ) (a : Answer) (r : ℕ) (old new : List ℕ) 
     → Codes (finalizeOf s) r old new
 finalize-codes s = codes (finalizeOf s)
 
-pub roomed-codes : (room : ℕ) (o : Outcome) (a : Answer) (r : ℕ) (old new : List ℕ) → Answers (roomed room o) a old new → r ≡ numbered a
+pub roomed-codes : (room : ℕ) (o : Outcome) (a : Answer) (r : ℕ) (old new : List ℕ) → Answers (roomed room o) a old new
+    → r ≡ numbered a
     → Codes (roomed room o) r old new
 roomed-codes room o = codes (roomed room o)
 
@@ -58,7 +60,8 @@ unfolding stated
 no-layout-codes byte o old h = rw (lt-ltb 4 byte h) (refl, refl)
 
 -- any other
-pub layout-codes : (byte : ℕ) (o : Layout → Outcome) (l : Layout) (a : Answer) (r : ℕ) (old new : List ℕ) → byte ≤ 4 → l ≡ layoutOf byte
+pub layout-codes : (byte : ℕ) (o : Layout → Outcome) (l : Layout) (a : Answer) (r : ℕ) (old new : List ℕ) → byte ≤ 4
+    → l ≡ layoutOf byte
     → Answers (o l) a old new → r ≡ numbered a → Codes (stated byte o) r old new
 unfolding stated
 layout-codes byte o l a r old new h e g f =

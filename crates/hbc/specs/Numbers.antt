@@ -1,19 +1,21 @@
 -- Answers as one number, for callers in C and in Rust. 01: "A refusal answers its number".
+-- docs/FORMAT.md: Exports.
 use mathlib.Core.List.{List}
 use mathlib.Core.Path.{_≡_}
 use Prim.Native.Nat.{ℕ, _+_}
 use lib.Dec.{ltb}
+use Rattle.refusals.specs.Numbers as refusals
 use Rattle.bits.specs.Choice.{pick}
 use Rattle.bits.specs.Outcome.{Outcome, refused, answered, written}
 use Rattle.bits.specs.declared.Answer.{Answer}
 use Rattle.bits.specs.declared.Answer.the-variants.{Length, Refused}
 use Rattle.format.specs.declared.Layout.{Layout}
 use Rattle.image.specs.Admission.{refusal}
-use Rattle.input_records.specs.Heads.{malformed, layoutOf}
+use Rattle.input_records.specs.Heads.{layoutOf}
 
 -- admission under a layout byte: 0 where the bytes are admitted. 01, refusal 15: "layout byte over 4"
 unfoldable pub admitNumber : ℕ → List ℕ → ℕ
-admitNumber byte s = pick (ltb 4 byte) malformed (refusal (layoutOf byte) s)
+admitNumber byte s = pick (ltb 4 byte) refusals.job (refusal (layoutOf byte) s)
 
 -- an answer that is a length or a refusal, as one number of 64 bits: the length, or 2^32 and the refusal's number. No image is so long
 abbrev pub numbered : Answer → ℕ
@@ -30,4 +32,4 @@ Codes o r old new = (r ≡ coded o) × (new ≡ written o old)
 
 -- the outcome under the layout that a byte states. 01, refusal 15: "layout byte over 4"
 unfoldable pub stated : ℕ → (Layout → Outcome) → Outcome
-stated byte o = pick (ltb 4 byte) (refused malformed) (o (layoutOf byte))
+stated byte o = pick (ltb 4 byte) (refused refusals.job) (o (layoutOf byte))

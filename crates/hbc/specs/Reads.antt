@@ -1,4 +1,5 @@
 -- Readings as outcomes: the bytes of a string or of a body at the front of a lent buffer, or a refusal.
+-- docs/FORMAT.md: Exports.
 use mathlib.Core.List.{List}
 use Prim.Native.Nat.{ℕ}
 use Rattle.bits.specs.Outcome.{Outcome, outcomeFor}

@@ -15,7 +15,7 @@ use Rattle.bits.proofs.TestLaws.{both-0, both-1}
 use Rattle.format.specs.declared.Field.{Field}
 use Rattle.format.specs.declared.Layout.{Layout}
 use Rattle.format.specs.declared.Layout.the-variants.{Modern, Legacy}
-use Rattle.format.specs.Table.{rowOf, placeIn, ifSet, legacyOptions}
+use Rattle.format.specs.Table.{rowOf, headerLength, placeIn, ifSet, legacyOptions}
 use Rattle.header_write.specs.declared.Wrote.the-variants.{Done, Refused}
 use Rattle.header_write.specs.Slots.{Writes}
 use Rattle.header_write.specs.Headers.{Put, put, putAll, run, isHeaderWord, headerWords, onHeader, identity, modernHeader}
@@ -27,7 +27,8 @@ use Rattle.header_write.proofs.SlotLaws.{whole}
 words-at : (k n i : ℕ) → headerWords k n ≡ true → i < n → isHeaderWord (rowOf (k + i)) ≡ true
 words-at k zero i t h = absurd (not-suc-le-zero h)
 words-at k (suc n) zero t h = rw add-zero (both-0 (isHeaderWord (rowOf k)) (headerWords (suc k) n) t)
-words-at k (suc n) (suc i) t h = rw (add-suc, ← suc-add) (words-at (suc k) n i (both-1 (isHeaderWord (rowOf k)) (headerWords (suc k) n) t) (omega arith))
+words-at k (suc n) (suc i) t h =
+    rw (add-suc, ← suc-add) (words-at (suc k) n i (both-1 (isHeaderWord (rowOf k)) (headerWords (suc k) n) t) (omega arith))
 
 -- so is the row that the code looked up
 pub row-at : (f : Field) (k n i : ℕ) → f ≡ rowOf (k + i) → headerWords k n ≡ true → i < n → isHeaderWord f ≡ true
@@ -36,8 +37,9 @@ row-at f k n i e t h = subst (λ (y : Field). isHeaderWord y ≡ true) (sym e) (
 pub word-width : (f : Field) → isHeaderWord f ≡ true → f .width ≡ 4
 word-width f t = eqb-true (f .width) 4 (both-0 (eqb (f .width) 4) _ t)
 
-pub word-fits : (f : Field) → isHeaderWord f ≡ true → f .at + f .big + f .sources + 4 ≤ 128
-word-fits f t = leb-true _ _ (both-1 (eqb (f .width) 4) _ t)
+pub word-fits : (f : Field) → isHeaderWord f ≡ true → f .at + f .big + f .sources + 4 ≤ headerLength
+word-fits f t =
+    omega (arith, word-width f t, leb-true (f .at + f .big + f .sources + f .width) headerLength (both-1 (eqb (f .width) 4) _ t))
 
 pub ifSet-le : (b : Bool) (n : ℕ) → ifSet b n ≤ n
 ifSet-le true n = omega arith
@@ -55,21 +57,25 @@ putAll-append l [] qs s = refl
 putAll-append l (p ∷ ps) qs s = putAll-append l ps qs _
 
 -- two runs of fields are one, and so are four
-pub parts : (l : Layout) (a b : List Put) (s s₁ s₂ : List ℕ) → s₁ ≡ putAll l a s → s₂ ≡ putAll l b s₁ → s₂ ≡ putAll l (a ++ b) s
+pub parts : (l : Layout) (a b : List Put) (s s₁ s₂ : List ℕ) → s₁ ≡ putAll l a s → s₂ ≡ putAll l b s₁
+    → s₂ ≡ putAll l (a ++ b) s
 parts l a b s s₁ s₂ p₁ p₂ = rw (putAll-append l a, ← p₁) p₂
 
-pub four-parts : (l : Layout) (a b c d : List Put) (s s₁ s₂ s₃ s₄ : List ℕ) → s₁ ≡ putAll l a s → s₂ ≡ putAll l b s₁ → s₃ ≡ putAll l c s₂ → s₄ ≡ putAll l d s₃
+pub four-parts : (l : Layout) (a b c d : List Put) (s s₁ s₂ s₃ s₄ : List ℕ)
+    → s₁ ≡ putAll l a s → s₂ ≡ putAll l b s₁ → s₃ ≡ putAll l c s₂ → s₄ ≡ putAll l d s₃
     → s₄ ≡ putAll l (a ++ (b ++ (c ++ d))) s
 four-parts l a b c d s s₁ s₂ s₃ s₄ p₁ p₂ p₃ p₄ =
     parts l a (b ++ (c ++ d)) s s₁ s₄ p₁ (parts l b (c ++ d) s₁ s₂ s₄ p₂ (parts l c d s₂ s₃ s₄ p₃ p₄))
 
 -- a header keeps the length of its buffer
-length-putAll : (l : Layout) (ps : List Put) (s : List ℕ) → length (putAll l ps s) ≡ length s
+pub length-putAll : (l : Layout) (ps : List Put) (s : List ℕ) → length (putAll l ps s) ≡ length s
 unfolding putAll
 length-putAll l [] s = refl
-length-putAll l (p ∷ ps) s = length-putAll l ps (sets s (placeIn l (p .field)) (bytesOf (p .field .width) (p .value))) ∙ simp length-sets
+length-putAll l (p ∷ ps) s =
+    length-putAll l ps (sets s (placeIn l (p .field)) (bytesOf (p .field .width) (p .value))) ∙ simp length-sets
 
-pub length-modernHeader : (v : ℕ) (hash : List ℕ) (f k i n z : ℕ) (s : List ℕ) → length (modernHeader v hash f k i n z s) ≡ length s
+pub length-modernHeader : (v : ℕ) (hash : List ℕ) (f k i n z : ℕ) (s : List ℕ)
+    → length (modernHeader v hash f k i n z s) ≡ length s
 unfolding modernHeader identity
 length-modernHeader v hash f k i n z s = simp (length-putAll, length-sets)
 
@@ -79,7 +85,8 @@ options-fit l f e =
     let h : f .at + f .big + f .sources ≡ 108 = ap (λ (g : Field). g .at + g .big + g .sources) e in
     (omega arith, omega (arith, place-le l f))
 
-pub options-put : (l : Layout) (f : Field) (s : List ℕ) (at x : ℕ) → at ≡ placeIn l f → f ≡ legacyOptions → x < 256 → set s at x ≡ putAll l (put legacyOptions x ∷ []) s
+pub options-put : (l : Layout) (f : Field) (s : List ℕ) (at x : ℕ) → at ≡ placeIn l f → f ≡ legacyOptions → x < 256
+    → set s at x ≡ putAll l (put legacyOptions x ∷ []) s
 unfolding putAll bytesOf
 options-put l f s at x e r h =
     rw (mod-eq-of-lt h, e) (ap (λ (g : Field). set s (placeIn l g) x) r)
@@ -93,7 +100,8 @@ module _ (l : Layout) (k i : ℕ) (vs buf : List ℕ) (x : List ℕ) (inv : putA
   run-next f buf′ r w h e =
       let a : k + (i + 1) ≡ suc (k + i) = omega arith in
       let g : sets buf (placeIn l (rowOf (k + i))) (bytesOf (rowOf (k + i) .width) (getD vs i 0)) ≡ buf′
-      = subst (λ (y : Field). sets buf (placeIn l y) (bytesOf (y .width) (getD vs i 0)) ≡ buf′) r (ap (λ (n : ℕ). sets buf (placeIn l f) (bytesOf n (getD vs i 0))) w ∙ sym e) in
+      = subst (λ (y : Field). sets buf (placeIn l y) (bytesOf (y .width) (getD vs i 0)) ≡ buf′) r
+      (ap (λ (n : ℕ). sets buf (placeIn l f) (bytesOf n (getD vs i 0))) w ∙ sym e) in
       rw (a, add-one)
       (ap (λ (b : List ℕ). putAll l (run (suc (k + i)) (drop (suc i) vs)) b) (sym g)
       ∙ ap (λ (d : List ℕ). putAll l (run (k + i) d) buf) (sym (drop-cons vs i 0 h))
@@ -109,6 +117,7 @@ pub header-short : (edit : List ℕ → List ℕ) (s : List ℕ) → length s < 
 unfolding onHeader
 header-short edit s h = rw (lt-leb 128 (length s) h) (refl, refl)
 
-pub header-done : (edit : List ℕ → List ℕ) (s s′ : List ℕ) → 128 ≤ length s → length s′ ≡ length s → s′ ≡ edit s → Writes (onHeader edit s) Done s s′
+pub header-done : (edit : List ℕ → List ℕ) (s s′ : List ℕ) → 128 ≤ length s → length s′ ≡ length s → s′ ≡ edit s
+    → Writes (onHeader edit s) Done s s′
 unfolding onHeader
 header-done edit s s′ h l e = rw (le-leb 128 (length s) h, ← e) (refl, whole s s′ l)

@@ -1,2 +1,3 @@
 pub mod SlotLaws
 pub mod HeaderLaws
+pub mod ReadLaws

@@ -7,10 +7,18 @@ use native.Mathlib.Omega.{arith}
 use borrow.Author.Tests.{lt-leb, le-leb}
 use lib.ListN.{length, drop}
 use lib.Seq.{sets, sets-eq, length-sets, drop-length}
+use Rattle.bits.specs.Outcome.{Outcome, written}
 use Rattle.bits.specs.Bytes.{numberAt, wordAt, bytesOf}
 use Rattle.bits.proofs.ByteLaws.{length-bytesOf}
+use Rattle.bits.proofs.OutcomeLaws.{one-outcome}
+use Rattle.header_write.specs.declared.Wrote.{Wrote}
 use Rattle.header_write.specs.declared.Wrote.the-variants.{Done, Refused}
-use Rattle.header_write.specs.Slots.{Writes, onSlot, ofSlot, shiftWord}
+use Rattle.header_write.specs.Slots.{wrote, Writes, onSlot, ofSlot, shiftWord}
+
+-- two runs that both promise `Writes` end alike
+pub one-writing : (o : Outcome) (r r′ : Wrote) (old new new′ : List ℕ) → Writes o r old new → Writes o r′ old new′
+    → (r ≡ r′) × (new ≡ new′)
+one-writing o r r′ old new new′ p q = one-outcome (wrote o) r r′ (written o old) new new′ p q
 
 -- a write at the front is the new bytes and then the rest
 pub front : (bs s : List ℕ) → length bs ≤ length s → sets s 0 bs ≡ bs ++ drop (length bs) s
@@ -21,7 +29,8 @@ unfolding onSlot
 slot-short size edit s h = rw (lt-leb size (length s) h) (refl, refl)
 
 pub slot-done : (size n : ℕ) (edit : ℕ → ℕ) (s s′ : List ℕ)
-    → size ≤ length s → s′ ≡ sets s 0 (bytesOf size n) → n ≡ edit (numberAt s 0 size) → Writes (onSlot size edit s) Done s s′
+    → size ≤ length s → s′ ≡ sets s 0 (bytesOf size n) → n ≡ edit (numberAt s 0 size)
+    → Writes (onSlot size edit s) Done s s′
 unfolding onSlot
 slot-done size n edit s s′ h e k =
     let f : length (bytesOf size n) ≤ length s = rw (length-bytesOf size n) h in
@@ -46,14 +55,16 @@ word-short at d s h = rw (lt-leb (at + 4) (length s) h) (refl, refl)
 pub whole : (s s′ : List ℕ) → length s′ ≡ length s → s′ ≡ s′ ++ drop (length s′) s
 whole s s′ e = rw (e, drop-length s) (sym (append-nil s′))
 
-pub word-done : (at d x : ℕ) (s s′ : List ℕ) → at + 4 ≤ length s → s′ ≡ sets s at (bytesOf 4 x) → x ≡ wordAt s at + d → Writes (shiftWord at d s) Done s s′
+pub word-done : (at d x : ℕ) (s s′ : List ℕ) → at + 4 ≤ length s → s′ ≡ sets s at (bytesOf 4 x) → x ≡ wordAt s at + d
+    → Writes (shiftWord at d s) Done s s′
 unfolding shiftWord
 word-done at d x s s′ h e k =
     let l : length s′ ≡ length s = ap length e ∙ length-sets s at (bytesOf 4 x) in
     rw (le-leb (at + 4) (length s) h, ← k, ← e) (refl, whole s s′ l)
 
 -- a buffer that is written whole
-pub fresh : (s : List ℕ) (size n m : ℕ) (x : List ℕ) → length s ≡ size → x ≡ sets s 0 (bytesOf size n) → n ≡ m → x ≡ bytesOf size m
+pub fresh : (s : List ℕ) (size n m : ℕ) (x : List ℕ) → length s ≡ size → x ≡ sets s 0 (bytesOf size n) → n ≡ m
+    → x ≡ bytesOf size m
 fresh s size n m x l e k =
     let f : length (bytesOf size n) ≡ length s = length-bytesOf size n ∙ sym l in
     e ∙ front (bytesOf size n) s (omega arith) ∙ rw (f, drop-length s, append-nil, k)

@@ -1,10 +1,12 @@
 -- The file headers, field by field at their places of the table. The Rust's write_modern_header and write_legacy_header.
+-- docs/FORMAT.md: Header writers.
 use mathlib.Core.Bool.{Bool, true, false}
 use mathlib.Core.List.{List, [], _∷_, _++_}
 use Prim.Native.Nat.{ℕ, zero, suc, _+_}
 use lib.Dec.{leb, eqb}
 use lib.ListN.{length}
 use lib.Seq.{sets}
+use Rattle.refusals.specs.Numbers as refusals
 use Rattle.bits.specs.Choice.{pick, both}
 use Rattle.bits.specs.Bytes.{bytesOf}
 use Rattle.bits.specs.Outcome.{Outcome, refused, made}
@@ -34,17 +36,17 @@ optional false ps = []
 
 -- the magic number, the version and the source hash
 unfoldable pub identity : ℕ → List ℕ → List ℕ → List ℕ
-identity version hash s = sets (putAll Modern (put table.magic table.magicNumber ∷ put table.version version ∷ []) s) (table.sourceHash .at) hash
+identity version hash s =
+    sets (putAll Modern (put table.magic table.magicNumber ∷ put table.version version ∷ []) s) (table.sourceHash .at) hash
 
 -- a header buffer of fewer than 128 bytes is refused with 1
 unfoldable pub onHeader : (List ℕ → List ℕ) → List ℕ → Outcome
-onHeader edit s = pick (leb (table.modernRecord .at) (length s)) (made (edit s)) (refused 1)
+onHeader edit s = pick (leb table.headerLength (length s)) (made (edit s)) (refused refusals.size)
 
--- a modern header: bytes 32..40 and those from 116 on stay
-unfoldable pub modernHeader : ℕ → List ℕ → ℕ → ℕ → ℕ → ℕ → ℕ → List ℕ → List ℕ
-modernHeader version hash functions kinds identifiers strings storage s =
-    putAll Modern
-    (put table.functionCount functions
+-- the fields of a modern header after the source hash, in order: bytes 32..40 and those from 116 on are in none
+abbrev pub modernRows : ℕ → ℕ → ℕ → ℕ → ℕ → List Put
+modernRows functions kinds identifiers strings storage =
+    put table.functionCount functions
     ∷ put table.kindCount kinds
     ∷ put table.identifierCount identifiers
     ∷ put table.stringCount strings
@@ -63,8 +65,12 @@ modernHeader version hash functions kinds identifiers strings storage s =
     ∷ put table.modernFunctionSources 0
     ∷ put table.modernDebug 0
     ∷ put table.modernOptions 0
-    ∷ [])
-    (identity version hash s)
+    ∷ []
+
+-- a modern header
+unfoldable pub modernHeader : ℕ → List ℕ → ℕ → ℕ → ℕ → ℕ → ℕ → List ℕ → List ℕ
+modernHeader version hash functions kinds identifiers strings storage s =
+    putAll Modern (modernRows functions kinds identifiers strings storage) (identity version hash s)
 
 -- the layout of a legacy header
 abbrev pub layoutOf : LegacyHeader → Layout
@@ -86,7 +92,8 @@ legacyFront h =
     ∷ put table.overflowCount (h .«overflow_string_count»)
     ∷ put table.storageSize (h .«string_storage_size»)
     ∷ [])
-    ++ optional (h .«has_bigint») (put table.legacyBigIntCount (h .«big_int_count») ∷ put table.legacyBigIntStorage (h .«big_int_storage_size») ∷ [])
+    ++ optional (h .«has_bigint»)
+    (put table.legacyBigIntCount (h .«big_int_count») ∷ put table.legacyBigIntStorage (h .«big_int_storage_size») ∷ [])
 
 -- the fields behind them, in order: all bytes after the options byte stay
 unfoldable pub legacyBack : LegacyHeader → List Put
@@ -115,7 +122,7 @@ run k (v ∷ vs) = put (table.rowOf k) v ∷ run (suc k) vs
 
 -- a row that is a word of a header, wherever the layout pushes it
 abbrev pub isHeaderWord : Field → Bool
-isHeaderWord f = both (eqb (f .width) 4) (leb (f .at + f .big + f .sources + 4) (table.modernRecord .at))
+isHeaderWord f = both (eqb (f .width) 4) (leb (f .at + f .big + f .sources + f .width) table.headerLength)
 
 -- n rows from k on are words of a header
 abbrev pub headerWords : ℕ → ℕ → Bool

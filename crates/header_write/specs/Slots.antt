@@ -1,4 +1,5 @@
 -- What each leaf answers and leaves in its buffer. 01, Refusal numbers: "a record slot, word or header buffer too short" is 1.
+-- docs/FORMAT.md: Record leaves.
 use mathlib.Core.Bool.{false}
 use mathlib.Core.List.{List}
 use mathlib.Core.Path.{_≡_}
@@ -6,6 +7,7 @@ use Prim.Native.Nat.{ℕ, _+_}
 use lib.Dec.{leb}
 use lib.ListN.{length}
 use lib.Seq.{sets}
+use Rattle.refusals.specs.Numbers as refusals
 use Rattle.bits.specs.Choice.{pick}
 use Rattle.bits.specs.Bytes.{numberAt, wordAt, bytesOf}
 use Rattle.bits.specs.Outcome.{Outcome, refused, made, written}
@@ -34,11 +36,11 @@ Writes o r old new = (r ≡ wrote o) × (new ≡ written o old)
 
 -- the record in a slot of `size` bytes edited, as one number; what follows it stays
 unfoldable pub onSlot : ℕ → (ℕ → ℕ) → List ℕ → Outcome
-onSlot size edit slot = pick (leb size (length slot)) (made (bytesOf size (edit (numberAt slot 0 size)))) (refused 1)
+onSlot size edit slot = pick (leb size (length slot)) (made (bytesOf size (edit (numberAt slot 0 size)))) (refused refusals.size)
 
 -- delta added to the word at a position, modulo 2^32
 unfoldable pub shiftWord : ℕ → ℕ → List ℕ → Outcome
-shiftWord at d s = pick (leb (at + 4) (length s)) (made (sets s at (bytesOf 4 (wordAt s at + d)))) (refused 1)
+shiftWord at d s = pick (leb (at + 4) (length s)) (made (sets s at (bytesOf 4 (wordAt s at + d)))) (refused refusals.size)
 
 -- ---- a leaf that reads the record in a slot of `size` bytes
 
@@ -46,13 +48,14 @@ unfoldable pub ofSlot : {A : Type 0} → ℕ → (ℕ → A) → A → List ℕ 
 ofSlot size read short slot = pick (leb size (length slot)) (read (numberAt slot 0 size)) short
 
 abbrev pub readLegacy : List ℕ → LegacyRead
-readLegacy slot = ofSlot (legacyRecord .width) (λ n. legacy-is.Record (legacyFields n)) (legacy-is.Refused 1) slot
+readLegacy slot = ofSlot (legacyRecord .width) (λ n. legacy-is.Record (legacyFields n)) (legacy-is.Refused refusals.size) slot
 
 abbrev pub readModern : List ℕ → ModernRead
-readModern slot = ofSlot (modernRecord .width) (λ n. modern-is.Record (modernFields n)) (modern-is.Refused 1) slot
+readModern slot = ofSlot (modernRecord .width) (λ n. modern-is.Record (modernFields n)) (modern-is.Refused refusals.size) slot
 
 abbrev pub readLegacyPointer : List ℕ → Pointer
-readLegacyPointer slot = ofSlot (legacyRecord .width) (λ n. pointer-is.At (pointerRead (Legacy false false) n)) (pointer-is.Refused 1) slot
+readLegacyPointer slot =
+    ofSlot (legacyRecord .width) (λ n. pointer-is.At (pointerRead (Legacy false false) n)) (pointer-is.Refused refusals.size) slot
 
 abbrev pub readModernPointer : List ℕ → Pointer
-readModernPointer slot = ofSlot (modernRecord .width) (λ n. pointer-is.At (pointerRead Modern n)) (pointer-is.Refused 1) slot
+readModernPointer slot = ofSlot (modernRecord .width) (λ n. pointer-is.At (pointerRead Modern n)) (pointer-is.Refused refusals.size) slot

@@ -1,4 +1,4 @@
-// The 128-byte file headers, field by field at the places of the table.
+// The file headers, field by field at the places of the table.
 use crate::Wrote;
 use format::Layout;
 ghost use mathlib.Core.Path.{_≡_};
@@ -6,15 +6,16 @@ ghost use mathlib.Core.Bool.{true};
 ghost use mathlib.Core.List.{[], _∷_};
 ghost use Prim.Native.Nat.{_+_, _≤_};
 ghost use lib.ListN.{length};
-ghost use Rattle.format.specs.Table.{rowCount, legacyOptions};
+ghost use Rattle.format.specs.Table.{rowCount, headerLength, sourceHash, legacyOptions};
 ghost use Rattle.header_write.specs.Slots.{Writes};
-ghost use Rattle.header_write.specs.Headers.{putAll, put, optional, run, headerWords, identity, onHeader, modernHeader, segmentOf, legacyFront, legacyBack, legacyHeader};
+ghost use Rattle.header_write.specs.Headers.{putAll, put, optional, run, headerWords, identity, onHeader, modernHeader};
+ghost use Rattle.header_write.specs.Headers.{segmentOf, legacyFront, legacyBack, legacyHeader};
 
 // The fields of a legacy header. Big integers and function sources are there only where the version
 // has them; where it has no segment id, 0 stands in its place.
 pub struct LegacyHeader {
     pub version: u32,
-    pub source_hash: [u8; 20],
+    pub source_hash: [u8; format::SOURCE_HASH_LEN],
     pub file_length: u32,
     pub global_code_index: u32,
     pub function_count: u32,
@@ -42,7 +43,7 @@ pub struct LegacyHeader {
 
 // A run of header words, `values[i]` in the field of row `first + i`.
 fn put_rows(buf: &mut [u8], layout: Layout, first: usize, values: &[u32])
-    requires { ⌜ 128 ≤ length (now buf) ⌝ }
+    requires { ⌜ headerLength ≤ length (now buf) ⌝ }
     requires { ⌜ first + length (now values) ≤ rowCount ⌝ }
     requires { ⌜ headerWords first (length (now values)) ≡ true ⌝ }
     ensures { λ _. ⌜ now (buf .exit) ≡ putAll layout (run first (now (values .entry))) (now (buf .entry)) ⌝ }
@@ -57,7 +58,7 @@ fn put_rows(buf: &mut [u8], layout: Layout, first: usize, values: &[u32])
 
 // The same where the fact holds, else nothing.
 fn put_rows_if(fact: bool, buf: &mut [u8], layout: Layout, first: usize, values: &[u32])
-    requires { ⌜ 128 ≤ length (now buf) ⌝ }
+    requires { ⌜ headerLength ≤ length (now buf) ⌝ }
     requires { ⌜ first + length (now values) ≤ rowCount ⌝ }
     requires { ⌜ headerWords first (length (now values)) ≡ true ⌝ }
     ensures { λ _. ⌜ now (buf .exit) ≡ putAll layout (optional fact (run first (now (values .entry)))) (now (buf .entry)) ⌝ }
@@ -68,13 +69,13 @@ fn put_rows_if(fact: bool, buf: &mut [u8], layout: Layout, first: usize, values:
 }
 
 // The magic number, the version and the source hash.
-fn put_identity(buf: &mut [u8], version: u32, source_hash: [u8; 20])
-    requires { ⌜ 128 ≤ length (now buf) ⌝ }
-    requires { ⌜ length «source_hash» ≡ 20 ⌝ }
+fn put_identity(buf: &mut [u8], version: u32, source_hash: [u8; format::SOURCE_HASH_LEN])
+    requires { ⌜ headerLength ≤ length (now buf) ⌝ }
+    requires { ⌜ length «source_hash» ≡ sourceHash .width ⌝ }
     ensures { λ _. ⌜ now (buf .exit) ≡ identity version «source_hash» (now (buf .entry)) ⌝ }
 {
     bits::put_word64(buf, format::at(format::MAGIC), format::MAGIC_NUMBER);
-    bits::put_word(buf, format::at(format::VERSION), version as u64);
+    format::put_word(buf, 0, format::VERSION, version as u64);
     bits::put_bytes(buf, format::at(format::SOURCE_HASH), &source_hash);
 }
 
@@ -83,17 +84,19 @@ fn put_identity(buf: &mut [u8], version: u32, source_hash: [u8; 20])
 pub fn write_modern_header(
     buf: &mut [u8],
     version: u32,
-    source_hash: [u8; 20],
+    source_hash: [u8; format::SOURCE_HASH_LEN],
     function_count: u32,
     string_kind_count: u32,
     identifier_count: u32,
     string_count: u32,
     string_storage_size: u32,
 ) -> Wrote
-    ensures { λ r. ⌜ Writes (onHeader (modernHeader version «source_hash» «function_count» «string_kind_count» «identifier_count» «string_count» «string_storage_size») (now (buf .entry))) r (now (buf .entry)) (now (buf .exit)) ⌝ }
+    ensures { λ r. ⌜ Writes (onHeader
+        (modernHeader version «source_hash» «function_count» «string_kind_count» «identifier_count» «string_count»
+        «string_storage_size») (now (buf .entry))) r (now (buf .entry)) (now (buf .exit)) ⌝ }
 {
     if buf.len() < format::at(format::MODERN_RECORD) {
-        return Wrote::Refused(1);
+        return Wrote::Refused(refusals::SIZE);
     }
     put_identity(buf, version, source_hash);
     let counts = [
@@ -113,7 +116,7 @@ pub fn write_modern_header(
 
 // The options byte, the last field of a legacy header.
 fn put_options(buf: &mut [u8], layout: Layout, options: u8)
-    requires { ⌜ 128 ≤ length (now buf) ⌝ }
+    requires { ⌜ headerLength ≤ length (now buf) ⌝ }
     ensures { λ _. ⌜ now (buf .exit) ≡ putAll layout (put legacyOptions options ∷ []) (now (buf .entry)) ⌝ }
 {
     let at = format::place(format::get(format::LEGACY_OPTIONS), layout);
@@ -129,7 +132,7 @@ fn segment(h: LegacyHeader) -> u32
 
 // The counts of a legacy header, and those of big integers where its version has them.
 fn put_legacy_front(buf: &mut [u8], layout: Layout, h: LegacyHeader)
-    requires { ⌜ 128 ≤ length (now buf) ⌝ }
+    requires { ⌜ headerLength ≤ length (now buf) ⌝ }
     ensures { λ _. ⌜ now (buf .exit) ≡ putAll layout (legacyFront h) (now (buf .entry)) ⌝ }
 {
     let counts = [
@@ -155,7 +158,7 @@ fn put_legacy_front(buf: &mut [u8], layout: Layout, h: LegacyHeader)
 
 // The fields behind those, down to the options byte.
 fn put_legacy_back(buf: &mut [u8], layout: Layout, h: LegacyHeader)
-    requires { ⌜ 128 ≤ length (now buf) ⌝ }
+    requires { ⌜ headerLength ≤ length (now buf) ⌝ }
     ensures { λ _. ⌜ now (buf .exit) ≡ putAll layout (legacyBack h) (now (buf .entry)) ⌝ }
 {
     let sections = [
@@ -185,7 +188,7 @@ pub fn write_legacy_header(buf: &mut [u8], header: LegacyHeader) -> Wrote
     ensures { λ r. ⌜ Writes (onHeader (legacyHeader header) (now (buf .entry))) r (now (buf .entry)) (now (buf .exit)) ⌝ }
 {
     if buf.len() < format::at(format::LEGACY_RECORD) {
-        return Wrote::Refused(1);
+        return Wrote::Refused(refusals::SIZE);
     }
     let source_hash = header.source_hash;
     put_identity(buf, header.version, source_hash);

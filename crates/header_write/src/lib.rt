@@ -44,7 +44,7 @@ pub fn read_legacy_function_header(slot: &[u8]) -> LegacyRead
     ensures { λ r. ⌜ r ≡ readLegacy (now (slot .entry)) ⌝ }
 {
     if slot.len() < format::width(format::LEGACY_RECORD) {
-        return LegacyRead::Refused(1);
+        return LegacyRead::Refused(refusals::SIZE);
     }
     LegacyRead::Record(records::legacy_fields(bits::load16(slot)))
 }
@@ -54,7 +54,7 @@ pub fn read_modern_function_header(slot: &[u8]) -> ModernRead
     ensures { λ r. ⌜ r ≡ readModern (now (slot .entry)) ⌝ }
 {
     if slot.len() < format::width(format::MODERN_RECORD) {
-        return ModernRead::Refused(1);
+        return ModernRead::Refused(refusals::SIZE);
     }
     ModernRead::Record(records::modern_fields(bits::load12(slot)))
 }
@@ -70,10 +70,11 @@ pub fn write_function_header_legacy_small(header: LegacyFunctionHeader) -> [u8; 
 
 // A legacy record's body offset and size, each cut to its field.
 pub fn patch_legacy_small_header_offset_size(slot: &mut [u8], offset: u32, size: u32) -> Wrote
-    ensures { λ r. ⌜ Writes (onSlot (legacyRecord .width) (putOffsetSize offset size) (now (slot .entry))) r (now (slot .entry)) (now (slot .exit)) ⌝ }
+    ensures { λ r. ⌜ Writes (onSlot (legacyRecord .width) (putOffsetSize offset size) (now (slot .entry))) r (now (slot .entry))
+        (now (slot .exit)) ⌝ }
 {
     if slot.len() < format::width(format::LEGACY_RECORD) {
-        return Wrote::Refused(1);
+        return Wrote::Refused(refusals::SIZE);
     }
     let placed = records::with_value(bits::load16(slot), format::LEGACY_OFFSET, offset as u64);
     let sized = records::with_value(placed, format::LEGACY_SIZE, size as u64);
@@ -83,10 +84,11 @@ pub fn patch_legacy_small_header_offset_size(slot: &mut [u8], offset: u32, size:
 
 // The body offset of a modern record without a large header, moved.
 pub fn shift_modern_small_header_offset(slot: &mut [u8], delta: i32) -> Wrote
-    ensures { λ r. ⌜ Writes (onSlot (modernRecord .width) (shiftSmall Modern (turned delta)) (now (slot .entry))) r (now (slot .entry)) (now (slot .exit)) ⌝ }
+    ensures { λ r. ⌜ Writes (onSlot (modernRecord .width) (shiftSmall Modern (turned delta)) (now (slot .entry))) r (now (slot .entry))
+        (now (slot .exit)) ⌝ }
 {
     if slot.len() < format::width(format::MODERN_RECORD) {
-        return Wrote::Refused(1);
+        return Wrote::Refused(refusals::SIZE);
     }
     let d = records::turn(delta);
     let moved = records::shift_field(bits::load12(slot), format::MODERN_OFFSET, d);
@@ -97,10 +99,11 @@ pub fn shift_modern_small_header_offset(slot: &mut [u8], delta: i32) -> Wrote
 // The body offset of a legacy record without a large header, moved, and its info place unless that
 // is 0.
 pub fn shift_legacy_small_header_offsets(slot: &mut [u8], delta: i32) -> Wrote
-    ensures { λ r. ⌜ Writes (onSlot (legacyRecord .width) (shiftSmall (Legacy false false) (turned delta)) (now (slot .entry))) r (now (slot .entry)) (now (slot .exit)) ⌝ }
+    ensures { λ r. ⌜ Writes (onSlot (legacyRecord .width) (shiftSmall (Legacy false false) (turned delta)) (now (slot .entry))) r
+        (now (slot .entry)) (now (slot .exit)) ⌝ }
 {
     if slot.len() < format::width(format::LEGACY_RECORD) {
-        return Wrote::Refused(1);
+        return Wrote::Refused(refusals::SIZE);
     }
     let d = records::turn(delta);
     let moved = records::shift_field(bits::load16(slot), format::LEGACY_OFFSET, d);
@@ -113,7 +116,7 @@ pub fn read_legacy_large_pointer(slot: &[u8]) -> Pointer
     ensures { λ r. ⌜ r ≡ readLegacyPointer (now (slot .entry)) ⌝ }
 {
     if slot.len() < format::width(format::LEGACY_RECORD) {
-        return Pointer::Refused(1);
+        return Pointer::Refused(refusals::SIZE);
     }
     let whole = records::legacy_pointer(bits::load16(slot));
     Pointer::At((whole % 4294967296) as u32)
@@ -122,10 +125,11 @@ pub fn read_legacy_large_pointer(slot: &[u8]) -> Pointer
 // The large pointer of a legacy record, moved. The sum is of the pointer as it is read; of what is
 // stored, 16 bits go into the offset field, whose upper bits become 0, and 25 into the info field.
 pub fn shift_legacy_large_pointer(slot: &mut [u8], delta: i32) -> Wrote
-    ensures { λ r. ⌜ Writes (onSlot (legacyRecord .width) (shiftPointer (Legacy false false) (turned delta)) (now (slot .entry))) r (now (slot .entry)) (now (slot .exit)) ⌝ }
+    ensures { λ r. ⌜ Writes (onSlot (legacyRecord .width) (shiftPointer (Legacy false false) (turned delta)) (now (slot .entry))) r
+        (now (slot .entry)) (now (slot .exit)) ⌝ }
 {
     if slot.len() < format::width(format::LEGACY_RECORD) {
-        return Wrote::Refused(1);
+        return Wrote::Refused(refusals::SIZE);
     }
     let d = records::turn(delta);
     let w = bits::load16(slot);
@@ -139,17 +143,18 @@ pub fn read_modern_large_pointer(slot: &[u8]) -> Pointer
     ensures { λ r. ⌜ r ≡ readModernPointer (now (slot .entry)) ⌝ }
 {
     if slot.len() < format::width(format::MODERN_RECORD) {
-        return Pointer::Refused(1);
+        return Pointer::Refused(refusals::SIZE);
     }
     Pointer::At(records::modern_pointer(bits::load12(slot)) as u32)
 }
 
 // The large pointer of a modern record, moved. Bit 24 is no part of it and stays.
 pub fn shift_modern_large_pointer(slot: &mut [u8], delta: i32) -> Wrote
-    ensures { λ r. ⌜ Writes (onSlot (modernRecord .width) (shiftPointer Modern (turned delta)) (now (slot .entry))) r (now (slot .entry)) (now (slot .exit)) ⌝ }
+    ensures { λ r. ⌜ Writes (onSlot (modernRecord .width) (shiftPointer Modern (turned delta)) (now (slot .entry))) r (now (slot .entry))
+        (now (slot .exit)) ⌝ }
 {
     if slot.len() < format::width(format::MODERN_RECORD) {
-        return Wrote::Refused(1);
+        return Wrote::Refused(refusals::SIZE);
     }
     let d = records::turn(delta);
     let w = bits::load12(slot);
@@ -164,10 +169,10 @@ pub fn shift_u32_at(buf: &mut [u8], pos: usize, delta: i32) -> Wrote
     ensures { λ r. ⌜ Writes (shiftWord pos (turned delta) (now (buf .entry))) r (now (buf .entry)) (now (buf .exit)) ⌝ }
 {
     if buf.len() < pos {
-        return Wrote::Refused(1); // the position lies past the end
+        return Wrote::Refused(refusals::SIZE); // the position lies past the end
     }
     if buf.len() - pos < 4 {
-        return Wrote::Refused(1);
+        return Wrote::Refused(refusals::SIZE);
     }
     let d = records::turn(delta);
     bits::put_word(buf, pos, bits::word(buf, pos) + d);

@@ -16,13 +16,15 @@ use Rattle.footer.specs.Footer.{footerLength}
 use Rattle.footer.specs.Finalize.{sizeLimit}
 use Rattle.image.specs.Sections.{kindsIn, identifiersIn, stringsIn, tailAt}
 use Rattle.image.specs.Kinds.{kindIn, covered, identified}
-use Rattle.image.specs.Admission.{overflowsCounted, overflowsNumbered, stringsStored, stringsNarrow, headersIn, bodiesIn, infosIn, debugInTail, headersApart, bodiesApart, checks, refusal}
+use Rattle.image.specs.Admission.{overflowsCounted, overflowsNumbered, stringsStored, stringsNarrow, headersIn, bodiesIn}
+use Rattle.image.specs.Admission.{infosIn, debugInTail, headersApart, bodiesApart, checks, refusal}
 use Rattle.image.specs.Admitted.{Admitted}
-use Rattle.image.proofs.CheckLaws.{overflows-counted, overflows-numbered, strings-stored, strings-narrow, headers-in, bodies-in, infos-in, debug-in, headers-apart, bodies-apart}
+use Rattle.image.proofs.CheckLaws.{overflows-counted, overflows-numbered, strings-stored, strings-narrow, headers-in}
+use Rattle.image.proofs.CheckLaws.{bodies-in, infos-in, debug-in, headers-apart, bodies-apart}
 
 -- every test of admission is passed
 pub record Passed (l : Layout) (s : List ℕ) : Type 0 where
-  pub short : ltb (length s) (table.recordRow l .at + footerLength) ≡ false
+  pub short : ltb (length s) (table.headerLength + footerLength) ≡ false
   pub long : ltb sizeLimit (length s) ≡ false
   pub magic : eqb (numberAt s (table.magic .at) (table.magic .width)) table.magicNumber ≡ true
   pub room : ltb (length s) (tailAt l s + footerLength) ≡ false
@@ -83,7 +85,7 @@ module _ (l : Layout) (s : List ℕ) where
       let t : Passed l s = passed e in
       record {
         bytes = bytes;
-        least = ltb-false (length s) (table.recordRow l .at + footerLength) (t .short);
+        least = ltb-false (length s) (table.headerLength + footerLength) (t .short);
         most = ltb-false sizeLimit (length s) (t .long);
         magic = eqb-true (numberAt s (table.magic .at) (table.magic .width)) table.magicNumber (t .magic);
         room = ltb-false (length s) (tailAt l s + footerLength) (t .room);
@@ -105,7 +107,7 @@ module _ (l : Layout) (s : List ℕ) where
   unfolding refusal checks judge
   not-refused a =
       rw (
-        le-ltb (length s) (table.recordRow l .at + footerLength) (a .least),
+        le-ltb (length s) (table.headerLength + footerLength) (a .least),
         le-ltb sizeLimit (length s) (a .most),
         eq-eqb (numberAt s (table.magic .at) (table.magic .width)) table.magicNumber (a .magic),
         le-ltb (length s) (tailAt l s + footerLength) (a .room),

@@ -17,15 +17,20 @@ use Rattle.image.specs.Sections.{kindsIn, identifiersIn, stringsIn, tail
 use Rattle.image.specs.Kinds.{kindIn, covered, identified}
 use Rattle.image.specs.Admission.{checks, refusal}
 use Rattle.image.specs.Faults.{ShareByte, Fault}
-use Rattle.image.specs.Faults.Fault.{short, long, magic, sections, kinds, identifiers, overflows, misnumbered, leaves, exceeds, body, info, debug, header, headers, bodies}
-use Rattle.image.proofs.PlaceLaws.{records-at}
-use Rattle.image.proofs.CheckLaws.{overflows-counted, overflows-numbered, strings-stored, strings-narrow, headers-in, bodies-in, infos-in, debug-in, headers-apart, bodies-apart}
+use Rattle.image.specs.Faults.Fault.{short, long, magic, sections, kinds, identifiers, overflows, misnumbered, leaves}
+use Rattle.image.specs.Faults.Fault.{exceeds, body, info, debug, header, headers, bodies}
+use Rattle.image.proofs.CheckLaws.{overflows-counted, overflows-numbered, strings-stored, strings-narrow, headers-in}
+use Rattle.image.proofs.CheckLaws.{bodies-in, infos-in, debug-in, headers-apart, bodies-apart}
 
 -- ---- a byte in common, and two starts that each lie before the other's end
 
 pub share : (p m q n : ℕ) → 0 < m → 0 < n → p < q + n → q < p + m → ShareByte p m q n
 share p m q n a b h k =
-    elim (below-or p q) [ inl t ↦ (q, (omega arith, omega arith), (omega arith, omega arith)) | inr t ↦ (p, (omega arith, omega arith), (omega arith, omega arith)) ]
+    elim (below-or p q) [
+      | inl t ↦ (q, (omega arith, omega arith), (omega arith, omega arith))
+      | inr t
+          ↦ (p, (omega arith, omega arith), (omega arith, omega arith))
+    ]
 
 -- a large header has words
 some-words : (l : Layout) → 0 < table.largeRow l .width
@@ -37,7 +42,7 @@ module _ (l : Layout) (s : List ℕ) where
   pub shows : Shows (Fault l s) (checks l s)
   unfolding checks
   shows =
-      (λ t. short (rw (records-at l) at (ltb-true (length s) (table.recordRow l .at + footerLength) t)))
+      (λ t. short (ltb-true (length s) (table.headerLength + footerLength) t))
       also (λ t. long (ltb-true 67108864 (length s) t))
       also (λ t. magic (eqb-false _ _ (not-true _ t)))
       also (λ t. sections (ltb-true (length s) (tailAt l s + footerLength) t))
@@ -54,13 +59,14 @@ module _ (l : Layout) (s : List ℕ) where
       also (λ t.
       let (i, h, (j, k, (d, (f, (g, (a, b)))))) = headers-apart l s .wrong (not-true _ t) in
       headers i j h k d f g (share _ _ _ _ (some-words l) (some-words l) a b))
-      also (λ t. let (i, h, (j, k, (z, (g, (a, b))))) = bodies-apart l s .wrong (not-true _ t) in bodies j i k h g (share _ _ _ _ (some-words l) z a b))
+      also (λ t. let (i, h, (j, k, (z, (g, (a, b))))) = bodies-apart l s .wrong (not-true _ t) in bodies j i k h g
+      (share _ _ _ _ (some-words l) z a b))
       also nothing
 
   -- and a fault's check is met
   pub gives : (n : ℕ) → Fault l s n → given n (checks l s) ≡ true
   unfolding checks
-  gives n (short h) = rw (lt-ltb (length s) (table.recordRow l .at + footerLength) (rw (records-at l) h))
+  gives n (short h) = rw (lt-ltb (length s) (table.headerLength + footerLength) h)
   gives n (long h) = simp (lt-ltb 67108864 (length s) h, either-true)
   gives n (magic h) = rw (ne-eqb _ _ h)
   gives n (sections h) = rw (lt-ltb (length s) (tailAt l s + footerLength) h)
@@ -74,8 +80,10 @@ module _ (l : Layout) (s : List ℕ) where
   gives n (info i h f w) = simp (infos-in l s .failed (i, h, (f, w)), either-true)
   gives n (debug f w) = simp (debug-in l s .failed (f, w), either-true)
   gives n (header i h f w) = rw (headers-in l s .failed (i, h, (f, w)))
-  gives n (headers i j h k d f g (x, a, b)) = simp (headers-apart l s .failed (i, h, (j, k, (d, (f, (g, (omega arith, omega arith)))))), either-true)
-  gives n (bodies i j h k f (x, a, b)) = simp (bodies-apart l s .failed (j, k, (i, h, (omega arith, (f, (omega arith, omega arith))))), either-true)
+  gives n (headers i j h k d f g (x, a, b)) =
+      simp (headers-apart l s .failed (i, h, (j, k, (d, (f, (g, (omega arith, omega arith)))))), either-true)
+  gives n (bodies i j h k f (x, a, b)) =
+      simp (bodies-apart l s .failed (j, k, (i, h, (omega arith, (f, (omega arith, omega arith))))), either-true)
 
   numbers-rise : rising 1 6 (checks l s) ≡ true
   unfolding checks

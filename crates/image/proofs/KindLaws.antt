@@ -1,4 +1,5 @@
--- Kinds: the flag and the rank of an id by the run that covers it, and by a walk over the runs. 01, Image rules: "kinds cover the ids in order".
+-- Kinds: the flag and the rank of an id by the run that covers it, and by a walk over the runs. 01, Image rules: "kinds cover the
+-- ids in order".
 use mathlib.Core.Path.{_≡_, refl, ap, sym, _∙_}
 use mathlib.Core.Bool.{Bool, true, false}
 use mathlib.Core.Logic.{inl, inr}
@@ -40,7 +41,8 @@ module _ (w : ℕ → ℕ) where
   covered-le k n h = sum-le (λ j. runOf (w j)) k n h
 
   -- its ids have its flag
-  pub flag-in-run : (n k j : ℕ) → k < n → covered w k ≤ j → j < covered w k + runOf (w k) → flagOf w n j ≡ isIdentifierRun (w k)
+  pub flag-in-run : (n k j : ℕ) → k < n → covered w k ≤ j → j < covered w k + runOf (w k)
+      → flagOf w n j ≡ isIdentifierRun (w k)
   unfolding flagOf
   flag-in-run zero k j h a b = absurd (not-suc-le-zero h)
   flag-in-run (suc n) k j h a b =
@@ -68,7 +70,8 @@ module _ (w : ℕ → ℕ) where
   rank-of-runs n (suc k) h = run-ranks n k (runOf (w k)) h (omega arith) (rank-of-runs n k (omega arith))
 
   -- and within it
-  pub rank-in-run : (n k r : ℕ) → k < n → r ≤ runOf (w k) → rankBy w n (covered w k + r) ≡ identified w k + pick (isIdentifierRun (w k)) r 0
+  pub rank-in-run : (n k r : ℕ) → k < n → r ≤ runOf (w k)
+      → rankBy w n (covered w k + r) ≡ identified w k + pick (isIdentifierRun (w k)) r 0
   rank-in-run n k r h a = run-ranks n k r h a (rank-of-runs n k (omega arith))
 
 -- ---- a walk over the runs
@@ -78,7 +81,8 @@ pub record Found : Type 0 where
   pub flag : Bool
   pub rank : ℕ
 
--- n runs from run k on, for the id that comes `left` ids after their start, with `rank` identifiers before it: a run that ends before the id is
+-- n runs from run k on, for the id that comes `left` ids after their start, with `rank` identifiers before it: a run that ends
+-- before the id is
 -- skipped whole, and counts
 unfoldable pub walk : (ℕ → ℕ) → ℕ → ℕ → ℕ → ℕ → Found
 walk w zero k left rank = record { flag = false; rank = rank }
@@ -93,7 +97,8 @@ foundBy w n i = record { flag = flagOf w n i; rank = rankBy w n i }
 
 module _ (w : ℕ → ℕ) where
   -- a walk from the start of run k finds what they say
-  walked-from : (n k left : ℕ) → covered w k + left < covered w (k + n) → walk w n k left (identified w k) ≡ foundBy w (k + n) (covered w k + left)
+  walked-from : (n k left : ℕ) → covered w k + left < covered w (k + n)
+      → walk w n k left (identified w k) ≡ foundBy w (k + n) (covered w k + left)
   unfolding walk
   walked-from zero k left h = absurd (omega (arith, ap (covered w) (add-zero k)))
   walked-from (suc n) k left h =
@@ -137,6 +142,7 @@ module _ {l : Layout} {s : List ℕ} (a : Admitted l s) where
   rank-lt i h f = rw rank-all at (rank-rises l s i (stringsIn s) h f)
 
   -- the walk over all kinds finds the flag and the rank of an id
-  pub kind-walked : (i : ℕ) → i < stringsIn s → walk (kindIn l s) (kindsIn s) 0 i 0 ≡ record { flag = isIdentifier l s i; rank = rankOf l s i }
+  pub kind-walked : (i : ℕ) → i < stringsIn s
+      → walk (kindIn l s) (kindsIn s) 0 i 0 ≡ record { flag = isIdentifier l s i; rank = rankOf l s i }
   unfolding rankOf isIdentifier
   kind-walked i h = walked (kindIn l s) (kindsIn s) i (rw (a .covers) h)

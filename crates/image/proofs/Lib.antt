@@ -1,15 +1,3 @@
-pub mod WriteLaws
-pub mod TableLaws
-pub mod SlotLaws
-pub mod EditLaws
-pub mod ReadLaws
-pub mod BodyLaws
-pub mod RebuildLaws
-pub mod StringLaws
-pub mod KeepLaws
-pub mod ResizeLaws
-pub mod FitLaws
-pub mod InPlaceLaws
 pub mod CheckLaws
 pub mod AdmitLaws
 pub mod FaultLaws

@@ -15,19 +15,28 @@ use Rattle.format.specs.declared.Layout.the-variants.{Modern, Legacy}
 use Rattle.format.specs.Table as table
 use Rattle.format.specs.Entry.{bit}
 use Rattle.footer.specs.Footer.{footerLength}
-use Rattle.image.specs.Sections.{functionsIn, kindsIn, identifiersIn, stringsIn, overflowsIn, storageIn, recordAt, kindsAt, hashesAt, smallAt, overAt, storageAt, tailAt}
+use Rattle.image.specs.Sections.{functionsIn, kindsIn, identifiersIn, stringsIn, overflowsIn, storageIn, recordAt, kindsAt}
+use Rattle.image.specs.Sections.{hashesAt, smallAt, overAt, storageAt, tailAt}
 use Rattle.image.specs.Strings.{isFull, overBefore, smallIn, placeAt, sizeOf}
 use Rattle.image.specs.Admitted.{Admitted}
 
 -- ---- sections
 
--- the records start at 128 in every layout
-pub records-at : (l : Layout) → table.recordRow l .at ≡ 128
+-- the records start behind the header, in every layout
+pub records-at : (l : Layout) → table.recordRow l .at ≡ table.headerLength
 records-at Modern = refl
 records-at (Legacy big sources) = refl
 
--- the debug offset stands in the header
-pub debug-at : (l : Layout) → table.placeIn l (table.debugRow l) + 4 ≤ 128
+-- the debug offset is a word
+pub debug-wide : (l : Layout) → table.debugRow l .width ≡ 4
+debug-wide Modern = refl
+debug-wide (Legacy big sources) = refl
+
+pub debug-fits : (l : Layout) (x : ℕ) → x < 2 ^ 32 → x < 256 ^ table.debugRow l .width
+debug-fits l x h = rw (debug-wide l) h
+
+-- it stands in the header
+pub debug-at : (l : Layout) → table.placeIn l (table.debugRow l) + table.debugRow l .width ≤ table.headerLength
 debug-at Modern = omega arith
 debug-at (Legacy true true) = omega arith
 debug-at (Legacy true false) = omega arith
@@ -44,7 +53,7 @@ debug-past (Legacy false false) = omega arith
 
 -- no section starts before the one that it follows, and storage ends before the tail
 pub record Ordered (l : Layout) (s : List ℕ) : Type 0 where
-  pub kinds : 128 ≤ kindsAt l s
+  pub kinds : table.headerLength ≤ kindsAt l s
   pub hashes : kindsAt l s ≤ hashesAt l s
   pub small : hashesAt l s ≤ smallAt l s
   pub over : smallAt l s ≤ overAt l s
@@ -58,7 +67,15 @@ entry-in i n at w h = omega (arith, suc-mul i w, mul-le-mul-right w h)
 module _ (l : Layout) (s : List ℕ) where
   pub ordered : Ordered l s
   unfolding kindsAt hashesAt smallAt overAt storageAt tailAt
-  ordered = record { kinds = omega (arith, records-at l); hashes = omega arith; small = omega arith; over = omega arith; storage = omega arith; tail = omega arith }
+  ordered = record {
+    kinds = omega (arith, records-at l);
+    hashes = omega arith;
+    small = omega arith;
+    over = omega arith;
+    storage = omega
+        arith;
+    tail = omega arith;
+  }
 
   -- ---- an entry of a section ends before the next section starts
 
@@ -78,7 +95,8 @@ module _ (l : Layout) (s : List ℕ) where
   unfolding overAt
   small-in i h = omega arith
 
-  pub pair-in : (k : ℕ) → k < overflowsIn s → overAt l s + k * table.overflowEntry .width + table.overflowEntry .width ≤ storageAt l s
+  pub pair-in : (k : ℕ) → k < overflowsIn s
+      → overAt l s + k * table.overflowEntry .width + table.overflowEntry .width ≤ storageAt l s
   unfolding storageAt
   pair-in k h = omega arith
 
@@ -110,8 +128,8 @@ module _ {l : Layout} {s : List ℕ} (a : Admitted l s) where
   pub word-lt : (at : ℕ) → wordAt s at < 2 ^ 32
   word-lt at = numberAt-lt s at 4 (a .bytes)
 
-  pub least-length : 128 + footerLength ≤ length s
-  least-length = omega (arith, a .least, records-at l)
+  pub least-length : table.headerLength + footerLength ≤ length s
+  least-length = a .least
 
   pub counted : Counted l s
   unfolding kindsAt hashesAt smallAt overAt storageAt

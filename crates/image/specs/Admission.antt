@@ -1,14 +1,17 @@
--- Admission: when an image is refused with 1 to 6. 01, Refusal numbers. Each condition is one test; all of one number come before any of the next; sums are exact.
+-- Admission: when an image is refused with 1 to 6. 01, Refusal numbers. Each condition is one test; all of one number come before
+-- any of the next; sums are exact.
+-- docs/FORMAT.md: Admission.
 use mathlib.Core.Bool.{Bool, not}
 use mathlib.Core.List.{List, [], _∷_}
 use Prim.Native.Nat.{ℕ, _+_}
 use lib.Dec.{leb, ltb, eqb}
 use lib.ListN.{length, getD}
+use Rattle.refusals.specs.Numbers as refusals
 use Rattle.bits.specs.Choice.{both, implies, allBelow, Check, check, judge}
-use Rattle.bits.specs.Bytes.{numberAt}
 use Rattle.format.specs.declared.Layout.{Layout}
 use Rattle.format.specs.Table as table
 use Rattle.format.specs.Record.{valueOf}
+use Rattle.format.specs.Number.{numberHeld}
 use Rattle.format.specs.Entry.{Place}
 use Rattle.footer.specs.Footer.{footerLength}
 use Rattle.footer.specs.Finalize.{sizeLimit}
@@ -26,7 +29,8 @@ overflowsCounted l s = eqb (overBefore (smallIn l s) (stringsIn s)) (overflowsIn
 -- the k-th overflow entry has k in its offset field
 unfoldable pub overflowsNumbered : Layout → List ℕ → Bool
 overflowsNumbered l s =
-    allBelow (stringsIn s) (λ i. implies (isFull (smallIn l s i)) (eqb (valueOf table.entryOffset (smallIn l s i)) (overBefore (smallIn l s) i)))
+    allBelow (stringsIn s) (λ i. implies (isFull (smallIn l s i))
+    (eqb (valueOf table.entryOffset (smallIn l s i)) (overBefore (smallIn l s) i)))
 
 -- no string leaves storage
 unfoldable pub stringsStored : Layout → List ℕ → Bool
@@ -72,36 +76,39 @@ headersApart2 w f g = implies (f .large) (implies (g .large) (apart (f .ptr) w (
 
 unfoldable pub headersApart : Layout → List ℕ → Bool
 headersApart l s =
-    allBelow (functionsIn s) (λ i. allBelow (functionsIn s) (λ j. implies (not (eqb i j)) (headersApart2 (table.largeRow l .width) (funcOf l s i) (funcOf l s j))))
+    allBelow (functionsIn s)
+    (λ i. allBelow (functionsIn s)
+    (λ j. implies (not (eqb i j)) (headersApart2 (table.largeRow l .width) (funcOf l s i) (funcOf l s j))))
 
 -- a body that is not empty and the words of a large header share no byte, the record's own too
 abbrev pub bodyApart : ℕ → Func → Func → Bool
 bodyApart w f g = implies (ltb 0 (f .size)) (implies (g .large) (apart (g .ptr) w (f .begin) (f .size)))
 
 unfoldable pub bodiesApart : Layout → List ℕ → Bool
-bodiesApart l s = allBelow (functionsIn s) (λ i. allBelow (functionsIn s) (λ j. bodyApart (table.largeRow l .width) (funcOf l s i) (funcOf l s j)))
+bodiesApart l s =
+    allBelow (functionsIn s) (λ i. allBelow (functionsIn s) (λ j. bodyApart (table.largeRow l .width) (funcOf l s i) (funcOf l s j)))
 
 -- ---- the checks in order
 
--- what is right of an image, each with the number that is given where it is not
+-- what can be wrong with an image, each with its number
 unfoldable pub checks : Layout → List ℕ → List Check
 checks l s =
-    check 1 (ltb (length s) (table.recordRow l .at + footerLength))
-    ∷ check 1 (ltb sizeLimit (length s))
-    ∷ check 2 (not (eqb (numberAt s (table.magic .at) (table.magic .width)) table.magicNumber))
-    ∷ check 3 (ltb (length s) (tailAt l s + footerLength))
-    ∷ check 4 (not (eqb (covered (kindIn l s) (kindsIn s)) (stringsIn s)))
-    ∷ check 4 (not (eqb (identified (kindIn l s) (kindsIn s)) (identifiersIn s)))
-    ∷ check 5 (not (overflowsCounted l s))
-    ∷ check 5 (not (overflowsNumbered l s))
-    ∷ check 5 (not (stringsStored l s))
-    ∷ check 5 (not (stringsNarrow l s))
-    ∷ check 6 (not (headersIn l s))
-    ∷ check 6 (not (bodiesIn l s))
-    ∷ check 6 (not (infosIn l s))
-    ∷ check 6 (not (debugInTail l s))
-    ∷ check 6 (not (headersApart l s))
-    ∷ check 6 (not (bodiesApart l s))
+    check refusals.size (ltb (length s) (table.headerLength + footerLength))
+    ∷ check refusals.size (ltb sizeLimit (length s))
+    ∷ check refusals.magic (not (eqb (numberHeld table.magic s) table.magicNumber))
+    ∷ check refusals.sections (ltb (length s) (tailAt l s + footerLength))
+    ∷ check refusals.kinds (not (eqb (covered (kindIn l s) (kindsIn s)) (stringsIn s)))
+    ∷ check refusals.kinds (not (eqb (identified (kindIn l s) (kindsIn s)) (identifiersIn s)))
+    ∷ check refusals.string (not (overflowsCounted l s))
+    ∷ check refusals.string (not (overflowsNumbered l s))
+    ∷ check refusals.string (not (stringsStored l s))
+    ∷ check refusals.string (not (stringsNarrow l s))
+    ∷ check refusals.function (not (headersIn l s))
+    ∷ check refusals.function (not (bodiesIn l s))
+    ∷ check refusals.function (not (infosIn l s))
+    ∷ check refusals.function (not (debugInTail l s))
+    ∷ check refusals.function (not (headersApart l s))
+    ∷ check refusals.function (not (bodiesApart l s))
     ∷ []
 
 -- the refusal number of an image, or 0 where it is admitted

@@ -1,19 +1,20 @@
 -- Kinds, identifiers and hash slots. 01, Image rules: "top bit set means identifier, low 31 bits a count; kinds cover the ids in order".
+-- docs/FORMAT.md: Kinds, Identifier hash.
 use mathlib.Core.Bool.{Bool, false}
 use mathlib.Core.List.{List}
-use Prim.Native.Nat.{ℕ, zero, suc, _+_, _*_}
+use Prim.Native.Nat.{ℕ, zero, suc}
 use lib.Dec.{leb, eqb}
 use Rattle.bits.specs.Choice.{pick, sumBelow}
-use Rattle.bits.specs.Bytes.{wordAt}
 use Rattle.format.specs.declared.Layout.{Layout}
 use Rattle.format.specs.Table.{kindRun, kindIdentifier, kindEntry, hashEntry}
 use Rattle.format.specs.Record.{valueOf}
+use Rattle.format.specs.Number.{entryIn}
 use Rattle.format.specs.Entry.{bit}
 use Rattle.image.specs.Sections.{kindsIn, kindsAt, hashesAt}
 
 -- kind word k
 unfoldable pub kindIn : Layout → List ℕ → ℕ → ℕ
-kindIn l s k = wordAt s (kindsAt l s + k * kindEntry .width)
+kindIn l s k = entryIn (kindsAt l s) kindEntry s k
 
 -- how many ids a kind word covers, whether they are identifiers, and how many identifiers that makes
 abbrev pub runOf : ℕ → ℕ
@@ -47,4 +48,4 @@ rankOf l s i = sumBelow i (λ j. bit (isIdentifier l s j))
 
 -- hash slot r
 unfoldable pub hashIn : Layout → List ℕ → ℕ → ℕ
-hashIn l s r = wordAt s (hashesAt l s + r * hashEntry .width)
+hashIn l s r = entryIn (hashesAt l s) hashEntry s r

@@ -5,6 +5,3 @@ pub mod Functions
 pub mod Admission
 pub mod Admitted
 pub mod Faults
-pub mod Edit
-pub mod Rebuild
-pub mod Fit

@@ -1,9 +1,11 @@
 -- The records that the programs read, as the bytes before their contents say. 01, Programs: "each opened by a two-byte mark".
+-- docs/FORMAT.md: Input records.
 use mathlib.Core.Bool.{Bool, true, false}
 use mathlib.Core.List.{List}
 use Prim.Native.Nat.{ℕ}
 use lib.Dec.{leb, eqb}
 use lib.ListN.{length, getD}
+use Rattle.refusals.specs.Numbers as refusals
 use Rattle.bits.specs.Choice.{pick, both}
 use Rattle.bits.specs.Bytes.{numberAt, wordAt}
 use Rattle.format.specs.declared.Layout.{Layout}
@@ -12,10 +14,6 @@ use Rattle.input_records.specs.declared.ImageHead.{ImageHead}
 use Rattle.input_records.specs.declared.ImageHead.the-variants as image-is
 use Rattle.input_records.specs.declared.PatchHead.{PatchHead}
 use Rattle.input_records.specs.declared.PatchHead.the-variants as patch-is
-
--- the number of a malformed record
-abbrev pub malformed : ℕ
-malformed = 15
 
 -- the bytes of a mark
 abbrev pub marked : List ℕ → ℕ → ℕ → Bool
@@ -43,7 +41,7 @@ imageHeadGood s =
 
 -- the layout and the length of the image
 unfoldable pub imageHead : List ℕ → ImageHead
-imageHead s = pick (imageHeadGood s) (image-is.Image (layoutOf (getD s 2 0)) (wordAt s 3)) (image-is.Refused malformed)
+imageHead s = pick (imageHeadGood s) (image-is.Image (layoutOf (getD s 2 0)) (wordAt s 3)) (image-is.Refused refusals.job)
 
 -- ---- `ST` or `FB`, 4-byte id, 2-byte length, bytes
 
@@ -56,5 +54,5 @@ unfoldable pub patchHead : List ℕ → PatchHead
 patchHead s =
     pick (leb patchHeadLength (length s))
     (pick (marked s 0x53 0x54) (patch-is.String (wordAt s 2) (numberAt s 6 2))
-    (pick (marked s 0x46 0x42) (patch-is.Body (wordAt s 2) (numberAt s 6 2)) (patch-is.Refused malformed)))
-    (patch-is.Refused malformed)
+    (pick (marked s 0x46 0x42) (patch-is.Body (wordAt s 2) (numberAt s 6 2)) (patch-is.Refused refusals.job)))
+    (patch-is.Refused refusals.job)

@@ -31,9 +31,6 @@ pub const PATCH_HEAD: usize = 8;
 // The longest image that a program takes.
 pub const IMAGE_MOST: usize = 65536;
 
-// The number of a record that is not well formed.
-pub const MALFORMED: u8 = 15;
-
 fn has_mark(s: &[u8], a: u8, b: u8) -> bool
     requires { ⌜ 2 ≤ length (now s) ⌝ }
     ensures { λ r. ⌜ r ≡ marked (now (s .entry)) a b ⌝ }
@@ -78,17 +75,17 @@ pub fn image_head(s: &[u8]) -> ImageHead
     ensures { λ r. ⌜ r ≡ imageHead (now (s .entry)) ⌝ }
 {
     if s.len() < IMAGE_HEAD {
-        return ImageHead::Refused(MALFORMED);
+        return ImageHead::Refused(refusals::JOB);
     }
     if !has_mark(s, b'I', b'M') {
-        return ImageHead::Refused(MALFORMED);
+        return ImageHead::Refused(refusals::JOB);
     }
     if 4 < s[2] {
-        return ImageHead::Refused(MALFORMED);
+        return ImageHead::Refused(refusals::JOB);
     }
     let length = bits::word(s, 3) as usize;
     if IMAGE_MOST < length {
-        return ImageHead::Refused(MALFORMED);
+        return ImageHead::Refused(refusals::JOB);
     }
     ImageHead::Image(layout_of(s[2]), length)
 }
@@ -107,7 +104,7 @@ pub fn patch_head(s: &[u8]) -> PatchHead
     ensures { λ r. ⌜ r ≡ patchHead (now (s .entry)) ⌝ }
 {
     if s.len() < PATCH_HEAD {
-        return PatchHead::Refused(MALFORMED);
+        return PatchHead::Refused(refusals::JOB);
     }
     let id = bits::word(s, 2) as usize;
     let length = half_word(s, 6);
@@ -117,5 +114,5 @@ pub fn patch_head(s: &[u8]) -> PatchHead
     if has_mark(s, b'F', b'B') {
         return PatchHead::Body(id, length);
     }
-    PatchHead::Refused(MALFORMED)
+    PatchHead::Refused(refusals::JOB)
 }

@@ -3,5 +3,5 @@
 // 2, the new string or body. The last image, or `refused K N`, goes out on standard output.
 
 fn main() {
-    runner::run(u64::MAX);
+    job_io::run(u64::MAX);
 }

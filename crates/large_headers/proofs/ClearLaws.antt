@@ -22,7 +22,8 @@ starts-before p w q v h = rw (lt-ltb p (q + v) h)
 pub starts-past : (p w q v : ℕ) → q + v ≤ p → true ≡ apart p w q v
 starts-past p w q v h = rw (le-ltb p (q + v) h)
 
-pub clear-at : (l : Layout) (s : List ℕ) (j i w : ℕ) (g f : Func) (other r : Bool) → w ≡ table.largeRow l .width → g ≡ funcOf l s j → f ≡ funcOf l s i
+pub clear-at : (l : Layout) (s : List ℕ) (j i w : ℕ) (g f : Func) (other r : Bool) → w ≡ table.largeRow l .width
+    → g ≡ funcOf l s j → f ≡ funcOf l s i
     → other ≡ not (eqb i j) → r ≡ clearOf w other g f → r ≡ clearAt l s j i
 unfolding clearAt
 clear-at l s j i w g f other r d e h o k = rw (← d, ← e, ← h, ← o, k)
@@ -64,7 +65,8 @@ module _ (l : Layout) (s : List ℕ) where
   abbrev bodies : ℕ → ℕ → Bool
   bodies i j = bodyApart (table.largeRow l .width) (funcOf l s i) (funcOf l s j)
 
-  clear-is : (j : ℕ) → headerClear l s j ≡ both (allBelow (functionsIn s) (λ i. headers i j)) (allBelow (functionsIn s) (λ i. bodies i j))
+  clear-is : (j : ℕ) → headerClear l s j ≡ both (allBelow (functionsIn s) (λ i. headers i j))
+      (allBelow (functionsIn s) (λ i. bodies i j))
   unfolding headerClear clearAt
   clear-is j =
       imp-all (funcOf l s j .large) (clearAt l s j) (functionsIn s)
@@ -79,7 +81,8 @@ module _ (l : Layout) (s : List ℕ) where
       ∙ all-both (λ j. allBelow (functionsIn s) (λ i. headers i j)) (λ j. allBelow (functionsIn s) (λ i. bodies i j)) (functionsIn s)
       ∙ rw (all-swap headers (functionsIn s) (functionsIn s), all-swap bodies (functionsIn s) (functionsIn s))
 
-  pub not-all-clear : (j n : ℕ) (r : Bool) → n ≡ functionsIn s → j < n → r ≡ headerClear l s j → not r ≡ true → false ≡ allApart l s
+  pub not-all-clear : (j n : ℕ) (r : Bool) → n ≡ functionsIn s → j < n → r ≡ headerClear l s j → not r ≡ true
+      → false ≡ allApart l s
   not-all-clear j n r c k e h = pass-stop (headerClear l s) (functionsIn s) j r (rw c at k) e h ∙ all-clear
 
   pub clear-end : (j n : ℕ) → n ≡ functionsIn s → j ≡ n → allBelow j (headerClear l s) ≡ true → true ≡ allApart l s

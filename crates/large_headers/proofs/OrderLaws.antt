@@ -21,7 +21,8 @@ use Rattle.image.specs.Functions.{Func, funcOf}
 use Rattle.image.specs.Admission.{headersApart, bodiesApart}
 use Rattle.image.specs.Admitted.{Disjoint}
 use Rattle.image.proofs.CheckLaws.{headers-apart, bodies-apart}
-use Rattle.large_headers.specs.Order.{endWith, firstWith, bodiesWith, headersEnd, headersStart, bodiesEnd, ascends, ascendsAt, ordered, inOrder}
+use Rattle.large_headers.specs.Order.{endWith, firstWith, bodiesWith, headersEnd, headersStart, bodiesEnd, ascends}
+use Rattle.large_headers.specs.Order.{ascendsAt, ordered, inOrder}
 use Rattle.large_headers.specs.Clear.{allApart}
 
 -- ---- the size of a large header's words
@@ -74,12 +75,14 @@ module _ (w : ℕ) (fs : ℕ → Func) (i : ℕ) (f : Func) (e : f ≡ fs i) whe
     unfolding ordered
     not-behind n t l = rw (← pass-stop (ascendsAt w fs) n i r l ascends-here t)
 
-pub order-end : (w : ℕ) (fs : ℕ → Func) (n i a b : ℕ) → i ≡ n → a ≡ bodiesEnd fs i → b ≡ headersStart fs i → allBelow i (ascendsAt w fs) ≡ true
+pub order-end : (w : ℕ) (fs : ℕ → Func) (n i a b : ℕ) → i ≡ n → a ≡ bodiesEnd fs i → b ≡ headersStart fs i
+    → allBelow i (ascendsAt w fs) ≡ true
     → leb a b ≡ ordered w fs n
 unfolding ordered
 order-end w fs n i a b e g h k = rw (← e, g, h, k)
 
-pub image-order : (l : Layout) (s : List ℕ) (w n : ℕ) (r : Bool) → w ≡ table.largeRow l .width → n ≡ functionsIn s → r ≡ ordered w (funcOf l s) n → r ≡ inOrder l s
+pub image-order : (l : Layout) (s : List ℕ) (w n : ℕ) (r : Bool) → w ≡ table.largeRow l .width → n ≡ functionsIn s
+    → r ≡ ordered w (funcOf l s) n → r ≡ inOrder l s
 unfolding inOrder
 image-order l s w n r e g h = rw (← e, ← g, h)
 
@@ -110,7 +113,8 @@ module _ (fs : ℕ → Func) where
   unfolding bodiesEnd
   end-past zero j h z = absurd (not-suc-le-zero h)
   end-past (suc i) j h z =
-      let y = most (ltb 0 (fs i .size)) (ltb (bodiesEnd fs i) (fs i .begin + fs i .size)) (fs i .begin + fs i .size) (bodiesEnd fs i) refl in
+      let y
+      = most (ltb 0 (fs i .size)) (ltb (bodiesEnd fs i) (fs i .begin + fs i .size)) (fs i .begin + fs i .size) (bodiesEnd fs i) refl in
       elim (below j i h) [ inl e ↦ rw e (y .1 (lt-ltb 0 (fs i .size) (rw e at z))) | inr l ↦ omega (arith, y .0, end-past i j l z) ]
 
 module _ (w : ℕ) (fs : ℕ → Func) (n : ℕ) (o : ordered w fs n ≡ true) where
@@ -143,7 +147,8 @@ module _ (w : ℕ) (fs : ℕ → Func) (n : ℕ) (o : ordered w fs n ≡ true) w
       later true r u = omega (arith, u refl)
       later false r u = r
 
-  headers-off : (i : ℕ) → i < n → (j : ℕ) → j < n → i ≢ j → fs i .large ≡ true → fs j .large ≡ true → Disjoint (fs i .ptr) w (fs j .ptr) w
+  headers-off : (i : ℕ) → i < n → (j : ℕ) → j < n → i ≢ j → fs i .large ≡ true → fs j .large ≡ true
+      → Disjoint (fs i .ptr) w (fs j .ptr) w
   headers-off i h j k ne t u z =
       elim (below-or i j) [
         | inl l ↦ omega (arith, ends j i (omega arith) l t, behind j k u)
@@ -153,7 +158,8 @@ module _ (w : ℕ) (fs : ℕ → Func) (n : ℕ) (o : ordered w fs n ≡ true) w
         ]
       ]
 
-  bodies-off : (i : ℕ) → i < n → (j : ℕ) → j < n → 0 < fs i .size → fs j .large ≡ true → Disjoint (fs j .ptr) w (fs i .begin) (fs i .size)
+  bodies-off : (i : ℕ) → i < n → (j : ℕ) → j < n → 0 < fs i .size → fs j .large ≡ true
+      → Disjoint (fs j .ptr) w (fs i .begin) (fs i .size)
   bodies-off i h j k z t y = absurd (omega (arith, start-before fs n j k t, end-past fs n i h z, bodies-first))
 
 -- THE LAW OF THE PASS: functions in order meet both conditions

@@ -1,4 +1,6 @@
--- One large header against all functions. 01, refusal 6: "the words of a record's large header share a byte with those of another record's .. or with any body".
+-- One large header against all functions. 01, refusal 6: "the words of a record's large header share a byte with those of another
+-- record's .. or with any body".
+-- docs/FORMAT.md: Admission.
 use mathlib.Core.Bool.{Bool, not}
 use mathlib.Core.List.{List}
 use Prim.Native.Nat.{ℕ}

@@ -1,4 +1,6 @@
--- Functions in the order in which compilers lay them out: each large header behind the one before it, and all bodies before the first of them.
+-- Functions in the order in which compilers lay them out: each large header behind the one before it, and all bodies before the
+-- first of them.
+-- docs/FORMAT.md: Admission.
 use mathlib.Core.Bool.{Bool}
 use mathlib.Core.List.{List}
 use Prim.Native.Nat.{ℕ, zero, suc, _+_}

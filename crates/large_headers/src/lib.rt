@@ -4,20 +4,19 @@
 use format::Layout;
 use function_table::Function;
 ghost use mathlib.Core.Path.{_≡_};
-ghost use mathlib.Core.Bool.{true, not};
+ghost use mathlib.Core.Bool.{not};
 ghost use Prim.Native.Nat.{_+_, _≤_, _<_};
 ghost use lib.Dec.{eqb};
-ghost use Rattle.format.specs.Table.{largeRow};
+ghost use Rattle.format.specs.Table.{largeRow, legacyLarge};
 ghost use Rattle.image.specs.Sections.{functionsIn};
-ghost use Rattle.image.specs.Admission.{headersIn, apart};
-ghost use Rattle.sections.specs.Places.{Fits};
-ghost use Rattle.function_table.specs.Functions.{asFunc, WordSized};
+ghost use Rattle.image.specs.Admission.{apart};
+ghost use Rattle.function_table.specs.Functions.{asFunc, WordSized, Readable};
 ghost use Rattle.large_headers.specs.Order.{endWith, firstWith, bodiesWith, ascends, inOrder};
 ghost use Rattle.large_headers.specs.Clear.{clearOfHeader, clearOfBody, clearOf, headerClear, allApart};
 
 // The size of a large header's words.
 fn large_width(layout: Layout) -> usize
-    ensures { λ r. ⌜ (r ≡ largeRow layout .width) × (r ≤ 20) ⌝ }
+    ensures { λ r. ⌜ (r ≡ largeRow layout .width) × (r ≤ legacyLarge .width) ⌝ }
 {
     format::large_row(layout).width
 }
@@ -26,7 +25,7 @@ fn large_width(layout: Layout) -> usize
 
 // Where the last large header ends, with one function more.
 fn end_with(f: Function, end: usize, width: usize) -> usize
-    requires { ⌜ WordSized f × (width ≤ 20) ⌝ }
+    requires { ⌜ WordSized f × (width ≤ legacyLarge .width) ⌝ }
     ensures { λ r. ⌜ r ≡ endWith width end (asFunc f) ⌝ }
 {
     if f.large {
@@ -75,7 +74,7 @@ fn is_behind(f: Function, end: usize) -> bool
 // Whether the functions lie in order: each large header behind the one before it, and every body
 // that is not empty before the first of them.
 fn in_order(image: &[u8], layout: Layout, n: usize) -> bool
-    requires { ⌜ Fits layout (now image) × (headersIn layout (now image) ≡ true) ⌝ }
+    requires { ⌜ Readable layout (now image) ⌝ }
     requires { ⌜ n ≡ functionsIn (now image) ⌝ }
     ensures { λ r. ⌜ r ≡ inOrder layout (now (image .entry)) ⌝ }
 {
@@ -101,7 +100,7 @@ fn in_order(image: &[u8], layout: Layout, n: usize) -> bool
 
 // Whether `w` bytes from `p` and `v` bytes from `q` share none.
 fn are_apart(p: usize, w: usize, q: usize, v: usize) -> bool
-    requires { ⌜ (p < 4294967296) × (w < 4294967296) × (q < 4294967296) × (v < 4294967296) ⌝ }
+    requires { ⌜ (p + w < 8589934592) × (q + v < 8589934592) ⌝ }
     ensures { λ r. ⌜ r ≡ apart p w q v ⌝ }
 {
     if p < q + v {
@@ -119,7 +118,7 @@ fn are_two(i: usize, j: usize) -> bool
 
 // Whether the header of `g` shares no byte with that of `f`, if `f` is another function and has one.
 fn is_clear_of_header(g: Function, f: Function, width: usize, other: bool) -> bool
-    requires { ⌜ WordSized g × WordSized f × (width ≤ 20) ⌝ }
+    requires { ⌜ WordSized g × WordSized f × (width ≤ legacyLarge .width) ⌝ }
     ensures { λ r. ⌜ r ≡ clearOfHeader width other (asFunc g) (asFunc f) ⌝ }
 {
     if !other {
@@ -133,7 +132,7 @@ fn is_clear_of_header(g: Function, f: Function, width: usize, other: bool) -> bo
 
 // Whether the header of `g` shares no byte with the body of `f`, which may be the same function.
 fn is_clear_of_body(g: Function, f: Function, width: usize) -> bool
-    requires { ⌜ WordSized g × WordSized f × (width ≤ 20) ⌝ }
+    requires { ⌜ WordSized g × WordSized f × (width ≤ legacyLarge .width) ⌝ }
     ensures { λ r. ⌜ r ≡ clearOfBody width (asFunc g) (asFunc f) ⌝ }
 {
     if f.size == 0 {
@@ -143,7 +142,7 @@ fn is_clear_of_body(g: Function, f: Function, width: usize) -> bool
 }
 
 fn is_clear_of(g: Function, f: Function, width: usize, other: bool) -> bool
-    requires { ⌜ WordSized g × WordSized f × (width ≤ 20) ⌝ }
+    requires { ⌜ WordSized g × WordSized f × (width ≤ legacyLarge .width) ⌝ }
     ensures { λ r. ⌜ r ≡ clearOf width other (asFunc g) (asFunc f) ⌝ }
 {
     if !is_clear_of_header(g, f, width, other) {
@@ -154,7 +153,7 @@ fn is_clear_of(g: Function, f: Function, width: usize, other: bool) -> bool
 
 // Whether the large header of function `j`, if it has one, is clear of every function.
 fn is_header_clear(image: &[u8], layout: Layout, n: usize, j: usize) -> bool
-    requires { ⌜ Fits layout (now image) × (headersIn layout (now image) ≡ true) ⌝ }
+    requires { ⌜ Readable layout (now image) ⌝ }
     requires { ⌜ (n ≡ functionsIn (now image)) × (j < n) ⌝ }
     ensures { λ r. ⌜ r ≡ headerClear layout (now (image .entry)) j ⌝ }
 {
@@ -176,7 +175,7 @@ fn is_header_clear(image: &[u8], layout: Layout, n: usize, j: usize) -> bool
 
 // Whether every large header is clear of every function.
 fn are_headers_clear(image: &[u8], layout: Layout, n: usize) -> bool
-    requires { ⌜ Fits layout (now image) × (headersIn layout (now image) ≡ true) ⌝ }
+    requires { ⌜ Readable layout (now image) ⌝ }
     requires { ⌜ n ≡ functionsIn (now image) ⌝ }
     ensures { λ r. ⌜ r ≡ allApart layout (now (image .entry)) ⌝ }
 {
@@ -192,7 +191,7 @@ fn are_headers_clear(image: &[u8], layout: Layout, n: usize) -> bool
 
 // Whether no large header of an image of `n` functions shares a byte with another or with a body.
 pub fn are_headers_apart(image: &[u8], layout: Layout, n: usize) -> bool
-    requires { ⌜ Fits layout (now image) × (headersIn layout (now image) ≡ true) ⌝ }
+    requires { ⌜ Readable layout (now image) ⌝ }
     requires { ⌜ n ≡ functionsIn (now image) ⌝ }
     ensures { λ r. ⌜ r ≡ allApart layout (now (image .entry)) ⌝ }
 {

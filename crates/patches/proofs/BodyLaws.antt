@@ -21,23 +21,24 @@ use Rattle.image.specs.Sections.{functionsIn, identifiersIn, debugIn}
 use Rattle.image.specs.Kinds.{hashIn}
 use Rattle.image.specs.Functions.{Func, funcOf, bodyOf}
 use Rattle.image.specs.Admitted.{Disjoint, Admitted}
-use Rattle.image.specs.Edit.{splice, edit, moveFunc}
-use Rattle.image.specs.Rebuild.{resized, resize}
-use Rattle.image.specs.Fit.{beyond, sizeRow, fieldsFit}
+use Rattle.edits.specs.Edit.{splice, edit, moveFunc}
+use Rattle.edits.specs.Rebuild.{resized, resize}
+use Rattle.edits.specs.Fit.{beyond, sizeRow, fieldsFit}
 use Rattle.image.proofs.PlaceLaws.{ordered, hash-in, string-in}
-use Rattle.image.proofs.WriteLaws.{length-writes}
-use Rattle.image.proofs.SlotLaws.{func-eq}
-use Rattle.image.proofs.ReadLaws.{functions-same, kindCount-same, identifierCount-same, stringCount-same, counts-of, tailAt-same}
-use Rattle.image.proofs.FitLaws.{fields-use}
-use Rattle.image.proofs.InPlaceLaws as inplace
-use Rattle.image.proofs.ResizeLaws as resizing
-use Rattle.functions.specs.Patch.{threshold, sharesWith, bodyAlone, infosOutside, debugPast, movedBy, patched, sizeFits}
+use Rattle.edits.proofs.WriteLaws.{length-writes}
+use Rattle.edits.proofs.SlotLaws.{func-eq}
+use Rattle.edits.proofs.ReadLaws.{functions-same, kindCount-same, identifierCount-same, stringCount-same, counts-of, tailAt-same}
+use Rattle.edits.proofs.FitLaws.{fields-use}
+use Rattle.edits.proofs.InPlaceLaws as inplace
+use Rattle.edits.proofs.ResizeLaws as resizing
+use Rattle.functions.specs.Patch.{threshold, sharesWith, bodyAlone, infosOutside, debugPast, movedPastBody, patchedBody, sizeFits}
 use Rattle.patches.specs.Patches.{Target, aBody}
 use Rattle.patches.specs.Promise.{placeAfter, functionAfter, Kept, Promise}
 use Rattle.patches.proofs.CalmLaws.{final-calm, final-hash, final-sealed, kept-after}
 use Rattle.patches.proofs.StringLaws.{moved-still}
 
-module _ (l : Layout) (s : List ℕ) (ad : Admitted l s) (id : ℕ) (body : List ℕ) (known : id < functionsIn s) (bytes : AllBelow 256 body) where
+module _ (l : Layout) (s : List ℕ) (ad : Admitted l s) (id : ℕ) (body : List ℕ) (known : id < functionsIn s)
+    (bytes : AllBelow 256 body) where
   abbrev c : Target
   c = aBody id body
 
@@ -48,7 +49,8 @@ module _ (l : Layout) (s : List ℕ) (ad : Admitted l s) (id : ℕ) (body : List
 
   module _ (alone : bodyAlone l s id ≡ true) where
     -- another body lies before this one or past it, where this one is not empty
-    apart : 0 < f₀ .size → (j : ℕ) → j < functionsIn s → j ≢ id → Disjoint (funcOf l s j .begin) (funcOf l s j .size) (f₀ .begin) (f₀ .size)
+    apart : 0 < f₀ .size → (j : ℕ) → j < functionsIn s → j ≢ id
+        → Disjoint (funcOf l s j .begin) (funcOf l s j .size) (f₀ .begin) (f₀ .size)
     unfolding bodyAlone
     apart z j h d q =
         let g : Func = funcOf l s j in
@@ -77,7 +79,8 @@ module _ (l : Layout) (s : List ℕ) (ad : Admitted l s) (id : ℕ) (body : List
       body-other : (i : ℕ) → i < functionsIn s → i ≢ id → bodyOf l w i ≡ bodyOf l s i
       body-other i h d = elim (below-or 0 (f₀ .size)) [
         | inl z ↦ inplace.put-body l s ad (f₀ .begin) body written i h
-            (λ q. elim (below-or (funcOf l s i .begin) (threshold f₀)) [ inl g ↦ absurd (omega (arith, apart z i h d g, equal)) | inr g ↦ omega (arith, equal) ])
+            (λ q. elim (below-or (funcOf l s i .begin) (threshold f₀))
+            [ inl g ↦ absurd (omega (arith, apart z i h d g, equal)) | inr g ↦ omega (arith, equal) ])
         | inr z ↦ nothing body (omega arith)
       ]
         where
@@ -99,14 +102,16 @@ module _ (l : Layout) (s : List ℕ) (ad : Admitted l s) (id : ℕ) (body : List
             strings = stringCount-same l s w counts;
             string = λ i h. inplace.put-string l s ad (f₀ .begin) body written i h (λ q. absurd (omega (arith, string-in ad i h)));
             body = λ i h. elim (which (eqb i id)) [
-              | inl t ↦ let e : i ≡ id = eqb-true i id t in rw (e, eq-eqb id id refl) (inplace.own-body l s ad (f₀ .begin) body written id known refl (sym equal))
+              | inl t ↦ let e : i ≡ id = eqb-true i id t in rw (e, eq-eqb id id refl)
+                  (inplace.own-body l s ad (f₀ .begin) body written id known refl (sym equal))
               | inr t ↦ rw t (body-other i h (eqb-false i id t))
             ];
             flag = inplace.put-identifier l s ad (f₀ .begin) body written;
             rank = inplace.put-rank l s ad (f₀ .begin) body written;
             function = λ i h.
                 inplace.put-func l s ad (f₀ .begin) body written i h
-                ∙ func-eq (funcOf l s i) (functionAfter l s c i (funcOf l s i)) refl (sym (still (funcOf l s i .ptr))) (sym (still (funcOf l s i .begin)))
+                ∙ func-eq (funcOf l s i) (functionAfter l s c i (funcOf l s i)) refl (sym (still (funcOf l s i .ptr)))
+                (sym (still (funcOf l s i .begin)))
                 (elim (which (eqb i id)) [ inl t ↦ rw (t, equal, eqb-true i id t) | inr t ↦ rw t ]) (sym (still (funcOf l s i .info)));
             debug = inplace.put-same l s ad (f₀ .begin) body written .debug ∙ sym (still (debugIn l s));
             long = length-sets s (f₀ .begin) body ∙ sym (still (length s));
@@ -122,13 +127,14 @@ module _ (l : Layout) (s : List ℕ) (ad : Admitted l s) (id : ℕ) (body : List
       equal-hash : (r : ℕ) → r < identifiersIn s → hashIn l w r ≡ hashIn l s r
       equal-hash r h =
           let o = ordered l s in
-          inplace.put-hash l s ad (f₀ .begin) body written r (λ q. absurd (omega (arith, hash-in l s r h, o .over, o .storage, o .tail, ad .body id known .0)))
+          inplace.put-hash l s ad (f₀ .begin) body written r
+          (λ q. absurd (omega (arith, hash-in l s r h, o .over, o .storage, o .tail, ad .body id known .0)))
 
     -- ---- another length
 
     module _ (other : length body ≢ f₀ .size) (infos : infosOutside l s id ≡ true) (debug : debugPast l s id ≡ true)
-        (empty : both (eqb (f₀ .size) 0) (ltb 0 (length body)) ≡ false) (limit : movedBy l s id body (length s) ≤ sizeLimit)
-        (size : sizeFits l s id body ≡ true) (field : fieldsFit l s (movedBy l s id body) ≡ true) where
+        (empty : both (eqb (f₀ .size) 0) (ltb 0 (length body)) ≡ false) (limit : movedPastBody l s id body (length s) ≤ sizeLimit)
+        (size : sizeFits l s id body ≡ true) (field : fieldsFit l s (movedPastBody l s id body) ≡ true) where
       abbrev v : List ℕ
       v = resize l id body s
 
@@ -147,12 +153,16 @@ module _ (l : Layout) (s : List ℕ) (ad : Admitted l s) (id : ℕ) (body : List
           let i : ℕ = funcOf l s j .info in
           let n : both (leb (f₀ .begin) i) (ltb i (threshold f₀)) ≡ false =
           not-true (both (leb (f₀ .begin) i) (ltb i (threshold f₀)))
-          (all-at (λ k. not (both (leb (f₀ .begin) (funcOf l s k .info)) (ltb (funcOf l s k .info) (threshold f₀)))) (functionsIn s) j infos h) in
-          elim (both-false (leb (f₀ .begin) i) (ltb i (threshold f₀)) n) [ inl t ↦ leb-false (f₀ .begin) i t | inr t ↦ absurd (omega (arith, ltb-false i (threshold f₀) t)) ]
+          (all-at (λ k. not (both (leb (f₀ .begin) (funcOf l s k .info)) (ltb (funcOf l s k .info) (threshold f₀)))) (functionsIn s) j
+          infos h) in
+          elim (both-false (leb (f₀ .begin) i) (ltb i (threshold f₀)) n)
+          [ inl t ↦ leb-false (f₀ .begin) i t | inr t ↦ absurd (omega (arith, ltb-false i (threshold f₀) t)) ]
 
       debug-out : debugIn l s ≢ 0 → threshold f₀ ≤ debugIn l s
       unfolding debugPast
-      debug-out d = leb-true (threshold f₀) (debugIn l s) (imp-use (not (eqb (debugIn l s) 0)) (leb (threshold f₀) (debugIn l s)) debug (rw (ne-eqb (debugIn l s) 0 d)))
+      debug-out d =
+          leb-true (threshold f₀) (debugIn l s)
+          (imp-use (not (eqb (debugIn l s) 0)) (leb (threshold f₀) (debugIn l s)) debug (rw (ne-eqb (debugIn l s) 0 d)))
 
       small-size : f₀ .large ≡ false → length body < 2 ^ sizeRow l .width
       unfolding sizeFits
@@ -176,7 +186,7 @@ module _ (l : Layout) (s : List ℕ) (ad : Admitted l s) (id : ℕ) (body : List
         debug = debug-out;
         some = some;
         limit = rw grown limit;
-        field = fields-use l s (movedBy l s id body) field;
+        field = fields-use l s (movedPastBody l s id body) field;
         sized = small-size;
       }
 
@@ -221,21 +231,32 @@ module _ (l : Layout) (s : List ℕ) (ad : Admitted l s) (id : ℕ) (body : List
             debug = resizing.resized-debug l id body s ad asked;
             long = grown;
             tail = λ p h f b q.
-                let n : length v ≡ length s - threshold f₀ + (f₀ .begin + length body) = grown ∙ moved-high (threshold f₀) (f₀ .begin + length body) (length s) ends in
+                let n : length v ≡ length s - threshold f₀ + (f₀ .begin + length body)
+                = grown ∙ moved-high (threshold f₀) (f₀ .begin + length body) (length s) ends in
                 elim (below-or p (threshold f₀)) [
                   | inl g ↦
-                      let m : placeAfter l s c p ≡ p = moved-low (threshold f₀) (f₀ .begin + length body) p g in
-                      (rw (m, tailAt-same l s v words) h, omega (arith, m, n, b g, ends), resizing.resized-tail l id body s ad asked p h b q)
+                      let m : placeAfter l s c p ≡ p = moved-low (threshold f₀) (f₀ .begin + length body) p g in (
+                        rw (m, tailAt-same l s v words) h,
+                        omega (arith, m, n, b g, ends),
+                        resizing.resized-tail l id body s ad asked p h b
+                            q,
+                      )
                   | inr g ↦
-                      let m : placeAfter l s c p ≡ p - threshold f₀ + (f₀ .begin + length body) = moved-high (threshold f₀) (f₀ .begin + length body) p g in
-                      (rw (tailAt-same l s v words) (omega (arith, m)), omega (arith, m, n), resizing.resized-tail l id body s ad asked p h b q)
+                      let m : placeAfter l s c p ≡ p - threshold f₀ + (f₀ .begin + length body)
+                      = moved-high (threshold f₀) (f₀ .begin + length body) p g in (
+                        rw (tailAt-same l s v words) (omega (arith, m)),
+                        omega (arith, m, n),
+                        resizing.resized-tail l id body s ad asked p h
+                            b q,
+                      )
                 ];
           }
 
       resize-hash : (r : ℕ) → r < identifiersIn s → hashIn l v r ≡ hashIn l s r
       resize-hash = resizing.resized-hash l id body s ad asked
 
-  sealed-promise : (x : List ℕ) → Kept l s x c → ((r : ℕ) → r < identifiersIn s → hashIn l x r ≡ hashIn l s r) → Promise l s (sealed (lengthed x)) c
+  sealed-promise : (x : List ℕ) → Kept l s x c → ((r : ℕ) → r < identifiersIn s → hashIn l x r ≡ hashIn l s r)
+      → Promise l s (sealed (lengthed x)) c
   sealed-promise x k h = record {
     kept = kept-after l s x (sealed (lengthed x)) c k (final-calm l x (k .admitted));
     hash = λ r g. final-hash l x (k .admitted) r (rw (k .identifiers) g) ∙ h r g;
@@ -244,16 +265,20 @@ module _ (l : Layout) (s : List ℕ) (ad : Admitted l s) (id : ℕ) (body : List
 
   -- ---- both ways
 
-  pub body-promise : bodyAlone l s id ≡ true → infosOutside l s id ≡ true → debugPast l s id ≡ true → both (eqb (f₀ .size) 0) (ltb 0 (length body)) ≡ false
-      → movedBy l s id body (length s) ≤ sizeLimit → sizeFits l s id body ≡ true → fieldsFit l s (movedBy l s id body) ≡ true
-      → Promise l s (patched l s id body) c
-  unfolding patched
+  pub body-promise : bodyAlone l s id ≡ true → infosOutside l s id ≡ true → debugPast l s id ≡ true
+      → both (eqb (f₀ .size) 0) (ltb 0 (length body)) ≡ false
+      → movedPastBody l s id body (length s) ≤ sizeLimit → sizeFits l s id body ≡ true
+      → fieldsFit l s (movedPastBody l s id body) ≡ true
+      → Promise l s (patchedBody l s id body) c
+  unfolding patchedBody
   body-promise alone infos debug empty limit size field = go (eqb (length body) (f₀ .size)) refl
     where
-      go : (b : Bool) → eqb (length body) (f₀ .size) ≡ b → Promise l s (sealed (lengthed (pick b (sets s (f₀ .begin) body) (resize l id body s)))) c
+      go : (b : Bool) → eqb (length body) (f₀ .size) ≡ b
+          → Promise l s (sealed (lengthed (pick b (sets s (f₀ .begin) body) (resize l id body s)))) c
       go true t =
           let e : length body ≡ f₀ .size = eqb-true (length body) (f₀ .size) t in
           sealed-promise (sets s (f₀ .begin) body) (equal-kept alone e) (equal-hash alone e)
       go false t =
           let d : length body ≢ f₀ .size = eqb-false (length body) (f₀ .size) t in
-          sealed-promise (resize l id body s) (resize-kept alone d infos debug empty limit size field) (resize-hash alone d infos debug empty limit size field)
+          sealed-promise (resize l id body s) (resize-kept alone d infos debug empty limit size field)
+          (resize-hash alone d infos debug empty limit size field)

@@ -1,32 +1,29 @@
 -- Writes behind a patch that change no meaning: the file length and the footer.
-use mathlib.Core.Path.{_≡_, ap, sym, _∙_}
+use mathlib.Core.Path.{_≡_, ap, _∙_}
 use mathlib.Core.List.{List}
 use Prim.Native.Nat.{ℕ, _+_, _-_, _*_, _≤_, _<_}
 use native.Mathlib.Omega.{arith}
-use lib.ListN.{length, getD, take, List·getD-append}
-use lib.Seq.{sets, length-sets, length-take-le, getD-take, take-at, drop-at}
-use Rattle.bits.specs.Bytes.{bytesAt, bytesOf, wordAt}
-use Rattle.bits.proofs.ListLaws.{AllBelow, below-append, below-take, below-sets, below-bytesOf}
-use Rattle.bits.proofs.ByteLaws.{numberAt-ext}
-use Rattle.bits.proofs.WriteLaws.{numberAt-back}
+use lib.ListN.{length}
+use Rattle.bits.specs.Bytes.{bytesAt}
+use Rattle.bits.specs.Outcome.{made}
+use Rattle.bits.proofs.ListLaws.{AllBelow}
 use Rattle.format.specs.declared.Layout.{Layout}
 use Rattle.format.specs.Table as table
-use Rattle.sha1.specs.Sha1.{digest}
-use Rattle.sha1.proofs.BlockLaws.{digest-below}
-use Rattle.footer.specs.Footer.{footerLength, footed}
-use Rattle.footer.specs.Finalize.{lengthed, sealed}
+use Rattle.footer.specs.Footer.{footerLength}
+use Rattle.footer.specs.Finalize.{lengthed, sealed, finalizeOf, Sealed}
 use Rattle.footer.proofs.FinalizeLaws.{finalize-within, finalize-length, finalize-keeps}
+use Rattle.footer.proofs.SealLaws.{finalize-below, finalize-sealed}
 use Rattle.image.specs.Sections.{functionsIn, kindsIn, identifiersIn, stringsIn, debugIn, hashesAt, smallAt, storageAt, tailAt}
 use Rattle.image.specs.Strings.{placeAt, sizeOf, stringOf}
 use Rattle.image.specs.Kinds.{isIdentifier, rankOf, hashIn}
 use Rattle.image.specs.Functions.{Func, funcOf, bodyOf}
 use Rattle.image.specs.Admitted.{Admitted}
 use Rattle.image.proofs.PlaceLaws.{records-at, debug-at, debug-past, ordered, string-in}
-use Rattle.image.proofs.ReadLaws.{Agree, bytes-agree, number-agree, functions-same, kindCount-same, identifierCount-same, stringCount-same, hash-same, identifier-same, rank-same, counts-of, tailAt-same, string-same}
-use Rattle.image.proofs.KeepLaws.{Same, funcs-same, same-admitted}
-use Rattle.footer.proofs.FooterLaws.{length-footed}
+use Rattle.edits.proofs.ReadLaws.{Agree, bytes-agree, number-agree, functions-same, kindCount-same, identifierCount-same}
+use Rattle.edits.proofs.ReadLaws.{stringCount-same, hash-same, identifier-same, rank-same, counts-of, tailAt-same, string-same}
+use Rattle.edits.proofs.KeepLaws.{Same, funcs-same, same-admitted}
 use Rattle.patches.specs.Patches.{Target}
-use Rattle.patches.specs.Promise.{placeAfter, Kept, Sealed}
+use Rattle.patches.specs.Promise.{placeAfter, Kept}
 
 -- t reads as s does: another file length or footer, perhaps other hashes
 pub record Calm (l : Layout) (s t : List ℕ) : Type 0 where
@@ -60,14 +57,18 @@ module _ (l : Layout) (s t : List ℕ) (ad : Admitted l s) (long : length t ≡ 
         words = λ p h k. head p (omega arith) (omega (arith, o .kinds, o .hashes));
         debug =
             let d = table.placeIn l (table.debugRow l) in
-            number-agree s t 36 (hashesAt l s) head d 4 (omega (arith, debug-past l)) (omega (arith, debug-at l, o .kinds, o .hashes));
+            let w = table.debugRow l .width in
+            number-agree s t 36 (hashesAt l s) head d w (omega (arith, debug-past l)) (omega (arith, debug-at l, o .kinds, o .hashes));
         records = λ p h k. head p (omega (arith, records-at l)) (omega (arith, o .hashes));
         kinds = λ p h k. head p (omega (arith, o .kinds)) k;
         tables = λ p h k. rest p h (omega (arith, o .tail, ad .room));
         ascii = λ i h w j k.
             let c : sizeOf (placeAt l s i) ≡ placeAt l s i .count * 1 = rw w in
-            rw (rest (storageAt l s + placeAt l s i .at + j) (omega (arith, o .over, o .storage)) (omega (arith, string-in ad i h, ad .room))) (ad .narrow i h w j k);
-        headers = λ i h u p f k. rest p (omega (arith, o .over, o .storage, o .tail, ad .header i h u .0)) (omega (arith, ad .header i h u .1));
+            rw
+            (rest (storageAt l s + placeAt l s i .at + j) (omega (arith, o .over, o .storage)) (omega (arith, string-in ad i h, ad .room)))
+            (ad .narrow i h w j k);
+        headers = λ i h u p f k.
+            rest p (omega (arith, o .over, o .storage, o .tail, ad .header i h u .0)) (omega (arith, ad .header i h u .1));
       }
 
   pub calm : Calm l s t
@@ -89,7 +90,8 @@ module _ (l : Layout) (s t : List ℕ) (ad : Admitted l s) (long : length t ≡ 
         body = λ i h.
             let (x, y) = ad .body i h in
             ap (λ (f : Func). bytesAt t (f .begin) (f .size)) (funcs-same l s t ad same i h)
-            ∙ bytes-agree s t (smallAt l s) (length s - footerLength) rest (funcOf l s i .begin) (funcOf l s i .size) (omega (arith, o .over, o .storage, o .tail)) (omega arith);
+            ∙ bytes-agree s t (smallAt l s) (length s - footerLength) rest (funcOf l s i .begin) (funcOf l s i .size)
+            (omega (arith, o .over, o .storage, o .tail)) (omega arith);
         flag = identifier-same l s t counts (same .kinds);
         rank = rank-same l s t counts (same .kinds);
         function = funcs-same l s t ad same;
@@ -103,28 +105,24 @@ module _ (l : Layout) (s : List ℕ) (ad : Admitted l s) where
   abbrev t : List ℕ
   t = sealed (lengthed s)
 
-  long : 148 ≤ length s
-  long = omega (arith, ad .least, records-at l)
+  long : table.headerLength + footerLength ≤ length s
+  long = ad .least
+
+  done : finalizeOf s ≡ made t
+  done = finalize-within s (omega (arith, long)) (ad .most)
 
   final-long : length t ≡ length s
-  final-long = finalize-length s t (finalize-within s (omega (arith, long)) (ad .most))
+  final-long = finalize-length s t done
 
-  keeps : (from to : ℕ) → to ≤ length s - footerLength → (table.fileLength .at < to → table.fileLength .at + table.fileLength .width ≤ from) → Agree s t from to
-  keeps from to h o p f k = finalize-keeps s t (finalize-within s (omega (arith, long)) (ad .most)) p (omega arith) (λ q. omega (arith, o (omega arith)))
-
-  final-below : AllBelow 256 t
-  unfolding sealed footed lengthed
-  final-below =
-      let u : List ℕ = sets s 32 (bytesOf 4 (length s)) in
-      below-append 256 (omega arith) (take (length u - footerLength) u) (digest (take (length u - footerLength) u))
-      (below-take 256 (omega arith) (length u - footerLength) u (below-sets 256 (omega arith) (bytesOf 4 (length s)) s 32 (below-bytesOf 4 (length s)) (ad .bytes)))
-      (digest-below (take (length u - footerLength) u))
+  keeps : (from to : ℕ) → to ≤ length s - footerLength
+      → (table.fileLength .at < to → table.fileLength .at + table.fileLength .width ≤ from) → Agree s t from to
+  keeps from to h o p f k = finalize-keeps s t done p (omega arith) (λ q. omega (arith, o (omega arith)))
 
   -- it reads as it did, and every hash slot stays
   pub final-calm : Calm l s t
   final-calm =
       let o = ordered l s in
-      calm l s t ad final-long final-below (keeps 0 32 (omega (arith, long)) (λ q. absurd (omega arith)))
+      calm l s t ad final-long (finalize-below s t done (ad .bytes)) (keeps 0 32 (omega (arith, long)) (λ q. absurd (omega arith)))
       (keeps 36 (hashesAt l s) (omega (arith, o .small, o .over, o .storage, o .tail, ad .room)) (λ q. omega arith))
       (keeps (smallAt l s) (length s - footerLength) (omega arith) (λ q. omega (arith, o .kinds, o .hashes, o .small)))
 
@@ -132,38 +130,12 @@ module _ (l : Layout) (s : List ℕ) (ad : Admitted l s) where
   final-hash r h =
       let o = ordered l s in
       hash-same l s t (keeps 40 56 (omega (arith, long)) (λ q. omega arith))
-      (keeps (hashesAt l s) (smallAt l s) (omega (arith, o .over, o .storage, o .tail, ad .room)) (λ q. omega (arith, o .kinds, o .hashes))) r h
+      (keeps (hashesAt l s) (smallAt l s) (omega (arith, o .over, o .storage, o .tail, ad .room))
+      (λ q. omega (arith, o .kinds, o .hashes))) r h
 
   -- the file length and the footer are those of 01
-  length-lengthed : length (lengthed s) ≡ length s
-  unfolding lengthed
-  length-lengthed = length-sets s (table.fileLength .at) (bytesOf (table.fileLength .width) (length s))
-
-  byte : (p : ℕ) → p < length s - footerLength → getD t p 0 ≡ getD (lengthed s) p 0
-  unfolding sealed footed
-  byte p h =
-      let n : length (lengthed s) ≡ length s = length-lengthed in
-      List·getD-append (take (length (lengthed s) - footerLength) (lengthed s)) (digest (take (length (lengthed s) - footerLength) (lengthed s))) 0 p
-      (rw (length-take-le (length (lengthed s) - footerLength) (lengthed s) (omega arith)) (omega arith))
-      ∙ getD-take (length (lengthed s) - footerLength) (lengthed s) p 0 (omega arith)
-
-  length-written : wordAt t (table.fileLength .at) ≡ length s
-  unfolding lengthed
-  length-written =
-      numberAt-ext t (sets s 32 (bytesOf 4 (length s))) 4 32 32 (λ j h. byte (32 + j) (omega (arith, long)))
-      ∙ numberAt-back s 32 4 (length s) (omega (arith, long)) (omega (arith, ad .most))
-
   pub final-sealed : Sealed t
-  unfolding sealed footed
-  final-sealed =
-      let u : List ℕ = lengthed s in
-      let b : List ℕ = take (length u - footerLength) u in
-      let f : length t ≡ length b + footerLength = length-footed b in
-      let n : length b ≡ length t - footerLength = omega (arith, f) in
-      record {
-        fileLength = length-written ∙ sym final-long;
-        footer = drop-at b (digest b) (length t - footerLength) n ∙ ap digest (sym (take-at b (digest b) (length t - footerLength) n));
-      }
+  final-sealed = finalize-sealed s t done (omega (arith, long))
 
 -- ---- behind a patch
 

@@ -1,39 +1,44 @@
--- A step is refused with n exactly where fault n is there and none before it in 01's order.
+-- A step is accepted exactly where no fault is there, and refused with n exactly where fault n is there and none before it in 01's order.
 use mathlib.Core.Path.{_≡_, refl, sym, _∙_}
 use mathlib.Core.Bool.{Bool, true, false, not}
-use mathlib.Core.Logic.{inl, inr, _↔_}
+use mathlib.Core.Logic.{_⊎_, inl, inr, _↔_}
 use mathlib.Core.List.{List, [], _∷_, _++_, append-assoc}
-use Prim.Native.Nat.{ℕ, _<_}
+use Prim.Native.Nat.{ℕ, _≤_, _<_}
 use native.Mathlib.Omega.{arith}
-use borrow.Author.Tests.{eq-eqb, eqb-true, leb-true, le-leb, ltb-true, lt-ltb, not-true}
+use borrow.Author.Tests.{eq-eqb, eqb-true, eqb-false, leb-true, le-leb, ltb-true, lt-ltb, not-true}
 use lib.Dec.{leb, ltb, eqb}
 use lib.ListN.{length}
+use Rattle.refusals.specs.Order.{turnIn}
 use Rattle.bits.specs.Choice.{pick, both, Check, check, judge}
-use Rattle.bits.specs.Outcome.{refused, made, roomed}
+use Rattle.bits.specs.Outcome.{Outcome, refused, made, roomed}
 use Rattle.bits.proofs.TestLaws.{both-0, both-1, either-true}
-use Rattle.bits.proofs.JudgeLaws.{rising, given, numbered, Shows, Shows.nothing, Shows._also_, shows-append, shows-map, given-first, given-last, judge-append}
+use Rattle.bits.proofs.JudgeLaws.{rising, given, numbered, Shows, Shows.nothing, Shows._also_, shows-append, shows-map}
+use Rattle.bits.proofs.JudgeLaws.{given-first, given-last, judge-append}
+use Rattle.bits.proofs.OutcomeLaws.{roomed-more}
 use Rattle.bits.proofs.ListLaws.{AllBelow}
 use Rattle.format.specs.declared.Layout.{Layout}
 use Rattle.image.specs.Sections.{functionsIn, stringsIn}
 use Rattle.image.specs.Functions.{funcOf}
-use Rattle.image.specs.Fit.{fieldsFit}
+use Rattle.edits.specs.Fit.{fieldsFit}
 use Rattle.image.specs.Admission.{checks, refusal}
 use Rattle.image.proofs.AdmitLaws.{admitted}
 use Rattle.image.proofs.FaultLaws as faults
 use Rattle.admission.proofs.AnswerLaws.{judged-none}
 use Rattle.unicode.specs.Utf8.{isUtf8, utf16}
-use Rattle.find_string.specs.Find.{findId}
-use Rattle.string_patch.specs.Patch as string
+use Rattle.string_find.specs.Find.{findId}
+use Rattle.string_in_place.specs.Patch as string
 use Rattle.strings.specs.Patch as strings
 use Rattle.functions.specs.Patch as functions
 use Rattle.patches.specs.Patches.{Patch, byId, byValue, toBody, outcomeOf, Step, stepOf, targetOf}
-use Rattle.patches.specs.Lists.{InBytes, RefusedExactly}
-use Rattle.patches.specs.Faults.{turnOf, goesTo, PatchFault}
-use Rattle.patches.specs.Faults.PatchFault.{badValue, badOld, badNew, shares, within, infoInside, debugBelow, wasEmpty, absent, overLimit, overField, overSize, noRoom, badImage, noString, noFunction}
+use Rattle.patches.specs.Lists.{InBytes, Accepted, FirstFault, Judged}
+use Rattle.patches.specs.Faults.{orderOf, goesTo, PatchFault}
+use Rattle.patches.specs.Faults.PatchFault.{badValue, badOld, badNew, shares, within, infoInside, debugBelow, wasEmpty}
+use Rattle.patches.specs.Faults.PatchFault.{absent, overLimit, overField, overSize, noRoom, badImage, noString, noFunction}
 use Rattle.patches.proofs.StepLaws.{patch-promise}
-use Rattle.patches.proofs.OrderLaws.{inTurns, judged-in-order}
+use Rattle.patches.proofs.OrderLaws.{inTurns, not-zero, some, judged-in-order}
 use Rattle.patches.proofs.FindLaws.{find-least, find-none}
-use Rattle.patches.proofs.RefusalLaws.{size-wrong, size-failed, fields-wrong, fields-failed, alone-wrong, alone-failed, infos-decide, debug-decide, new-length, patch-wrong, patch-failed}
+use Rattle.patches.proofs.RefusalLaws.{size-wrong, size-failed, fields-wrong, fields-failed, alone-wrong, alone-failed}
+use Rattle.patches.proofs.RefusalLaws.{infos-decide, debug-decide, new-length, patch-wrong, patch-failed}
 
 -- ---- the checks of a step: those of the patch, and the room
 
@@ -50,9 +55,9 @@ ownChecks l s (toBody id body) =
     ∷ check 9 (not (functions.infosOutside l s id))
     ∷ check 9 (not (functions.debugPast l s id))
     ∷ check 10 (both (eqb (funcOf l s id .size) 0) (ltb 0 (length body)))
-    ∷ check 11 (ltb 67_108_864 (functions.movedBy l s id body (length s)))
+    ∷ check 11 (ltb 67_108_864 (functions.movedPastBody l s id body (length s)))
     ∷ check 12 (not (functions.sizeFits l s id body))
-    ∷ check 12 (not (fieldsFit l s (functions.movedBy l s id body)))
+    ∷ check 12 (not (fieldsFit l s (functions.movedPastBody l s id body)))
     ∷ []
 
 module _ (l : Layout) (s : List ℕ) (room : ℕ) where
@@ -64,7 +69,8 @@ module _ (l : Layout) (s : List ℕ) (room : ℕ) where
 
   -- ---- a check that is met is a fault
 
-  limit-shown : (id : ℕ) (value : List ℕ) (p : Patch) → goesTo l s p (length s) ≡ string.newLength l s id value → ltb 67_108_864 (string.newLength l s id value) ≡ true → PatchFault l s room p 11
+  limit-shown : (id : ℕ) (value : List ℕ) (p : Patch) → goesTo l s p (length s) ≡ string.newLength l s id value
+      → ltb 67_108_864 (string.newLength l s id value) ≡ true → PatchFault l s room p 11
   limit-shown id value p e t = overLimit p (rw e (ltb-true 67_108_864 (string.newLength l s id value) t))
 
   share-shown : (id : ℕ) (body : List ℕ) → functions.bodyAlone l s id ≡ false → PatchFault l s room (toBody id body) 9
@@ -78,7 +84,8 @@ module _ (l : Layout) (s : List ℕ) (room : ℕ) where
       (λ t. noString id value (leb-true (stringsIn s) id t))
       also (λ t. badValue id value (not-true (isUtf8 value) t))
       also (λ t. limit-shown id value (byId id value) (sym (new-length l s id value)) t)
-      also (λ t. let (j, h, u, w) = patch-wrong l s id value (not-true (string.patchFits l s id value) t) in overField (byId id value) j h u w)
+      also (λ t. let (j, h, u, w) = patch-wrong l s id value (not-true (string.patchFits l s id value) t) in overField (byId id value) j h
+      u w)
       also (λ t. noRoom (byId id value) (ltb-true room _ t))
       also nothing
   own-shows (byValue old new) =
@@ -87,25 +94,30 @@ module _ (l : Layout) (s : List ℕ) (room : ℕ) where
       also (λ t. badNew old new (not-true (isUtf8 new) t))
       also (λ t. absent old new (λ i h. find-least l s (utf16 old) i (omega (arith, leb-true (stringsIn s) id t))))
       also (λ t. limit-shown id new (byValue old new) (sym (new-length l s id new)) t)
-      also (λ t. let (j, h, u, w) = patch-wrong l s id new (not-true (string.patchFits l s id new) t) in overField (byValue old new) j h u w)
+      also (λ t. let (j, h, u, w) = patch-wrong l s id new (not-true (string.patchFits l s id new) t) in overField (byValue old new) j h u
+      w)
       also (λ t. noRoom (byValue old new) (ltb-true room _ t))
       also nothing
   own-shows (toBody id body) =
       (λ t. noFunction id body (leb-true (functionsIn s) id t))
       also (λ t. share-shown id body (not-true (functions.bodyAlone l s id) t))
-      also (λ t. let (j, h, (x, y)) = infos-decide l s id .wrong (not-true (functions.infosOutside l s id) t) in infoInside id body j h x y)
+      also (λ t. let (j, h, (x, y)) = infos-decide l s id .wrong (not-true (functions.infosOutside l s id) t) in infoInside id body j h x
+      y)
       also (λ t. let (x, y) = debug-decide l s id .wrong (not-true (functions.debugPast l s id) t) in debugBelow id body x y)
       also (λ t.
       wasEmpty id body (eqb-true (funcOf l s id .size) 0 (both-0 (eqb (funcOf l s id .size) 0) (ltb 0 (length body)) t))
       (ltb-true 0 (length body) (both-1 (eqb (funcOf l s id .size) 0) (ltb 0 (length body)) t)))
-      also (λ t. overLimit (toBody id body) (ltb-true 67_108_864 (functions.movedBy l s id body (length s)) t))
+      also (λ t. overLimit (toBody id body) (ltb-true 67_108_864 (functions.movedPastBody l s id body (length s)) t))
       also (λ t. let (x, y) = size-wrong l s id body (not-true (functions.sizeFits l s id body) t) in overSize id body x y)
-      also (λ t. let (j, h, u, w) = fields-wrong l s (functions.movedBy l s id body) (not-true (fieldsFit l s (functions.movedBy l s id body)) t) in overField (toBody id body) j h u w)
+      also (λ t. let (j, h, u, w) = fields-wrong l s (functions.movedPastBody l s id body)
+      (not-true (fieldsFit l s (functions.movedPastBody l s id body)) t) in overField (toBody id body) j h u w)
       also (λ t. noRoom (toBody id body) (ltb-true room _ t))
       also nothing
 
   all-shows : (p : Patch) → Shows (PatchFault l s room p) (allChecks p)
-  all-shows p = shows-append (PatchFault l s room p) (checks l s) (ownChecks l s p ++ roomCheck p) (shows-map _ (PatchFault l s room p) (checks l s) (badImage p) (faults.shows l s)) (own-shows p)
+  all-shows p =
+      shows-append (PatchFault l s room p) (checks l s) (ownChecks l s p ++ roomCheck p)
+      (shows-map _ (PatchFault l s room p) (checks l s) (badImage p) (faults.shows l s)) (own-shows p)
 
   -- ---- and a fault's check is met
 
@@ -128,18 +140,42 @@ module _ (l : Layout) (s : List ℕ) (room : ℕ) where
   own-gives p n (overLimit (byValue old new) h) =
       let id : ℕ = findId l s (utf16 old) in
       given-last n (checks l s) _ (simp (lt-ltb 67_108_864 (string.newLength l s id new) (rw (new-length l s id new) h), either-true))
-  own-gives p n (overLimit (toBody id body) h) = given-last n (checks l s) _ (simp (lt-ltb 67_108_864 (functions.movedBy l s id body (length s)) h, either-true))
-  own-gives p n (overField (byId id value) j h u w) = given-last n (checks l s) _ (simp (patch-failed l s id value (j, h, u, w), either-true))
-  own-gives p n (overField (byValue old new) j h u w) = given-last n (checks l s) _ (simp (patch-failed l s (findId l s (utf16 old)) new (j, h, u, w), either-true))
-  own-gives p n (overField (toBody id body) j h u w) = given-last n (checks l s) _ (simp (fields-failed l s (functions.movedBy l s id body) (j, h, u, w), either-true))
+  own-gives p n (overLimit (toBody id body) h) =
+      given-last n (checks l s) _ (simp (lt-ltb 67_108_864 (functions.movedPastBody l s id body (length s)) h, either-true))
+  own-gives p n (overField (byId id value) j h u w) =
+      given-last n (checks l s) _ (simp (patch-failed l s id value (j, h, u, w), either-true))
+  own-gives p n (overField (byValue old new) j h u w) =
+      given-last n (checks l s) _ (simp (patch-failed l s (findId l s (utf16 old)) new (j, h, u, w), either-true))
+  own-gives p n (overField (toBody id body) j h u w) =
+      given-last n (checks l s) _ (simp (fields-failed l s (functions.movedPastBody l s id body) (j, h, u, w), either-true))
   own-gives p n (overSize id body t h) = given-last n (checks l s) _ (simp (size-failed l s id body t h, either-true))
   own-gives p n (noRoom q h) =
-      given-last n (checks l s) (ownChecks l s p ++ roomCheck p) (given-last n (ownChecks l s p) (roomCheck p) (rw (lt-ltb room (goesTo l s p (length s)) h)))
+      given-last n (checks l s) (ownChecks l s p ++ roomCheck p)
+      (given-last n (ownChecks l s p) (roomCheck p) (rw (lt-ltb room (goesTo l s p (length s)) h)))
+
+  -- ---- the checks stand in 01's order
+
+  rises : (p : Patch) → rising 1 (length (orderOf p)) (inTurns (orderOf p) (allChecks p)) ≡ true
+  unfolding checks turnIn
+  rises (byId id value) = refl
+  rises (byValue old new) = refl
+  rises (toBody id body) = refl
+
+  -- so that no fault has the number 0
+  pub fault-numbered : (p : Patch) (n : ℕ) → PatchFault l s room p n → 0 < n
+  fault-numbered p = not-zero (orderOf p) (PatchFault l s room p) (allChecks p) (rises p) (all-shows p) (own-gives p)
+
+  fault-judged : (p : Patch) (n : ℕ) → PatchFault l s room p n → 0 < judge (allChecks p)
+  fault-judged p = some (orderOf p) (PatchFault l s room p) (allChecks p) (rises p) (all-shows p) (own-gives p)
+
+  first-judged : (p : Patch) (n : ℕ) → 0 < n → judge (allChecks p) ≡ n ↔ FirstFault l s (record { patch = p; room = room }) n
+  first-judged p = judged-in-order (orderOf p) (PatchFault l s room p) (allChecks p) (rises p) (all-shows p) (own-gives p)
 
 -- ---- the outcome of a step, and what is judged
 
 roomed-judged : (xs : List Check) (t : List ℕ) (m room n : ℕ) → numbered xs ≡ true → (judge xs ≡ 0 → length t ≡ m) → 0 < n
-    → roomed room (pick (eqb (judge xs) 0) (made t) (refused (judge xs))) ≡ refused n ↔ judge (xs ++ (check 13 (ltb room m) ∷ [])) ≡ n
+    → roomed room (pick (eqb (judge xs) 0) (made t) (refused (judge xs))) ≡ refused n
+    ↔ judge (xs ++ (check 13 (ltb room m) ∷ [])) ≡ n
 unfolding roomed judge
 roomed-judged xs t m room n num long some = rw (judge-append xs (check 13 (ltb room m) ∷ []) num) (go (eqb (judge xs) 0) refl)
   where
@@ -147,22 +183,53 @@ roomed-judged xs t m room n num long some = rw (judge-append xs (check 13 (ltb r
     fits true = (λ e. cc, λ e. rw e)
     fits false = (λ e. absurd (let z : _≡_ {A = ℕ} 0 1 = cc in omega arith), λ e. absurd (omega arith))
 
-    go : (b : Bool) → eqb (judge xs) 0 ≡ b → roomed room (pick b (made t) (refused (judge xs))) ≡ refused n ↔ pick b (pick (ltb room m) 13 0) (judge xs) ≡ n
+    go : (b : Bool) → eqb (judge xs) 0 ≡ b → roomed room (pick b (made t) (refused (judge xs))) ≡ refused n
+        ↔ pick b (pick (ltb room m) 13 0) (judge xs) ≡ n
     go true e = rw (long (eqb-true (judge xs) 0 e)) (fits (ltb room m))
     go false e = (λ q. cc, λ q. rw q)
 
+-- an outcome is one or the other
+pub either-way : (o : Outcome) → ((n : ℕ) × (o ≡ refused n)) ⊎ ((t : List ℕ) × (o ≡ made t))
+either-way (refused n) = inl (n, refl)
+either-way (made t) = inr (t, refl)
+
+pub not-both : (o : Outcome) (n : ℕ) (t : List ℕ) → o ≡ refused n → o ≡ made t → ⊥
+not-both o n t e f = let z : _≡_ {A = ℕ} 0 1 = cc in omega arith
+
+-- what is refused by its number, or for want of room, is not refused with 0
+numbered-refusal : (m room n : ℕ) (t : List ℕ) → roomed room (pick (eqb m 0) (made t) (refused m)) ≡ refused n → 0 < n
+unfolding roomed
+numbered-refusal m room n t e = go (eqb m 0) refl e
+  where
+    short : (c : Bool) → pick c (refused 13) (made t) ≡ refused n → 0 < n
+    short true e = let z : 13 ≡ n = cc in omega arith
+    short false e = absurd (let z : _≡_ {A = ℕ} 0 1 = cc in omega arith)
+
+    go : (b : Bool) → eqb m 0 ≡ b → roomed room (pick b (made t) (refused m)) ≡ refused n → 0 < n
+    go true h e = short (ltb room (length t)) e
+    go false h e = let z : m ≡ n = cc in omega (arith, eqb-false m 0 h)
+
+-- a longer room changes no answer but 13
+room-more : (l : Layout) (s : List ℕ) (p : Patch) (room more : ℕ) → room ≤ more
+    → (stepOf l s (record { patch = p; room = room }) ≡ refused 13 → ⊥)
+    → stepOf l s (record { patch = p; room = more }) ≡ stepOf l s (record { patch = p; room = room })
+unfolding stepOf
+room-more l s p room more h f = roomed-more (outcomeOf l s p) room more h f
+
 -- what a patch makes where it is accepted
 abbrev resultOf : Layout → List ℕ → Patch → List ℕ
-resultOf l s (byId id value) = string.patched l s id value
-resultOf l s (byValue old new) = string.patched l s (findId l s (utf16 old)) new
-resultOf l s (toBody id body) = functions.patched l s id body
+resultOf l s (byId id value) = string.patchedString l s id value
+resultOf l s (byValue old new) = string.patchedString l s (findId l s (utf16 old)) new
+resultOf l s (toBody id body) = functions.patchedBody l s id body
 
 module _ (l : Layout) (s : List ℕ) (bytes : AllBelow 256 s) (p : Step) (in-bytes : InBytes (p .patch)) where
   abbrev own : List Check
   own = checks l s ++ ownChecks l s (p .patch)
 
-  outcome-is : (q : Patch) → outcomeOf l s q ≡ pick (eqb (judge (checks l s ++ ownChecks l s q)) 0) (made (resultOf l s q)) (refused (judge (checks l s ++ ownChecks l s q)))
-  unfolding outcomeOf strings.patchById strings.byIdRefusal strings.patchByValue strings.byValueRefusal functions.patchBody functions.bodyRefusal
+  outcome-is : (q : Patch) → outcomeOf l s q ≡ pick (eqb (judge (checks l s ++ ownChecks l s q)) 0) (made (resultOf l s q))
+      (refused (judge (checks l s ++ ownChecks l s q)))
+  unfolding outcomeOf strings.patchById strings.byIdRefusal strings.patchByValue strings.byValueRefusal functions.patchBody
+      functions.bodyRefusal
   outcome-is (byId id value) = refl
   outcome-is (byValue old new) = refl
   outcome-is (toBody id body) = refl
@@ -188,15 +255,27 @@ module _ (l : Layout) (s : List ℕ) (bytes : AllBelow 256 s) (p : Step) (in-byt
       rw (outcome-is (p .patch), ← append-assoc (checks l s) (ownChecks l s (p .patch)) (roomCheck l s (p .room) (p .patch)))
       (roomed-judged own (resultOf l s (p .patch)) (goesTo l s (p .patch) (length s)) (p .room) n (all-numbered (p .patch)) long h)
 
-  rises : (q : Patch) → rising 1 14 (inTurns (allChecks l s (p .room) q)) ≡ true
-  unfolding checks turnOf
-  rises (byId id value) = refl
-  rises (byValue old new) = refl
-  rises (toBody id body) = refl
+  -- no refusal has the number 0
+  refused-some : (n : ℕ) → stepOf l s p ≡ refused n → 0 < n
+  unfolding stepOf
+  refused-some n e = numbered-refusal (judge own) (p .room) n (resultOf l s (p .patch)) (rw (outcome-is (p .patch)) at e)
 
-  -- a step is refused with n exactly where fault n is there, and none whose turn comes before
-  pub refused-exactly : RefusedExactly l s p
-  refused-exactly n h =
-      let (a, b) = refused-judged n h in
-      let (c, d) = judged-in-order (PatchFault l s (p .room) (p .patch)) 14 (allChecks l s (p .room) (p .patch)) (rises (p .patch)) (all-shows l s (p .room) (p .patch)) (own-gives l s (p .room) (p .patch)) n h in
-      (λ e. c (a e), λ x. b (d x))
+  -- a step is refused with n exactly where fault n is there, and none that is due before it
+  pub refused-exactly : (n : ℕ) → stepOf l s p ≡ refused n ↔ FirstFault l s p n
+  refused-exactly n = (
+    λ e. let h = refused-some n e in first-judged l s (p .room) (p .patch) n h .0 (refused-judged n h .0 e),
+    λ x. let h =
+        fault-numbered l s (p .room) (p .patch) n (x .0) in refused-judged n h .1 (first-judged l s (p .room) (p .patch) n h .1 x),
+  )
+
+  -- it is accepted exactly where no fault is there
+  pub accepted-exactly : Accepted l s p ↔ ((n : ℕ) → PatchFault l s (p .room) (p .patch) n → ⊥)
+  accepted-exactly = (
+    λ y n x. let m : ℕ = judge (allChecks l s (p .room) (p .patch)) in
+        not-both (stepOf l s p) m (y .0) (refused-judged m (fault-judged l s (p .room) (p .patch) n x) .1 refl) (y .1),
+    λ f. elim (either-way (stepOf l s p)) [ inl (n, e) ↦ absurd (f n (refused-exactly n .0 e .0)) | inr y ↦ y ],
+  )
+
+  -- what is promised of a step
+  pub step-judged : Judged l s p
+  step-judged = record { accepted = accepted-exactly; refusedWith = refused-exactly; longer = room-more l s (p .patch) (p .room) }

@@ -13,7 +13,7 @@ use Rattle.format.specs.declared.Layout.{Layout}
 use Rattle.footer.specs.Footer.{same}
 use Rattle.image.specs.Sections.{stringsIn}
 use Rattle.image.specs.Strings.{stringOf, unitsOf}
-use Rattle.find_string.specs.Find.{findFrom, findId}
+use Rattle.string_find.specs.Find.{findFrom, findId}
 
 -- two lists of numbers are the same exactly where the test says so
 same-is : (xs ys : List ℕ) → same xs ys ≡ true → xs ≡ ys
@@ -38,7 +38,8 @@ module _ (l : Layout) (s units : List ℕ) where
   least-from zero i j h k e = omega arith
   least-from (suc n) i j h k e = go (test i) refl (λ g q. least-from n (suc i) j g q e) k
     where
-      go : (b : Bool) → test i ≡ b → (suc i ≤ j → j < findFrom l s units (suc i) n → ⊥) → j < pick b i (findFrom l s units (suc i) n) → ⊥
+      go : (b : Bool) → test i ≡ b → (suc i ≤ j → j < findFrom l s units (suc i) n → ⊥)
+          → j < pick b i (findFrom l s units (suc i) n) → ⊥
       go true t r k = omega arith
       go false t r k = elim (which (eqb i j)) [
         | inl q ↦ let z : test i ≡ true = rw (eqb-true i j q, e) (same-self units) in let y : _≡_ {A = ℕ} 0 1 = cc in omega arith
@@ -51,8 +52,10 @@ module _ (l : Layout) (s units : List ℕ) where
   found-from zero i h = absurd (omega arith)
   found-from (suc n) i h = go (test i) refl (λ g. found-from n (suc i) g) h
     where
-      go : (b : Bool) → test i ≡ b → (findFrom l s units (suc i) n < suc i + n → unitsOf (stringOf l s (findFrom l s units (suc i) n)) ≡ units)
-          → pick b i (findFrom l s units (suc i) n) < i + suc n → unitsOf (stringOf l s (pick b i (findFrom l s units (suc i) n))) ≡ units
+      go : (b : Bool) → test i ≡ b
+          → (findFrom l s units (suc i) n < suc i + n → unitsOf (stringOf l s (findFrom l s units (suc i) n)) ≡ units)
+          → pick b i (findFrom l s units (suc i) n) < i + suc n
+          → unitsOf (stringOf l s (pick b i (findFrom l s units (suc i) n))) ≡ units
       go true t r h = same-is (unitsOf (stringOf l s i)) units t
       go false t r h = r (omega arith)
 

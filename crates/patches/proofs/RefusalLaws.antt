@@ -16,13 +16,14 @@ use Rattle.format.specs.declared.Layout.the-variants.{Modern, Legacy}
 use Rattle.format.specs.Table as table
 use Rattle.image.specs.Sections.{functionsIn, debugIn, tailAt}
 use Rattle.image.specs.Functions.{Func, funcOf}
-use Rattle.image.specs.Fit.{beyond, offsetRow, sizeRow, isBeyond, fieldsFit}
+use Rattle.edits.specs.Fit.{beyond, offsetRow, sizeRow, isBeyond, fieldsFit}
 use Rattle.image.specs.Faults.{ShareByte}
 use Rattle.image.proofs.FaultLaws.{share}
-use Rattle.image.proofs.SlotLaws.{small-fits, modern-info}
+use Rattle.edits.proofs.SlotLaws.{small-fits, modern-info}
 use Rattle.functions.specs.Patch.{threshold, sharesWith, bodyAlone, infosOutside, debugPast, sizeFits}
-use Rattle.string_region.specs.Strings.{asString, stringsWith, newTail}
-use Rattle.string_patch.specs.Patch.{fitsInPlace, newLength, patchFits}
+use Rattle.string_packing.specs.Strings.{asString, stringsWith}
+use Rattle.edits.specs.Rebuild.{newTail}
+use Rattle.string_in_place.specs.Patch.{fitsInPlace, newLength, patchFits}
 use Rattle.format.specs.Move.{moved}
 use Rattle.patches.specs.Faults.{sizeMost}
 use Rattle.patches.specs.Patches.{aString}
@@ -43,14 +44,17 @@ size-bits Modern = refl
 size-bits (Legacy big sources) = refl
 
 -- a small record holds its own places
-small-most : (l : Layout) (s : List ℕ) (j : ℕ) → funcOf l s j .large ≡ false → (funcOf l s j .begin ≤ 33_554_431) × (funcOf l s j .info ≤ 33_554_431)
+small-most : (l : Layout) (s : List ℕ) (j : ℕ) → funcOf l s j .large ≡ false → (funcOf l s j .begin ≤ 33_554_431)
+    × (funcOf l s j .info ≤ 33_554_431)
 small-most Modern s j t = (omega (arith, small-fits Modern s j t .2), omega (arith, modern-info s j))
-small-most (Legacy big sources) s j t = (omega (arith, small-fits (Legacy big sources) s j t .2), omega (arith, small-fits (Legacy big sources) s j t .4))
+small-most (Legacy big sources) s j t =
+    (omega (arith, small-fits (Legacy big sources) s j t .2), omega (arith, small-fits (Legacy big sources) s j t .4))
 
 -- a small record that cannot hold a moved place
 abbrev pub Beyond : Layout → List ℕ → (ℕ → ℕ) → Type 0
 Beyond l s mv =
-    (j : ℕ) × (j < functionsIn s) × (funcOf l s j .large ≡ false) × ((33_554_431 < mv (funcOf l s j .begin)) ⊎ (33_554_431 < mv (funcOf l s j .info)))
+    (j : ℕ) × (j < functionsIn s) × (funcOf l s j .large ≡ false)
+    × ((33_554_431 < mv (funcOf l s j .begin)) ⊎ (33_554_431 < mv (funcOf l s j .info)))
 
 module _ (l : Layout) (s : List ℕ) (mv : ℕ → ℕ) where
   abbrev far : Func → Bool
@@ -61,11 +65,12 @@ module _ (l : Layout) (s : List ℕ) (mv : ℕ → ℕ) where
   fields-wrong e =
       let (j, h, q) = all-not (λ i. not (isBeyond l mv (funcOf l s i))) (functionsIn s) e in
       let f : Func = funcOf l s j in
-      let b : both (not (f .large)) (far f) ≡ true = not-false (isBeyond l mv f) q in (
+      let b : both (not (f .large)) (far f) ≡ true = not-false (isBeyond l mv f) q in
+      let past : far f ≡ true = both-1 (not (f .large)) (far f) b in (
         j,
         h,
         not-true (f .large) (both-0 (not (f .large)) (far f) b),
-        elim (either-or (beyond (offsetRow l) (mv (f .begin))) (beyond table.legacyInfo (mv (f .info))) (both-1 (not (f .large)) (far f) b)) [
+        elim (either-or (beyond (offsetRow l) (mv (f .begin))) (beyond table.legacyInfo (mv (f .info))) past) [
           | inl t ↦ inl (omega (arith, leb-true (2 ^ offsetRow l .width) (mv (f .begin)) t, offset-bits l))
           | inr t ↦ inr (omega (arith, leb-true (2 ^ 25) (mv (f .info)) t))
         ],
@@ -100,11 +105,18 @@ module _ (l : Layout) (s : List ℕ) (id : ℕ) where
       let (j, h, q) = all-not (λ k. implies (not (eqb k id)) (not (sharesWith f₀ (funcOf l s k)))) (functionsIn s) e in
       let (d, n) = imp-false (not (eqb j id)) (not (sharesWith f₀ (funcOf l s j))) q in
       let g : Func = funcOf l s j in
-      let t : both (ltb 0 (f₀ .size)) (both (ltb (g .begin) (threshold f₀)) (ltb (f₀ .begin) (threshold g))) ≡ true = not-false (sharesWith f₀ g) n in
-      let u : both (ltb (g .begin) (threshold f₀)) (ltb (f₀ .begin) (threshold g)) ≡ true = both-1 (ltb 0 (f₀ .size)) (both (ltb (g .begin) (threshold f₀)) (ltb (f₀ .begin) (threshold g))) t in
-      let z : 0 < f₀ .size = ltb-true 0 (f₀ .size) (both-0 (ltb 0 (f₀ .size)) (both (ltb (g .begin) (threshold f₀)) (ltb (f₀ .begin) (threshold g))) t) in
-      let x : g .begin < threshold f₀ = ltb-true (g .begin) (threshold f₀) (both-0 (ltb (g .begin) (threshold f₀)) (ltb (f₀ .begin) (threshold g)) u) in
-      let y : f₀ .begin < threshold g = ltb-true (f₀ .begin) (threshold g) (both-1 (ltb (g .begin) (threshold f₀)) (ltb (f₀ .begin) (threshold g)) u) in (
+      let t : both (ltb 0 (f₀ .size)) (both (ltb (g .begin) (threshold f₀)) (ltb (f₀ .begin) (threshold g))) ≡ true
+      = not-false (sharesWith f₀ g) n in
+      let u : both (ltb (g .begin) (threshold f₀)) (ltb (f₀ .begin) (threshold g)) ≡ true
+      = both-1 (ltb 0 (f₀ .size)) (both (ltb (g .begin) (threshold f₀)) (ltb (f₀ .begin) (threshold g))) t in
+      let z : 0 < f₀ .size
+      =
+      ltb-true 0 (f₀ .size)
+      (both-0 (ltb 0 (f₀ .size)) (both (ltb (g .begin) (threshold f₀)) (ltb (f₀ .begin) (threshold g))) t) in
+      let x : g .begin < threshold f₀
+      = ltb-true (g .begin) (threshold f₀) (both-0 (ltb (g .begin) (threshold f₀)) (ltb (f₀ .begin) (threshold g)) u) in
+      let y : f₀ .begin < threshold g
+      = ltb-true (f₀ .begin) (threshold g) (both-1 (ltb (g .begin) (threshold f₀)) (ltb (f₀ .begin) (threshold g)) u) in (
         j,
         h,
         eqb-false j id (not-true (eqb j id) d),
@@ -123,15 +135,25 @@ module _ (l : Layout) (s : List ℕ) (id : ℕ) where
         | inr (z, x, y) ↦ (omega arith, y, omega arith)
       ] in
       all-fails (λ k. implies (not (eqb k id)) (not (sharesWith f₀ (funcOf l s k)))) (functionsIn s) j h
-      (rw (ne-eqb j id d, lt-ltb 0 (f₀ .size) (facts .0), lt-ltb (g .begin) (threshold f₀) (facts .1), lt-ltb (f₀ .begin) (threshold g) (facts .2)))
+      (rw (
+        ne-eqb j id d,
+        lt-ltb 0 (f₀ .size) (facts .0),
+        lt-ltb (g .begin) (threshold f₀) (facts .1),
+        lt-ltb (f₀ .begin)
+            (threshold g) (facts .2),
+      ))
 
   pub infos-decide : Decides (infosOutside l s id)
       ((j : ℕ) → j < functionsIn s → (funcOf l s j .info < f₀ .begin) ⊎ (threshold f₀ ≤ funcOf l s j .info))
       ((j : ℕ) × (j < functionsIn s) × ((f₀ .begin ≤ funcOf l s j .info) × (funcOf l s j .info < threshold f₀)))
   unfolding infosOutside
-  infos-decide = all-decides (λ j. not-decides (both-decides (leb-decides (f₀ .begin) (funcOf l s j .info)) (ltb-decides (funcOf l s j .info) (threshold f₀)))) (functionsIn s)
+  infos-decide =
+      all-decides (λ j. not-decides
+      (both-decides (leb-decides (f₀ .begin) (funcOf l s j .info)) (ltb-decides (funcOf l s j .info) (threshold f₀))))
+      (functionsIn s)
 
-  pub debug-decide : Decides (debugPast l s id) (debugIn l s ≢ 0 → threshold f₀ ≤ debugIn l s) ((debugIn l s ≢ 0) × (debugIn l s < threshold f₀))
+  pub debug-decide : Decides (debugPast l s id) (debugIn l s ≢ 0 → threshold f₀ ≤ debugIn l s)
+      ((debugIn l s ≢ 0) × (debugIn l s < threshold f₀))
   unfolding debugPast
   debug-decide = implies-decides (not-decides (eqb-decides (debugIn l s) 0)) (leb-decides (threshold f₀) (debugIn l s))
 
@@ -167,7 +189,11 @@ module _ (l : Layout) (s : List ℕ) (id : ℕ) (value : List ℕ) where
       go true (j, h, t, w) =
           let f : Func = funcOf l s j in
           let (a, b) = small-most l s j t in
-          absurd (elim w [ inl g ↦ omega (arith, moved-still (tailAt l s) (f .begin)) | inr g ↦ omega (arith, moved-still (tailAt l s) (f .info)) ])
+          absurd (elim w [
+            | inl g ↦ omega (arith, moved-still (tailAt l s) (f .begin))
+            | inr g ↦ omega
+                (arith, moved-still (tailAt l s) (f .info))
+          ])
       go false x = fields-failed l s (moved (tailAt l s) (newTail l (stringsWith l s id (asString value)) s)) x
 
 -- ---- bodies: the new size

@@ -16,11 +16,11 @@ use Rattle.format.specs.declared.Layout.{Layout}
 use Rattle.footer.specs.Finalize.{sizeLimit}
 use Rattle.image.specs.Sections.{stringsIn, functionsIn}
 use Rattle.image.specs.Admitted.{Admitted}
-use Rattle.image.specs.Fit.{fieldsFit}
+use Rattle.edits.specs.Fit.{fieldsFit}
 use Rattle.admission.proofs.AnswerLaws.{judged-none}
 use Rattle.unicode.specs.Utf8.{utf16}
-use Rattle.find_string.specs.Find.{findId}
-use Rattle.string_patch.specs.Patch as string
+use Rattle.string_find.specs.Find.{findId}
+use Rattle.string_in_place.specs.Patch as string
 use Rattle.strings.specs.Patch as strings
 use Rattle.functions.specs.Patch as functions
 use Rattle.patches.specs.Patches.{Patch, byId, byValue, toBody, outcomeOf, Step, stepOf, aString, aBody, targetOf}
@@ -47,13 +47,15 @@ roomed-made room (made x) t e = go (ltb room (length x)) e
 
 module _ (l : Layout) (s : List ℕ) (ad : Admitted l s) where
   result : (id : ℕ) (value : List ℕ) → id < stringsIn s → AllBelow 256 value → judge (string.resultChecks l s id value) ≡ 0
-      → Promise l s (string.patched l s id value) (aString id value)
+      → Promise l s (string.patchedString l s id value) (aString id value)
   result id value known bytes e =
       let (limit, e₁) = judge-pass _ _ (omega arith) e in
       let (field, e₂) = judge-pass _ _ (omega arith) e₁ in
-      string-promise l s ad id value known bytes (ltb-false sizeLimit (string.newLength l s id value) limit) (not-false (string.patchFits l s id value) field)
+      string-promise l s ad id value known bytes (ltb-false sizeLimit (string.newLength l s id value) limit)
+      (not-false (string.patchFits l s id value) field)
 
-  by-id : (id : ℕ) (value t : List ℕ) → AllBelow 256 value → strings.patchById l s id value ≡ made t → Promise l s t (aString id value)
+  by-id : (id : ℕ) (value t : List ℕ) → AllBelow 256 value → strings.patchById l s id value ≡ made t
+      → Promise l s t (aString id value)
   unfolding strings.patchById strings.byIdRefusal
   by-id id value t bytes e =
       let (n, p) = made-of _ _ _ e in
@@ -62,7 +64,8 @@ module _ (l : Layout) (s : List ℕ) (ad : Admitted l s) where
       let (valid, f₂) = judge-pass _ _ (omega arith) f₁ in
       subst (λ (x : List ℕ). Promise l s x (aString id value)) p (result id value (leb-false (stringsIn s) id known) bytes f₂)
 
-  by-value : (old new t : List ℕ) → AllBelow 256 new → strings.patchByValue l s old new ≡ made t → Promise l s t (aString (findId l s (utf16 old)) new)
+  by-value : (old new t : List ℕ) → AllBelow 256 new → strings.patchByValue l s old new ≡ made t
+      → Promise l s t (aString (findId l s (utf16 old)) new)
   unfolding strings.patchByValue strings.byValueRefusal
   by-value old new t bytes e =
       let id : ℕ = findId l s (utf16 old) in
@@ -73,7 +76,8 @@ module _ (l : Layout) (s : List ℕ) (ad : Admitted l s) where
       let (known, f₃) = judge-pass _ _ (omega arith) f₂ in
       subst (λ (x : List ℕ). Promise l s x (aString id new)) p (result id new (leb-false (stringsIn s) id known) bytes f₃)
 
-  to-body : (id : ℕ) (body t : List ℕ) → AllBelow 256 body → functions.patchBody l s id body ≡ made t → Promise l s t (aBody id body)
+  to-body : (id : ℕ) (body t : List ℕ) → AllBelow 256 body → functions.patchBody l s id body ≡ made t
+      → Promise l s t (aBody id body)
   unfolding functions.patchBody functions.bodyRefusal
   to-body id body t bytes e =
       let (n, p) = made-of _ _ _ e in
@@ -87,9 +91,11 @@ module _ (l : Layout) (s : List ℕ) (ad : Admitted l s) where
       let (size, f₇) = judge-pass _ _ (omega arith) f₆ in
       let (field, f₈) = judge-pass _ _ (omega arith) f₇ in
       subst (λ (x : List ℕ). Promise l s x (aBody id body)) p
-      (body-promise l s ad id body (leb-false (functionsIn s) id known) bytes (not-false (functions.bodyAlone l s id) alone) (not-false (functions.infosOutside l s id) infos)
-      (not-false (functions.debugPast l s id) debug) empty (ltb-false sizeLimit (functions.movedBy l s id body (length s)) limit) (not-false (functions.sizeFits l s id body) size)
-      (not-false (fieldsFit l s (functions.movedBy l s id body)) field))
+      (body-promise l s ad id body (leb-false (functionsIn s) id known) bytes (not-false (functions.bodyAlone l s id) alone)
+      (not-false (functions.infosOutside l s id) infos)
+      (not-false (functions.debugPast l s id) debug) empty (ltb-false sizeLimit (functions.movedPastBody l s id body (length s)) limit)
+      (not-false (functions.sizeFits l s id body) size)
+      (not-false (fieldsFit l s (functions.movedPastBody l s id body)) field))
 
   -- a patch that is accepted, whatever the room
   pub patch-promise : (p : Patch) (t : List ℕ) → InBytes p → outcomeOf l s p ≡ made t → Promise l s t (targetOf l s p)
@@ -99,6 +105,7 @@ module _ (l : Layout) (s : List ℕ) (ad : Admitted l s) where
   patch-promise (toBody id body) t b e = to-body id body t b e
 
   -- and in its room
-  pub step-promise : (p : Step) (t : List ℕ) → InBytes (p .patch) → stepOf l s p ≡ made t → Promise l s t (targetOf l s (p .patch))
+  pub step-promise : (p : Step) (t : List ℕ) → InBytes (p .patch) → stepOf l s p ≡ made t
+      → Promise l s t (targetOf l s (p .patch))
   unfolding stepOf
   step-promise p t b e = patch-promise (p .patch) t b (roomed-made (p .room) (outcomeOf l s (p .patch)) t e)

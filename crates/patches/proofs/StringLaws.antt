@@ -2,7 +2,7 @@
 use mathlib.Core.Path.{_≡_, refl, ap, sym, _∙_}
 use mathlib.Core.Bool.{Bool, true, false, not}
 use mathlib.Core.Logic.{inl, inr, _≢_}
-use mathlib.Core.List.{List, []}
+use mathlib.Core.List.{List}
 use Prim.Native.Nat.{ℕ, _+_, _-_, _*_, _≤_, _<_}
 use native.Mathlib.Omega.{arith}
 use borrow.Author.Tests.{eq-eqb, ne-eqb, eqb-true, eqb-false, ltb-false, lt-ltb, not-true}
@@ -26,30 +26,35 @@ use Rattle.image.specs.Strings.{placeAt, sizeOf, Str, stringOf}
 use Rattle.image.specs.Kinds.{isIdentifier, rankOf, hashIn}
 use Rattle.image.specs.Functions.{funcOf}
 use Rattle.image.specs.Admitted.{Admitted}
-use Rattle.image.specs.Rebuild.{rebuild}
+use Rattle.edits.specs.Packing as packing
+use Rattle.edits.specs.Rebuild.{rebuild}
 use Rattle.image.proofs.PlaceLaws.{ordered, hash-in, string-in}
-use Rattle.image.proofs.SlotLaws.{func-eq}
+use Rattle.edits.proofs.SlotLaws.{func-eq}
 use Rattle.image.proofs.KindLaws.{rank-lt}
-use Rattle.image.proofs.ReadLaws.{functions-same, kindCount-same, identifierCount-same, stringCount-same, counts-of, tailAt-same}
-use Rattle.image.proofs.FitLaws.{fields-use}
-use Rattle.image.proofs.InPlaceLaws.{InPlace, put-same, put-admitted, put-string, put-func, put-body, put-hash, put-identifier, put-rank, own-string, string-in-place, hash-in-place, own-hash}
-use Rattle.image.proofs.RebuildLaws.{Rebuilds, rebuiltPlace, length-rebuilt, counts-kept, rebuilt-identifier, rebuilt-rank, rebuilt-hash, rebuilt-tail, rebuilt-func, rebuilt-body}
-use Rattle.image.proofs.StringLaws.{tail-is, rebuilt-debug, rebuilt-string}
-use Rattle.image.proofs.KeepLaws.{rebuilt-admitted}
+use Rattle.edits.proofs.ReadLaws.{functions-same, kindCount-same, identifierCount-same, stringCount-same, counts-of, tailAt-same}
+use Rattle.edits.proofs.FitLaws.{fields-use}
+use Rattle.edits.proofs.InPlaceLaws.{InPlace, put-same, put-admitted, put-string, put-func, put-body, put-hash, put-identifier}
+use Rattle.edits.proofs.InPlaceLaws.{put-rank, own-string, string-in-place, hash-in-place, own-hash}
+use Rattle.edits.proofs.PackLaws.{carries}
+use Rattle.edits.proofs.RebuildLaws.{Rebuilds, rebuiltPlace, length-rebuilt, counts-kept, rebuilt-identifier, rebuilt-rank}
+use Rattle.edits.proofs.RebuildLaws.{rebuilt-hash, rebuilt-tail, rebuilt-func, rebuilt-body}
+use Rattle.edits.proofs.StringLaws.{tail-is, rebuilt-debug, rebuilt-string}
+use Rattle.edits.proofs.KeepLaws.{rebuilt-admitted}
 use Rattle.unicode.specs.Utf8.{utf16}
-use Rattle.string_region.specs.Strings.{asString, stringsWith, newTail}
-use Rattle.overlap.specs.Overlap.{overlap, isApart, isAlone}
-use Rattle.string_patch.specs.Patch.{fitsInPlace, inPlace, rehashed, changed, finished, patched, newLength, patchFits}
+use Rattle.string_packing.specs.Strings.{asString, stringWith, stringsWith}
+use Rattle.string_overlap.specs.Overlap.{overlap, isApart, isAlone}
+use Rattle.string_in_place.specs.Patch.{fitsInPlace, inPlace, rehashed, changed, finished, patchedString, newLength, patchFits}
 use Rattle.patches.specs.Patches.{Target, aString}
 use Rattle.patches.specs.Promise.{stringAfter, hashAfter, placeAfter, functionAfter, Kept, Promise}
 use Rattle.patches.proofs.CalmLaws.{Calm, calm, final-calm, final-hash, final-sealed, kept-after}
-use Rattle.patches.proofs.ValueLaws.{ascii-below, value-valid, with-count, with-at, with-valid, hash-lt}
+use Rattle.patches.proofs.ValueLaws.{ascii-below, value-valid, with-valid, hash-lt}
 
 -- a place that moves from where it goes to stays
 pub moved-still : (a p : ℕ) → moved a a p ≡ p
 moved-still a p = elim (below-or p a) [ inl h ↦ moved-low a a p h | inr h ↦ moved-high a a p h ∙ omega arith ]
 
-module _ (l : Layout) (s : List ℕ) (ad : Admitted l s) (id : ℕ) (value : List ℕ) (known : id < stringsIn s) (bytes : AllBelow 256 value) where
+module _ (l : Layout) (s : List ℕ) (ad : Admitted l s) (id : ℕ) (value : List ℕ) (known : id < stringsIn s)
+    (bytes : AllBelow 256 value) where
   abbrev c : Target
   c = aString id value
 
@@ -68,7 +73,8 @@ module _ (l : Layout) (s : List ℕ) (ad : Admitted l s) (id : ℕ) (value : Lis
 
     others : both (ascii value) (both (eqb (length value) (sizeOf (placeAt l s id))) (isAlone l s id)) ≡ true
     unfolding fitsInPlace
-    others = both-1 (not (placeAt l s id .wide)) (both (ascii value) (both (eqb (length value) (sizeOf (placeAt l s id))) (isAlone l s id))) fits
+    others =
+        both-1 (not (placeAt l s id .wide)) (both (ascii value) (both (eqb (length value) (sizeOf (placeAt l s id))) (isAlone l s id))) fits
 
     plain : ascii value ≡ true
     plain = both-0 (ascii value) _ others
@@ -132,7 +138,8 @@ module _ (l : Layout) (s : List ℕ) (ad : Admitted l s) (id : ℕ) (value : Lis
           rank = put-rank l s ad p₀ value written;
           function = λ i h.
               put-func l s ad p₀ value written i h
-              ∙ func-eq (funcOf l s i) (functionAfter l s c i (funcOf l s i)) refl (sym (still (funcOf l s i .ptr))) (sym (still (funcOf l s i .begin))) refl (sym (still (funcOf l s i .info)));
+              ∙ func-eq (funcOf l s i) (functionAfter l s c i (funcOf l s i)) refl (sym (still (funcOf l s i .ptr)))
+              (sym (still (funcOf l s i .begin))) refl (sym (still (funcOf l s i .info)));
           debug = put-same l s ad p₀ value written .debug ∙ sym (still (debugIn l s));
           long = length-sets s p₀ value ∙ sym (still (length s));
           tail = λ p h f b q. (
@@ -144,55 +151,64 @@ module _ (l : Layout) (s : List ℕ) (ad : Admitted l s) (id : ℕ) (value : Lis
 
     pub in-place-hash : (r : ℕ) → r < identifiersIn s → hashIn l (inPlace l s id value) r ≡ hashIn l s r
     unfolding inPlace
-    in-place-hash r h = put-hash l s ad p₀ value written r (λ q. absurd (let o = ordered l s in omega (arith, hash-in l s r h, o .over, o .storage)))
+    in-place-hash r h =
+        put-hash l s ad p₀ value written r (λ q. absurd (let o = ordered l s in omega (arith, hash-in l s r h, o .over, o .storage)))
 
   -- ---- otherwise by a rebuild
 
-  module _ (no : fitsInPlace l s id value ≡ false) (limit : newLength l s id value ≤ sizeLimit) (field : patchFits l s id value ≡ true) where
-    abbrev ts : List Str
+  module _ (no : fitsInPlace l s id value ≡ false) (limit : newLength l s id value ≤ sizeLimit)
+      (field : patchFits l s id value ≡ true) where
+    abbrev f : ℕ → Str
+    f = stringWith l s id (asString value)
+
+    abbrev ts : packing.Packed
     ts = stringsWith l s id (asString value)
 
     abbrev v : List ℕ
     v = rebuild l ts s
 
     goes : (p : ℕ) → placeAfter l s c p ≡ rebuiltPlace l ts s p
-    unfolding newTail
     goes p = rw no
 
     long : length v ≡ placeAfter l s c (length s)
     long = length-rebuilt l ts s ad ∙ sym (goes (length s) ∙ moved-high (tailAt l s) _ (length s) (omega (arith, ad .room)))
 
-    rebuilds : Rebuilds l ts s
-    unfolding newLength patchFits newTail
+    rebuilds : Rebuilds l f ts s
+    unfolding newLength patchFits stringsWith
     rebuilds = record {
-      count = with-count l s id (asString value);
+      carries = carries f (stringsIn s);
       strings = with-valid l s id (asString value) ad (value-valid value bytes);
       limit = rw (long, goes (length s)) (rw no at limit);
       field = fields-use l s (rebuiltPlace l ts s) (rw no at field);
     }
 
+    same-string : (i : ℕ) → i < stringsIn s → stringOf l v i ≡ stringAfter i c (stringOf l s i)
+    unfolding stringWith
+    same-string i h = rebuilt-string l ts s ad f rebuilds i h
+
     pub rebuild-kept : Kept l s v c
     rebuild-kept =
         let counts = counts-kept l ts s ad in
-        let d : Str = record { wide = false; bytes = [] } in
         record {
-          admitted = rebuilt-admitted l ts s ad rebuilds;
+          admitted = rebuilt-admitted l ts s ad f rebuilds;
           functions = functions-same l s v counts;
           kinds = kindCount-same l s v counts;
           identifiers = identifierCount-same l s v counts;
           strings = stringCount-same l s v counts;
-          string = λ i h. rebuilt-string l ts s ad rebuilds d i (rw (with-count l s id (asString value)) h) ∙ with-at l s id (asString value) d i h;
-          body = rebuilt-body l ts s ad rebuilds;
+          string = same-string;
+          body = rebuilt-body l ts s ad f rebuilds;
           flag = rebuilt-identifier l ts s ad;
           rank = rebuilt-rank l ts s ad;
           function = λ i h.
-              rebuilt-func l ts s ad rebuilds i h
-              ∙ func-eq _ (functionAfter l s c i (funcOf l s i)) refl (sym (goes (funcOf l s i .ptr))) (sym (goes (funcOf l s i .begin))) refl (sym (goes (funcOf l s i .info)));
-          debug = rebuilt-debug l ts s ad rebuilds ∙ sym (goes (debugIn l s));
+              rebuilt-func l ts s ad f rebuilds i h
+              ∙ func-eq _ (functionAfter l s c i (funcOf l s i)) refl (sym (goes (funcOf l s i .ptr))) (sym (goes (funcOf l s i .begin)))
+              refl (sym (goes (funcOf l s i .info)));
+          debug = rebuilt-debug l ts s ad f rebuilds ∙ sym (goes (debugIn l s));
           long = long;
-          tail = λ p h f b q.
-              let m : placeAfter l s c p ≡ p - tailAt l s + (tailAt l v) = goes p ∙ moved-high (tailAt l s) _ p h ∙ rw (tail-is l ts s ad rebuilds) in
-              let n : length v ≡ length s - tailAt l s + (tailAt l v) = length-rebuilt l ts s ad ∙ rw (tail-is l ts s ad rebuilds) in
+          tail = λ p h e b q.
+              let m : placeAfter l s c p ≡ p - tailAt l s + (tailAt l v)
+              = goes p ∙ moved-high (tailAt l s) _ p h ∙ rw (tail-is l ts s ad f rebuilds) in
+              let n : length v ≡ length s - tailAt l s + (tailAt l v) = length-rebuilt l ts s ad ∙ rw (tail-is l ts s ad f rebuilds) in
               (omega (arith, m), omega (arith, m, n), rw (goes p) (rebuilt-tail l ts s ad p h q));
         }
 
@@ -250,7 +266,8 @@ module _ (l : Layout) (s : List ℕ) (ad : Admitted l s) (id : ℕ) (value : Lis
     unfolding rehashed
     rehashed-kept = go (isIdentifier l s id) refl
       where
-        go : (b : Bool) → isIdentifier l s id ≡ b → Kept l s (pick b (sets x (hashesAt l s + r₀ * 4) (bytesOf 4 (hashOf (utf16 value)))) x) c
+        go : (b : Bool) → isIdentifier l s id ≡ b
+            → Kept l s (pick b (sets x (hashesAt l s + r₀ * 4) (bytesOf 4 (hashOf (utf16 value)))) x) c
         go true t = rw (← same-hashes) (kept-after l s x u c k (hash-calm t))
         go false t = k
 
@@ -259,7 +276,8 @@ module _ (l : Layout) (s : List ℕ) (ad : Admitted l s) (id : ℕ) (value : Lis
     rehashed-hash r h = go (isIdentifier l s id) refl
       where
         go : (b : Bool) → isIdentifier l s id ≡ b
-            → hashIn l (pick b (sets x (hashesAt l s + r₀ * 4) (bytesOf 4 (hashOf (utf16 value)))) x) r ≡ pick (both b (eqb r r₀)) (hashOf (utf16 value)) (hashIn l s r)
+            → hashIn l (pick b (sets x (hashesAt l s + r₀ * 4) (bytesOf 4 (hashOf (utf16 value)))) x) r ≡ pick (both b (eqb r r₀))
+            (hashOf (utf16 value)) (hashIn l s r)
         go true t = elim (which (eqb r r₀)) [
           | inl e ↦ rw (← same-hashes, e) (ap (hashIn l u) (eqb-true r r₀ e) ∙ hash-own t)
           | inr e ↦ rw (← same-hashes, e) (hash-other t r h (eqb-false r r₀ e))
@@ -278,11 +296,14 @@ module _ (l : Layout) (s : List ℕ) (ad : Admitted l s) (id : ℕ) (value : Lis
 
   -- ---- both ways
 
-  pub string-promise : newLength l s id value ≤ sizeLimit → patchFits l s id value ≡ true → Promise l s (patched l s id value) c
-  unfolding patched finished changed
+  pub string-promise : newLength l s id value ≤ sizeLimit → patchFits l s id value ≡ true
+      → Promise l s (patchedString l s id value) c
+  unfolding patchedString finished changed
   string-promise limit field = go (fitsInPlace l s id value) refl
     where
       go : (b : Bool) → fitsInPlace l s id value ≡ b
-          → Promise l s (sealed (lengthed (rehashed l s id (utf16 value) (pick b (inPlace l s id value) (rebuild l (stringsWith l s id (asString value)) s))))) c
+          → Promise l s (sealed (lengthed
+          (rehashed l s id (utf16 value) (pick b (inPlace l s id value) (rebuild l (stringsWith l s id (asString value)) s))))) c
       go true t = sealed-promise (inPlace l s id value) (in-place-kept t) (in-place-hash t)
-      go false t = sealed-promise (rebuild l (stringsWith l s id (asString value)) s) (rebuild-kept t limit field) (rebuild-hash t limit field)
+      go false t =
+          sealed-promise (rebuild l (stringsWith l s id (asString value)) s) (rebuild-kept t limit field) (rebuild-hash t limit field)

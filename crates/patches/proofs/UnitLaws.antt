@@ -14,8 +14,9 @@ use Rattle.bits.proofs.ListLaws.{AllBelow, below-append}
 use Rattle.image.specs.Strings.{pairsOf, unitsOf}
 use Rattle.unicode.specs.declared.Reading.{Reading}
 use Rattle.unicode.specs.Utf8.{Small, further, between, opens, goesOn, nextByte, unitsOfPoint, completes, unitsFrom, utf16, unitBytes}
-use Rattle.unicode.proofs.ReadingLaws.{Reads, small-wrong, small-between, opens-ascii, opens-none, opens-two, opens-three, opens-four, opens-past, goes-below, goes-above, goes-on, next-wrong, next-opens, next-on}
-use Rattle.string_region.specs.Strings.{asString}
+use Rattle.unicode.proofs.ReadingLaws.{Reads, small-wrong, small-between, opens-ascii, opens-none, opens-two, opens-three}
+use Rattle.unicode.proofs.ReadingLaws.{opens-four, opens-past, goes-below, goes-above, goes-on, next-wrong, next-opens, next-on}
+use Rattle.string_packing.specs.Strings.{asString}
 use Rattle.patches.proofs.ValueLaws.{ascii-below}
 
 -- ---- a reading stays small
@@ -32,7 +33,8 @@ opens-small b = elim (below-or b 0x80) [
       | inl k ↦ small-as _ _ (opens-two b g k)
       | inr k ↦ elim (below-or b 0xF0) [
         | inl m ↦ small-as _ _ (opens-three b k m)
-        | inr m ↦ elim (below-or b 0xF5) [ inl n ↦ small-as _ _ (opens-four b m n) | inr n ↦ subst Small (opens-past b n) small-wrong ]
+        | inr m ↦ elim (below-or b 0xF5)
+            [ inl n ↦ small-as _ _ (opens-four b m n) | inr n ↦ subst Small (opens-past b n) small-wrong ]
       ]
     ]
   ]
@@ -41,7 +43,8 @@ opens-small b = elim (below-or b 0x80) [
 goes-small : (r : Reading) (b : ℕ) → Small r → 0 < r .need → Small (goesOn r b)
 goes-small r b s h = elim (below-or b (r .lo)) [
   | inl g ↦ subst Small (goes-below r b g) small-wrong
-  | inr g ↦ elim (below-or (r .hi) b) [ inl k ↦ subst Small (goes-above r b g k) small-wrong | inr k ↦ small-as _ _ (goes-on r b s h g k) ]
+  | inr g ↦ elim (below-or (r .hi) b)
+      [ inl k ↦ subst Small (goes-above r b g k) small-wrong | inr k ↦ small-as _ _ (goes-on r b s h g k) ]
 ]
 
 next-small : (r : Reading) (b : ℕ) → Small r → Small (nextByte r b)
@@ -59,7 +62,8 @@ point-units : (c : ℕ) → c < 2097152 → AllBelow 65536 (unitsOfPoint c)
 unfolding unitsOfPoint
 point-units c h = go (ltb c 0x10000) refl
   where
-    go : (b : Bool) → ltb c 0x10000 ≡ b → AllBelow 65536 (pick b (c ∷ []) ((0xD800 + (c - 0x10000) / 0x400) ∷ (0xDC00 + (c - 0x10000) % 0x400) ∷ []))
+    go : (b : Bool) → ltb c 0x10000 ≡ b
+        → AllBelow 65536 (pick b (c ∷ []) ((0xD800 + (c - 0x10000) / 0x400) ∷ (0xDC00 + (c - 0x10000) % 0x400) ∷ []))
     go true t zero = ltb-true c 0x10000 t
     go true t (suc p) = omega arith
     go false t zero = omega arith
@@ -81,7 +85,8 @@ unfolding unitsFrom
 units-below [] r s = λ p. omega arith
 units-below (b ∷ bs) r s =
     let q = next-small r b s in
-    below-append 65536 (omega arith) (completes (nextByte r b)) (unitsFrom (nextByte r b) bs) (completed (nextByte r b) q) (units-below bs (nextByte r b) q)
+    below-append 65536 (omega arith) (completes (nextByte r b)) (unitsFrom (nextByte r b) bs) (completed (nextByte r b) q)
+    (units-below bs (nextByte r b) q)
 
 -- ---- and are read back from their bytes
 
@@ -112,6 +117,8 @@ unfolding asString unitsOf utf16
 value-units value = go (ascii value) refl
   where
     go : (b : Bool) → ascii value ≡ b
-        → unitsOf (pick b (record { wide = false; bytes = value }) (record { wide = true; bytes = unitBytes (unitsFrom between value) })) ≡ unitsFrom between value
+        → unitsOf
+        (pick b (record { wide = false; bytes = value }) (record { wide = true; bytes = unitBytes (unitsFrom between value) }))
+        ≡ unitsFrom between value
     go true t = sym (ascii-from value 0 (ascii-below value t))
     go false t = pairs-back (unitsFrom between value) (units-below value between small-between)

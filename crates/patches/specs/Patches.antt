@@ -1,10 +1,11 @@
 -- Patches of an image, one after the other. 01, "What is ported and what is added" and the demand on lists of patches.
+-- docs/FORMAT.md: Lists of patches.
 use mathlib.Core.List.{List, [], _∷_}
 use Prim.Native.Nat.{ℕ}
 use Rattle.bits.specs.Outcome.{Outcome, refused, made, roomed}
 use Rattle.format.specs.declared.Layout.{Layout}
 use Rattle.unicode.specs.Utf8.{utf16}
-use Rattle.find_string.specs.Find.{findId}
+use Rattle.string_find.specs.Find.{findId}
 use Rattle.strings.specs.Patch.{patchById, patchByValue}
 use Rattle.functions.specs.Patch.{patchBody}
 

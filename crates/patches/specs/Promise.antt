@@ -1,26 +1,27 @@
--- What one accepted patch promises, and what a list of patches does. 01, Strings and Bodies; the demand on lists of patches.
+-- What one accepted patch sets, moves and promises: the step from which `Promised` (Lists) is made. 01, Strings and Bodies.
+-- docs/FORMAT.md: Lists of patches.
 use mathlib.Core.Path.{_≡_}
 use mathlib.Core.Bool.{true}
 use mathlib.Core.List.{List}
-use Prim.Native.Nat.{ℕ, _+_, _-_, _≤_, _<_}
+use Prim.Native.Nat.{ℕ, _+_, _≤_, _<_}
 use lib.Dec.{eqb}
-use lib.ListN.{length, getD, take, drop}
+use lib.ListN.{length, getD}
 use Rattle.bits.specs.Choice.{pick, both}
-use Rattle.bits.specs.Bytes.{wordAt}
 use Rattle.format.specs.declared.Layout.{Layout}
 use Rattle.format.specs.Table as table
 use Rattle.format.specs.Hash.{hashOf}
 use Rattle.format.specs.Move.{moved}
-use Rattle.sha1.specs.Sha1.{digest}
 use Rattle.footer.specs.Footer.{footerLength}
+use Rattle.footer.specs.Finalize.{Sealed}
 use Rattle.image.specs.Sections.{functionsIn, kindsIn, identifiersIn, stringsIn, debugIn, tailAt}
 use Rattle.image.specs.Strings.{Str, stringOf}
 use Rattle.image.specs.Kinds.{isIdentifier, rankOf, hashIn}
 use Rattle.image.specs.Functions.{Func, funcOf, bodyOf}
 use Rattle.image.specs.Admitted.{Disjoint, Admitted}
 use Rattle.unicode.specs.Utf8.{utf16}
-use Rattle.string_region.specs.Strings.{asString, stringsWith, newTail}
-use Rattle.string_patch.specs.Patch.{fitsInPlace}
+use Rattle.string_packing.specs.Strings.{asString, stringsWith}
+use Rattle.edits.specs.Rebuild.{newTail}
+use Rattle.string_in_place.specs.Patch.{fitsInPlace}
 use Rattle.functions.specs.Patch.{threshold}
 use Rattle.patches.specs.Patches.{Target, aString, aBody}
 
@@ -75,7 +76,8 @@ OutsideBody l s (aString id value) p = Unit {0}
 OutsideBody l s (aBody id body) p = p < threshold (funcOf l s id) → p < funcOf l s id .begin
 
 abbrev pub OutsideHeaders : Layout → List ℕ → ℕ → Type 0
-OutsideHeaders l s p = (j : ℕ) → j < functionsIn s → funcOf l s j .large ≡ true → Disjoint (funcOf l s j .ptr) (table.largeRow l .width) p 1
+OutsideHeaders l s p =
+    (j : ℕ) → j < functionsIn s → funcOf l s j .large ≡ true → Disjoint (funcOf l s j .ptr) (table.largeRow l .width) p 1
 
 -- ---- what t promises, made from s by a patch that sets c
 
@@ -93,12 +95,8 @@ pub record Kept (l : Layout) (s t : List ℕ) (c : Target) : Type 0 where
   pub debug : debugIn l t ≡ placeAfter l s c (debugIn l s)
   pub long : length t ≡ placeAfter l s c (length s)
   pub tail : (p : ℕ) → tailAt l s ≤ p → p + footerLength < length s → OutsideBody l s c p → OutsideHeaders l s p
-      → (tailAt l t ≤ placeAfter l s c p) × (placeAfter l s c p + footerLength < length t) × (getD t (placeAfter l s c p) 0 ≡ getD s p 0)
-
--- "the file length at 32, then over the last 20 bytes the SHA-1 of all bytes before them"
-pub record Sealed (t : List ℕ) : Type 0 where
-  pub fileLength : wordAt t (table.fileLength .at) ≡ length t
-  pub footer : drop (length t - footerLength) t ≡ digest (take (length t - footerLength) t)
+      → (tailAt l t ≤ placeAfter l s c p) × (placeAfter l s c p + footerLength < length t)
+      × (getD t (placeAfter l s c p) 0 ≡ getD s p 0)
 
 pub record Promise (l : Layout) (s t : List ℕ) (c : Target) : Type 0 where
   pub kept : Kept l s t c

@@ -1,4 +1,4 @@
--- A pass over the strings: what is read of each is what the definitions say, and the next is reached.
+-- What is read of a string or a function that was located is what the definitions say.
 use mathlib.Core.Path.{_≡_, _∙_, ap, subst⁻¹}
 use mathlib.Core.Bool.{Bool}
 use mathlib.Core.List.{List}
@@ -11,15 +11,14 @@ use Rattle.image.specs.Sections.{storageAt}
 use Rattle.image.specs.Strings.{sizeOf}
 use Rattle.image.specs.Kinds.{isIdentifier}
 use Rattle.image.specs.Functions.{Func, funcOf}
-use Rattle.image.specs.Admitted.{Admitted}
 use Rattle.sections.specs.declared.Places.{Places}
-use Rattle.sections.specs.Places.{Placed}
+use Rattle.sections.specs.Places.{Placed, Laid}
 use Rattle.sections.proofs.SectionLaws.{Sectioned, sectioned}
 use Rattle.string_tables.specs.declared.Place.{Place}
 use Rattle.string_tables.specs.Strings.{asPlace}
 use Rattle.function_table.specs.declared.Function.{Function}
 use Rattle.function_table.specs.Functions.{asFunc}
-use Rattle.walk.specs.Places.{Stands}
+use Rattle.string_walk.specs.Places.{Stands}
 use Rattle.reader.specs.declared.StringPlace.{StringPlace}
 use Rattle.reader.specs.Reading.{stringPlace, imagePlace, ReadAs}
 
@@ -28,14 +27,22 @@ module _ (p : Places) (s : List ℕ) (h : Placed p s) (i : ℕ) (q : Place) (g :
   pub place-small : (q .count < 4294967296) × (p .«storage_at» + q .at < 4294967296)
   place-small = let z : Sectioned p s = sectioned p s h in (omega arith, omega arith)
 
-  pub read-as : (b : Bool) → b ≡ isIdentifier (p .layout) s i → (r : StringPlace) → r ≡ imagePlace p q b → ReadAs (p .layout) s i r
+  pub read-as : (b : Bool) → b ≡ isIdentifier (p .layout) s i → (r : StringPlace) → r ≡ imagePlace p q b
+      → ReadAs (p .layout) s i r
   unfolding imagePlace stringPlace
   read-as b f r e =
       let z : Sectioned p s = sectioned p s h in
       let same : imagePlace p q b ≡ stringPlace (p .layout) s i
       = rw (z .storageFrom, f)
       (ap (λ (y : entry.Place).
-      record { start = storageAt (p .layout) s + y .at; count = y .count; size = sizeOf y; wide = y .wide; identifier = isIdentifier (p .layout) s i })
+      record {
+        start = storageAt (p .layout) s + y .at;
+        count = y .count;
+        size = sizeOf y;
+        wide = y .wide;
+        identifier = isIdentifier
+            (p .layout) s i;
+      })
       (g .is)) in
       let inside : p .«storage_at» + q .at + sizeOf (asPlace q) + footerLength ≤ length s = omega arith in
       record {
@@ -45,8 +52,8 @@ module _ (p : Places) (s : List ℕ) (h : Placed p s) (i : ℕ) (q : Place) (g :
       }
 
 -- the body of a function ends before the footer
-pub function-inside : (p : Places) (s : List ℕ) → Placed p s → Admitted (p .layout) s → (id : ℕ) → id < p .functions
+pub function-inside : (p : Places) (s : List ℕ) → Laid p s → (id : ℕ) → id < p .functions
     → (q : Function) → asFunc q ≡ funcOf (p .layout) s id → q .begin + q .size + footerLength ≤ length s
-function-inside p s h a id b q e =
-    let z : Sectioned p s = sectioned p s h in
-    subst⁻¹ (λ (y : Func). y .begin + y .size + footerLength ≤ length s) e (a .body id (omega arith) .1)
+function-inside p s h id b q e =
+    let z : Sectioned p s = sectioned p s (h .placed) in
+    subst⁻¹ (λ (y : Func). y .begin + y .size + footerLength ≤ length s) e (h .admitted .body id (omega arith) .1)

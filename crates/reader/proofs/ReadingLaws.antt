@@ -1,18 +1,23 @@
 -- The answers of the reader: one law for each way out, over the number of a reading by id.
 use mathlib.Core.Path.{_≡_, _∙_, ap}
+use mathlib.Core.Bool.{Bool}
 use mathlib.Core.List.{List, [], _∷_, _++_}
 use Prim.Native.Nat.{ℕ, _≤_, _<_}
 use native.Mathlib.Omega.{arith}
 use lib.Dec.{leb, eqb}
 use borrow.Author.Tests.{le-leb, lt-leb, leb-false, ne-eqb}
+use Rattle.refusals.specs.Numbers as refusals
 use Rattle.bits.specs.Choice.{pick, check, judge}
 use Rattle.bits.proofs.JudgeLaws.{judge-pass}
 use Rattle.format.specs.declared.Layout.{Layout}
-use Rattle.image.specs.Sections.{functionsIn, stringsIn, debugIn}
+use Rattle.image.specs.Sections.{functionsIn, stringsIn}
+use Rattle.image.specs.Kinds.{isIdentifier}
 use Rattle.image.specs.Functions.{Func, funcOf}
 use Rattle.image.specs.Admission.{checks, refusal}
 use Rattle.sections.specs.declared.Places.{Places}
 use Rattle.sections.specs.Places.{placesOf}
+use Rattle.sections.specs.Places as places
+use Rattle.string_tables.specs.declared.Place.{Place}
 use Rattle.function_table.specs.declared.Function.{Function}
 use Rattle.function_table.specs.declared.FunctionRead.the-variants as function-is
 use Rattle.function_table.specs.Functions.{asFunc, asFunction}
@@ -20,10 +25,15 @@ use Rattle.admission.specs.declared.Admission.{Admission}
 use Rattle.admission.specs.declared.Admission.the-variants.{Laid, Refused}
 use Rattle.admission.specs.Admission.{admission, numberOf}
 use Rattle.admission.proofs.AnswerLaws.{judged-none, refused-is, refused-then, laid-is, laid-then, laid-layout}
+use Rattle.string_walk.specs.declared.Location.{Location}
+use Rattle.string_walk.specs.declared.Location.the-variants as location-is
+use Rattle.string_walk.specs.Places as location
+use Rattle.string_walk.specs.Places.{Locates}
+use Rattle.string_walk.proofs.WalkLaws.{located-at, located-none}
 use Rattle.reader.specs.declared.StringPlace.{StringPlace}
 use Rattle.reader.specs.declared.StringRead.the-variants as string-is
-use Rattle.reader.specs.declared.DebugRead.the-variants as debug-is
-use Rattle.reader.specs.Reading.{idRefusal, stringPlace, stringRead, bodyRead, debugRead, ReadAs}
+use Rattle.reader.proofs.PassLaws.{read-as}
+use Rattle.reader.specs.Reading.{idRefusal, stringPlace, imagePlace, stringRead, bodyRead}
 
 -- ---- a reading by id
 
@@ -34,7 +44,8 @@ read-is l s count id e =
     let (z, q) = judged-none l s (check 7 (leb count id) ∷ []) e in
     (z, leb-false count id (judge-pass (check 7 (leb count id)) [] (omega arith) q .0))
 
-module _ (l : Layout) (s : List ℕ) (count id : ℕ) (r : Admission) (e : r ≡ admission l s) {A : Type 0} (found : A) (refused : ℕ → A) where
+module _ (l : Layout) (s : List ℕ) (count id : ℕ) (r : Admission) (e : r ≡ admission l s) {A : Type 0} (found : A)
+    (refused : ℕ → A) where
   abbrev answered : A
   answered = pick (eqb (idRefusal l s count id) 0) found (refused (idRefusal l s count id))
 
@@ -67,45 +78,44 @@ module _ (l : Layout) (s : List ℕ) (r : Admission) (e : r ≡ admission l s) w
     unfolding bodyRead
     body-refused = not-admitted l s (functionsIn s) id r e (function-is.Found (asFunction (funcOf l s id))) function-is.Refused k f n g
 
-  pub debug-refused : (k : ℕ) → r ≡ Refused k → (n : ℕ) → n ≡ numberOf r → debug-is.Refused n ≡ debugRead l s
-  unfolding debugRead
-  debug-refused k f n g =
-      let (i, h) = refused-is l s r e k f in
-      let j : n ≡ k = g ∙ ap numberOf f in
-      rw (i, ne-eqb k 0 (λ y. omega arith), j)
-
   module _ (p : Places) (f : r ≡ Laid p) where
     counts : (p .strings ≡ stringsIn s) × (p .functions ≡ functionsIn s)
     unfolding placesOf
     counts = (ap (λ (x : Places). x .strings) (laid-is l s r e p f .1), ap (λ (x : Places). x .functions) (laid-is l s r e p f .1))
 
     module _ (id : ℕ) where
-      pub string-absent : p .strings ≤ id → string-is.Refused 7 ≡ stringRead l s id
-      unfolding stringRead
-      string-absent h =
-          no-such-id l s (stringsIn s) id r e (string-is.Found (stringPlace l s id)) string-is.Refused p f (omega (arith, counts .0))
+      module _ (h : places.Laid p s) (loc : Location) (g : Locates p s id refusals.id loc) where
+        -- no such string
+        pub string-absent : (m : ℕ) → loc ≡ location-is.Refused m → (n : ℕ) → n ≡ location.numberOf loc
+            → string-is.Refused n ≡ stringRead l s id
+        unfolding stringRead
+        string-absent m u n v =
+            let (w, b) = located-none p s id refusals.id loc g m u in
+            ap string-is.Refused (v ∙ ap location.numberOf u ∙ w)
+            ∙ no-such-id l s (stringsIn s) id r e (string-is.Found (stringPlace l s id)) string-is.Refused p f (omega (arith, counts .0))
 
-      pub string-found : id < p .strings → (q : StringPlace) → ReadAs (p .layout) s id q → string-is.Found q ≡ stringRead l s id
-      unfolding stringRead
-      string-found h q g =
-          let w : q ≡ stringPlace l s id = g .is ∙ ap (λ (x : Layout). stringPlace x s id) (laid-layout l s r e p f) in
-          ap string-is.Found w
-          ∙ id-found l s (stringsIn s) id r e (string-is.Found (stringPlace l s id)) string-is.Refused p f (omega (arith, counts .0))
+        -- the string that was located
+        pub string-found : (i : ℕ) (q : Place) → loc ≡ location-is.At i q → (b : Bool) → b ≡ isIdentifier (p .layout) s id
+            → (x : StringPlace) → x ≡ imagePlace p q b → string-is.Found x ≡ stringRead l s id
+        unfolding stringRead
+        string-found i q u b v x y =
+            let (_, known, st) = located-at p s id refusals.id loc g i q u in
+            let w : x ≡ stringPlace l s id
+            = read-as p s (h .placed) id q st b v x y .is ∙ ap (λ (z : Layout). stringPlace z s id) (laid-layout l s r e p f) in
+            ap string-is.Found w
+            ∙ id-found l s (stringsIn s) id r e (string-is.Found (stringPlace l s id)) string-is.Refused p f (omega (arith, counts .0))
 
       pub body-absent : p .functions ≤ id → function-is.Refused 7 ≡ bodyRead l s id
       unfolding bodyRead
       body-absent h =
-          no-such-id l s (functionsIn s) id r e (function-is.Found (asFunction (funcOf l s id))) function-is.Refused p f (omega (arith, counts .1))
+          no-such-id l s (functionsIn s) id r e (function-is.Found (asFunction (funcOf l s id))) function-is.Refused p f
+          (omega (arith, counts .1))
 
-      pub body-found : id < p .functions → (q : Function) → asFunc q ≡ funcOf (p .layout) s id → function-is.Found q ≡ bodyRead l s id
+      pub body-found : id < p .functions → (q : Function) → asFunc q ≡ funcOf (p .layout) s id
+          → function-is.Found q ≡ bodyRead l s id
       unfolding bodyRead
       body-found h q g =
           let w : asFunc q ≡ funcOf l s id = g ∙ ap (λ (x : Layout). funcOf x s id) (laid-layout l s r e p f) in
           ap (λ (y : Func). function-is.Found (asFunction y)) w
-          ∙ id-found l s (functionsIn s) id r e (function-is.Found (asFunction (funcOf l s id))) function-is.Refused p f (omega (arith, counts .1))
-
-    pub debug-found : (n : ℕ) → n ≡ debugIn (p .layout) s → debug-is.At n ≡ debugRead l s
-    unfolding debugRead
-    debug-found n g =
-        let w : n ≡ debugIn l s = g ∙ ap (λ (x : Layout). debugIn x s) (laid-layout l s r e p f) in
-        rw (laid-is l s r e p f .0) (ap debug-is.At w)
+          ∙ id-found l s (functionsIn s) id r e (function-is.Found (asFunction (funcOf l s id))) function-is.Refused p f
+          (omega (arith, counts .1))

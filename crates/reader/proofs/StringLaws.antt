@@ -1,4 +1,5 @@
--- What is read is the string of the definitions: its bytes, its units one by one, its flag; and a string is refused exactly where 01 says so.
+-- What is read is the string of the definitions: its bytes, its units one by one, its flag; and a string is refused exactly where
+-- 01 says so.
 use mathlib.Core.Path.{_≡_, refl, sym, _∙_, ap, subst⁻¹}
 use mathlib.Core.Bool.{Bool, true, false}
 use mathlib.Core.Logic.{_↔_}
@@ -16,8 +17,8 @@ use Rattle.image.specs.Kinds.{isIdentifier}
 use Rattle.image.specs.Admission.{refusal}
 use Rattle.image.proofs.FaultLaws.{refusal-most}
 use Rattle.admission.proofs.AnswerLaws.{judged-then}
-use Rattle.walk.specs.Units.{unitAt}
-use Rattle.walk.proofs.UnitLaws.{units-count, units-at}
+use Rattle.string_walk.specs.Units.{unitAt}
+use Rattle.string_walk.proofs.UnitLaws.{units-count, units-at}
 use Rattle.reader.specs.declared.StringPlace.{StringPlace}
 use Rattle.reader.specs.Reading.{idRefusal, stringPlace, ReadAs}
 use Rattle.reader.proofs.ReadingLaws.{read-is}
@@ -89,7 +90,8 @@ module _ (l : Layout) (s : List ℕ) (count id : ℕ) where
     λ x. number ∙ rw (x .0, le-leb count id (x .1)),
   )
     where
-      go : (b : Bool) → eqb (refusal l s) 0 ≡ b → (t : Bool) → leb count id ≡ t → pick b (pick t 7 0) (refusal l s) ≡ 7 → (refusal l s ≡ 0) × (count ≤ id)
+      go : (b : Bool) → eqb (refusal l s) 0 ≡ b → (t : Bool) → leb count id ≡ t → pick b (pick t 7 0) (refusal l s) ≡ 7
+          → (refusal l s ≡ 0) × (count ≤ id)
       go true h true g q = (eqb-true (refusal l s) 0 h, leb-true count id g)
       go true h false g q = absurd (omega arith)
       go false h t g q = absurd (omega (arith, refusal-most l s))

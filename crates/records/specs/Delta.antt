@@ -1,4 +1,6 @@
--- The signed 32-bit delta of the record leaves. 01, Bodies: "Record leaves take delta as a signed 32-bit number and wrap to the field's width".
+-- The signed 32-bit delta of the record leaves. 01, Bodies: "Record leaves take delta as a signed 32-bit number and wrap to the
+-- field's width".
+-- docs/FORMAT.md: Record leaves.
 use Prim.Native.Nat.{ℕ, suc, _-_, _^_}
 use lib.IntN.{ℤ, pos, negsuc}
 

@@ -1,4 +1,5 @@
 -- A row of the table that is a field of a record, and the edits of a record. 01, Image rules and Bodies.
+-- docs/FORMAT.md: Function records, Record leaves.
 use mathlib.Core.Bool.{Bool, true}
 use Prim.Native.Nat.{ℕ, _+_, _%_, _^_}
 use lib.Dec.{leb, ltb, eqb}
@@ -6,7 +7,9 @@ use Rattle.bits.specs.Choice.{pick, both}
 use Rattle.format.specs.declared.Field.{Field}
 use Rattle.format.specs.declared.Layout.{Layout}
 use Rattle.format.specs.declared.Layout.the-variants.{Modern, Legacy}
-use Rattle.format.specs.Table.{rowOf, rowCount, modernOffset, modernSize, modernFlags, legacyOffset, legacyParams, legacySize, legacyName, legacyInfo, legacyFrame, legacyEnvironment, legacyReadCache, legacyWriteCache, legacyFlags}
+use Rattle.format.specs.Table.{rowOf, rowCount, modernOffset, modernSize, modernFlags, legacyOffset, legacyParams, legacySize}
+use Rattle.format.specs.Table.{legacyName, legacyInfo, legacyFrame, legacyEnvironment, legacyReadCache, legacyWriteCache}
+use Rattle.format.specs.Table.{legacyFlags}
 use Rattle.format.specs.Record.{valueOf, withValue, pointer, putPointer}
 use Rattle.records.specs.declared.LegacyFunctionHeader.{LegacyFunctionHeader}
 use Rattle.records.specs.declared.ModernFunctionHeader.{ModernFunctionHeader}
@@ -15,7 +18,8 @@ use Rattle.records.specs.declared.ModernFunctionHeader.{ModernFunctionHe
 abbrev pub isRecordRow : ℕ → Bool
 isRecordRow k =
     let f = rowOf k in
-    both (ltb k rowCount) (both (leb (f .width) 32) (both (ltb (f .at) 128) (both (leb (f .width + f .at) 128) (pick (ltb (f .at) 64) (leb (f .width + f .at) 64) true))))
+    both (ltb k rowCount) (both (leb (f .width) 32)
+    (both (ltb (f .at) 128) (both (leb (f .width + f .at) 128) (pick (ltb (f .at) 64) (leb (f .width + f .at) 64) true))))
 
 -- ---- edits; d is the delta modulo 2^41
 
@@ -55,12 +59,14 @@ packedLow h =
 -- those, and the info place, frame and environment
 unfoldable pub packedMiddle : LegacyFunctionHeader → ℕ
 packedMiddle h =
-    withValue legacyEnvironment (h .«environment_size») (withValue legacyFrame (h .«frame_size») (withValue legacyInfo (h .«info_offset») (packedLow h)))
+    withValue legacyEnvironment (h .«environment_size»)
+    (withValue legacyFrame (h .«frame_size») (withValue legacyInfo (h .«info_offset») (packedLow h)))
 
 -- a legacy record from its fields, each cut to its width
 unfoldable pub packed : LegacyFunctionHeader → ℕ
 packed h =
-    withValue legacyFlags (h .flags) (withValue legacyWriteCache (h .«highest_write_cache») (withValue legacyReadCache (h .«highest_read_cache») (packedMiddle h)))
+    withValue legacyFlags (h .flags)
+    (withValue legacyWriteCache (h .«highest_write_cache») (withValue legacyReadCache (h .«highest_read_cache») (packedMiddle h)))
 
 -- the fields of a legacy record
 unfoldable pub legacyFields : ℕ → LegacyFunctionHeader

@@ -10,7 +10,8 @@ ghost use Rattle.format.specs.declared.Layout.the-variants.{Modern, Legacy};
 ghost use Rattle.format.specs.Table.{rowOf};
 ghost use Rattle.format.specs.Record.{valueOf, withValue, pointer, putPointer};
 ghost use Rattle.records.specs.Delta.{turned};
-ghost use Rattle.records.specs.Records.{isRecordRow, shiftField, shiftInfo, packedLow, packedMiddle, packed, legacyFields, modernFields};
+ghost use Rattle.records.specs.Records.{isRecordRow, shiftField, shiftInfo, packedLow, packedMiddle, packed, legacyFields};
+ghost use Rattle.records.specs.Records.{modernFields};
 
 // The fields of a legacy record.
 pub struct LegacyFunctionHeader {

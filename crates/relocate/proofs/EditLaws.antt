@@ -6,66 +6,75 @@ use native.Mathlib.Nat.{zero-add}
 use native.Mathlib.Omega.{arith}
 use lib.ListN.{length, take, drop, length-drop, length-append}
 use lib.Seq.{sets, length-take-le, take-all}
-use Rattle.bits.specs.Bytes.{bytesOf, wordAt}
+use Rattle.bits.specs.Bytes.{bytesOf}
 use Rattle.bits.proofs.WriteLaws.{sets-append, sets-all, sets-comm}
-use Rattle.format.specs.declared.Field.{Field}
 use Rattle.format.specs.declared.Layout.{Layout}
 use Rattle.format.specs.Table as table
-use Rattle.image.specs.Sections.{functionsIn, smallAt, tailAt}
-use Rattle.image.specs.Strings.{Str}
+use Rattle.format.specs.Number.{withNumber}
+use Rattle.image.specs.Sections.{functionsIn, stringsIn, debugIn, smallAt, tailAt}
 use Rattle.image.specs.Functions.{funcOf}
-use Rattle.image.specs.Edit.{splice, word, writeAll, groups, edit}
-use Rattle.image.specs.Rebuild.{layFrom, storeOf, overs, region, padded, rebuild, resize}
-use Rattle.image.proofs.PlaceLaws.{ordered}
-use Rattle.relocate.specs.declared.Patch.the-variants.{Strings, Body}
+use Rattle.edits.specs.Edit.{splice, writeAll, groups, edit}
+use Rattle.edits.specs.Packing.{Packed}
+use Rattle.edits.specs.Rebuild.{overs, region, padded, newTail, rebuild, resize}
+use Rattle.image.proofs.PlaceLaws.{debug-wide, ordered}
+use Rattle.relocate.specs.declared.Cause.the-variants.{Strings, Body}
 use Rattle.relocate.specs.declared.Move.{Move}
-use Rattle.relocate.specs.Relocate.{placeAfter, debugWord, functionGroup, relocated, around, Movable}
+use Rattle.relocate.specs.Relocate.{movedPlace, countWords, debugWord, functionGroup, relocated, around, Movable}
 use Rattle.relocate.proofs.GroupLaws.{functions-apart}
 
 -- ---- words of the header
 
-pub counts-put : (o o₁ o₂ : List ℕ) (x y : ℕ) → o₁ ≡ sets o (table.overflowCount .at) (bytesOf 4 x) → o₂ ≡ sets o₁ (table.storageSize .at) (bytesOf 4 y)
-    → o₂ ≡ writeAll (word (table.overflowCount .at) x ∷ word (table.storageSize .at) y ∷ []) o
+pub counts-put : (o o₁ o₂ : List ℕ) (x y : ℕ) → o₁ ≡ withNumber table.overflowCount x o
+    → o₂ ≡ withNumber table.storageSize y o₁
+    → o₂ ≡ writeAll (countWords x y) o
 unfolding writeAll
 counts-put o o₁ o₂ x y h k = rw (← h) k
 
-pub debug-put : (l : Layout) (s : List ℕ) (m : Move) (f : Field) (at x d : ℕ) (o o₁ : List ℕ) → f ≡ table.debugRow l → at ≡ table.placeIn l f → x ≡ wordAt s at
-    → d ≡ placeAfter m x → o₁ ≡ sets o at (bytesOf 4 d) → o₁ ≡ writeAll (debugWord l s m ∷ []) o
+pub debug-put : (l : Layout) (s : List ℕ) (m : Move) (at x d : ℕ) (o o₁ : List ℕ) → at ≡ table.placeIn l (table.debugRow l)
+    → x ≡ debugIn l s → d ≡ movedPlace m x → o₁ ≡ sets o at (bytesOf 4 d) → o₁ ≡ writeAll (debugWord l s m ∷ []) o
 unfolding writeAll
-debug-put l s m f at x d o o₁ e g h k j = rw (← e, ← g, ← h, ← k) j
+debug-put l s m at x d o o₁ e h k j = rw (← h, ← k, ← e, debug-wide l) j
 
 -- ---- the relocation, as code goes through it
 
 -- image and buffer hold a header
-pub header-there : (l : Layout) (s : List ℕ) (m : Move) (room : ℕ) → Movable l s m room → (128 ≤ length s) × (128 ≤ room)
+pub header-there : (l : Layout) (s : List ℕ) (m : Move) (room : ℕ) → Movable l s m room
+    → (table.headerLength ≤ length s) × (table.headerLength ≤ room)
 header-there l s m room ok =
     let o = ordered l s in
     (omega (arith, ok .fits .room, o .kinds, o .hashes, o .small, o .over, o .storage, o .tail), omega (arith, ok .records, o .kinds))
 
-pub relocated-is : (l : Layout) (s : List ℕ) (m : Move) (room n : ℕ) → Movable l s m room → n ≡ functionsIn s → (o o₁ o₂ : List ℕ)
-    → o₁ ≡ writeAll (debugWord l s m ∷ []) o → o₂ ≡ writeAll (groups n (functionGroup l s m)) o₁ → o₂ ≡ relocated l s m o
+pub relocated-is : (l : Layout) (s : List ℕ) (m : Move) (room n : ℕ) → Movable l s m room → n ≡ functionsIn s
+    → (o o₁ o₂ : List ℕ)
+    → o₁ ≡ writeAll (debugWord l s m ∷ []) o → o₂ ≡ writeAll (groups n (functionGroup l s m)) o₁
+    → o₂ ≡ relocated l s m o
 unfolding relocated
 relocated-is l s m room n ok e o o₁ o₂ h k = rw (← h) (k ∙ rw e (functions-apart l s m room ok o₁))
 
 -- ---- the bytes around those that are replaced
 
-module _ (a b : ℕ) (new s o : List ℕ) (order : a ≤ b) (most : b ≤ length s) (fits : length o ≡ length s - b + (a + length new)) where
+module _ (a b : ℕ) (new s o : List ℕ) (order : a ≤ b) (most : b ≤ length s)
+    (fits : length o ≡ length s - b + (a + length new)) where
   -- and those that replace them
   pub around-filled : sets (around a b (a + length new) s o) a new ≡ splice a b new s
   unfolding around splice
   around-filled =
       let t : length (take a s) ≡ a = length-take-le a s (omega arith) in
       let p : length (take a s ++ new) ≡ a + length new = length-append (take a s) new ∙ rw t in
-      let q : length (take a s ++ new ++ drop b s) ≡ length o = length-append (take a s ++ new) (drop b s) ∙ rw (p, length-drop) (omega arith) in
+      let q : length (take a s ++ new ++ drop b s) ≡ length o
+      = length-append (take a s ++ new) (drop b s) ∙ rw (p, length-drop) (omega arith) in
       let c : sets (sets o 0 (take a s)) a new ≡ sets o 0 (take a s ++ new) = sym (sets-append (take a s) new o 0 ∙ rw (zero-add, t)) in
       let d : sets (sets o 0 (take a s ++ new)) (a + length new) (drop b s) ≡ sets o 0 (take a s ++ new ++ drop b s)
       = sym (sets-append (take a s ++ new) (drop b s) o 0 ∙ rw (zero-add, p)) in
-      sets-comm new (drop b s) (sets o 0 (take a s)) a (a + length new) (omega arith) ∙ rw c (d ∙ sets-all (take a s ++ new ++ drop b s) o q ∙ append-assoc (take a s) new (drop b s))
+      sets-comm new (drop b s) (sets o 0 (take a s)) a (a + length new) (omega arith)
+      ∙ rw c (d ∙ sets-all (take a s ++ new ++ drop b s) o q ∙ append-assoc (take a s) new (drop b s))
 
-  pub spliced-is : (o₁ o₂ : List ℕ) → o₁ ≡ around a b (a + length new) s o → o₂ ≡ sets o₁ a new → o₂ ≡ splice a b new s
+  pub spliced-is : (o₁ o₂ : List ℕ) → o₁ ≡ around a b (a + length new) s o → o₂ ≡ sets o₁ a new
+      → o₂ ≡ splice a b new s
   spliced-is o₁ o₂ h k = k ∙ rw h around-filled
 
-pub around-is : (a b to : ℕ) (s o o₁ o₂ : List ℕ) → b ≤ length s → o₁ ≡ sets o 0 (take (a - 0) s) → o₂ ≡ sets o₁ to (take (length s - b) (drop b s)) → o₂ ≡ around a b to s o
+pub around-is : (a b to : ℕ) (s o o₁ o₂ : List ℕ) → b ≤ length s → o₁ ≡ sets o 0 (take (a - 0) s)
+    → o₂ ≡ sets o₁ to (take (length s - b) (drop b s)) → o₂ ≡ around a b to s o
 unfolding around
 around-is a b to s o o₁ o₂ h j k =
     let e : a - 0 ≡ a = omega arith in
@@ -74,21 +83,27 @@ around-is a b to s o o₁ o₂ h j k =
 -- ---- a rebuild and a resize are a splice and its relocation
 
 -- the strings packed anew: what stood in the tail goes behind them
-abbrev pub rebuilding : Layout → List Str → List ℕ → Move
-rebuilding l ts s = record { from = tailAt l s; to = smallAt l s + length (padded (smallAt l s) (region ts)); patch = Strings }
+abbrev pub rebuilding : Layout → Packed → List ℕ → Move
+rebuilding l ps s = record { from = tailAt l s; to = newTail l ps s; cause = Strings }
 
-pub rebuild-is : (l : Layout) (ts : List Str) (s : List ℕ)
-    → relocated l s (rebuilding l ts s)
-    (writeAll (word (table.overflowCount .at) (overs (layFrom 0 ts)) ∷ word (table.storageSize .at) (length (storeOf ts)) ∷ [])
-    (splice (smallAt l s) (tailAt l s) (padded (smallAt l s) (region ts)) s)) ≡ rebuild l ts s
+pub rebuild-is : (l : Layout) (ps : Packed) (s : List ℕ)
+    → relocated l s (rebuilding l ps s)
+    (writeAll (countWords (overs (ps .place) (stringsIn s)) (length (ps .store)))
+    (splice (smallAt l s) (tailAt l s) (padded (smallAt l s) (region (stringsIn s) ps)) s)) ≡ rebuild l ps s
 unfolding relocated rebuild edit writeAll
-rebuild-is l ts s = refl
+rebuild-is l ps s = refl
 
 -- a body of another size: what stood at or past the old one's end goes behind the new one
 abbrev pub resizing : Layout → ℕ → List ℕ → List ℕ → Move
-resizing l id body s = record { from = funcOf l s id .begin + funcOf l s id .size; to = funcOf l s id .begin + length body; patch = Body id (length body) }
+resizing l id body s = record {
+  from = funcOf l s id .begin + funcOf l s id .size;
+  to = funcOf l s id .begin + length body;
+  cause = Body id
+      (length body);
+}
 
 pub resize-is : (l : Layout) (id : ℕ) (body s : List ℕ)
-    → relocated l s (resizing l id body s) (splice (funcOf l s id .begin) (funcOf l s id .begin + funcOf l s id .size) body s) ≡ resize l id body s
+    → relocated l s (resizing l id body s) (splice (funcOf l s id .begin) (funcOf l s id .begin + funcOf l s id .size) body s) ≡ resize
+    l id body s
 unfolding relocated resize edit
 resize-is l id body s = refl

@@ -16,13 +16,14 @@ use Rattle.format.specs.declared.Field.{Field}
 use Rattle.format.specs.declared.Layout.{Layout}
 use Rattle.format.specs.declared.Layout.the-variants.{Modern, Legacy}
 use Rattle.format.specs.Table as table
+use Rattle.format.specs.Number.{bytesFor}
 use Rattle.format.specs.Record.{withValue, pointer, putPointer}
 use Rattle.image.specs.Sections.{recordAt}
 use Rattle.image.specs.Functions.{Func}
-use Rattle.image.specs.Edit.{writeAll, putSmall, pointed, putHeader, moveFunc}
+use Rattle.edits.specs.Edit.{writeAll, putSmall, pointed, putHeader, moveFunc}
 use Rattle.sections.proofs.SectionLaws.{record-size}
-use Rattle.relocate.specs.declared.Patch.{Patch}
-use Rattle.relocate.specs.declared.Patch.the-variants.{Strings, Body}
+use Rattle.relocate.specs.declared.Cause.{Cause}
+use Rattle.relocate.specs.declared.Cause.the-variants.{Strings, Body}
 use Rattle.relocate.specs.Relocate.{funcFor}
 
 -- ---- its places
@@ -31,7 +32,7 @@ pub moved-is : (mv : ℕ → ℕ) (f : Func) (p b i : ℕ) → p ≡ mv (f .ptr)
     → record { large = f .large; ptr = p; begin = b; size = f .size; info = i } ≡ moveFunc mv f
 moved-is mv f p b i x y z = rw (x, y, z)
 
-module _ (mv : ℕ → ℕ) (f g : Func) (p : Patch) (i : ℕ) (e : g ≡ moveFunc mv f) where
+module _ (mv : ℕ → ℕ) (f g : Func) (p : Cause) (i : ℕ) (e : g ≡ moveFunc mv f) where
   pub after-strings : p ≡ Strings → g ≡ funcFor mv p i f
   after-strings h = rw h e
 
@@ -39,7 +40,8 @@ module _ (mv : ℕ → ℕ) (f g : Func) (p : Patch) (i : ℕ) (e : g ≡ moveFu
     pub after-other : (i ≡ id → ⊥) → g ≡ funcFor mv p i f
     after-other n = rw (h, ne-eqb i id n) e
 
-    pub after-own : i ≡ id → record { large = g .large; ptr = g .ptr; begin = f .begin; size = size; info = g .info } ≡ funcFor mv p i f
+    pub after-own : i ≡ id → record { large = g .large; ptr = g .ptr; begin = f .begin; size = size; info = g .info } ≡ funcFor mv p i
+        f
     after-own n =
         rw (h, eq-eqb i id n)
         (ap (λ (x : Func). record { large = x .large; ptr = x .ptr; begin = f .begin; size = size; info = x .info }) e)
@@ -47,11 +49,13 @@ module _ (mv : ℕ → ℕ) (f g : Func) (p : Patch) (i : ℕ) (e : g ≡ moveFu
 -- ---- its record
 
 module _ (l : Layout) (f : Func) (n : ℕ) where
-  pub small-modern : l ≡ Modern → (a b : ℕ) → a ≡ withValue table.modernOffset (f .begin) n → b ≡ withValue table.modernSize (f .size) a → b ≡ putSmall l f n
+  pub small-modern : l ≡ Modern → (a b : ℕ) → a ≡ withValue table.modernOffset (f .begin) n
+      → b ≡ withValue table.modernSize (f .size) a → b ≡ putSmall l f n
   unfolding putSmall
   small-modern e a b h k = rw (e, ← h) k
 
-  pub small-legacy : (x y : Bool) → l ≡ Legacy x y → (a b c : ℕ) → a ≡ withValue table.legacyOffset (f .begin) n → b ≡ withValue table.legacySize (f .size) a
+  pub small-legacy : (x y : Bool) → l ≡ Legacy x y → (a b c : ℕ) → a ≡ withValue table.legacyOffset (f .begin) n
+      → b ≡ withValue table.legacySize (f .size) a
       → c ≡ withValue table.legacyInfo (f .info) b → c ≡ putSmall l f n
   unfolding putSmall
   small-legacy x y e a b c h k j = rw (e, ← h, ← k) j
@@ -60,7 +64,8 @@ module _ (l : Layout) (p n : ℕ) where
   pub pointer-modern : l ≡ Modern → (r : ℕ) → r ≡ putPointer Modern p n → r ≡ putPointer l p n
   pointer-modern e r h = rw e h
 
-  pub pointer-legacy : (x y : Bool) → l ≡ Legacy x y → (r : ℕ) → r ≡ putPointer (Legacy false false) p n → r ≡ putPointer l p n
+  pub pointer-legacy : (x y : Bool) → l ≡ Legacy x y → (r : ℕ) → r ≡ putPointer (Legacy false false) p n
+      → r ≡ putPointer l p n
   unfolding putPointer
   pointer-legacy x y e r h = rw e h
 
@@ -73,12 +78,14 @@ module _ (l : Layout) (p n : ℕ) where
     unfolding pointed
     pointed-kept h old e k = rw (h, eq-eqb p (pointer l n) (k ∙ e))
 
-    pub pointed-moved : all ≡ false → (old : ℕ) → old ≡ pointer l n → (p ≡ old → ⊥) → (r : ℕ) → r ≡ putPointer l p n → r ≡ pointed l all p n
+    pub pointed-moved : all ≡ false → (old : ℕ) → old ≡ pointer l n → (p ≡ old → ⊥) → (r : ℕ)
+        → r ≡ putPointer l p n → r ≡ pointed l all p n
     unfolding pointed
     pointed-moved h old e k r g = rw (h, ne-eqb p (pointer l n) (λ q. k (q ∙ sym e))) g
 
 -- a record in its own part of the image
-module _ (l : Layout) (o : List ℕ) (i at n : ℕ) (f : Field) (e : at ≡ recordAt l i) (g : f ≡ table.recordRow l) (h : recordAt l i + table.recordRow l .width ≤ length o) where
+module _ (l : Layout) (o : List ℕ) (i at n : ℕ) (f : Field) (e : at ≡ recordAt l i) (g : f ≡ table.recordRow l)
+    (h : recordAt l i + table.recordRow l .width ≤ length o) where
   slot-width : f .width ≡ table.recordRow l .width
   slot-width = ap (λ (x : Field). x .width) g
 
@@ -95,7 +102,8 @@ module _ (l : Layout) (o : List ℕ) (i at n : ℕ) (f : Field) (e : at ≡ reco
       → putMid at (at + f .width - at) o new ≡ sets o (recordAt l i) (bytesOf (table.recordRow l .width) n)
   slot-put new k =
       rw (k, slot-count, e)
-      (part-sets o (bytesOf (table.recordRow l .width) n) (recordAt l i) (table.recordRow l .width) 0 h (omega (arith, length-bytesOf (table.recordRow l .width) n))
+      (part-sets o (bytesOf (table.recordRow l .width) n) (recordAt l i) (table.recordRow l .width) 0 h
+      (omega (arith, length-bytesOf (table.recordRow l .width) n))
       ∙ rw add-zero)
 
 -- ---- its large header
@@ -104,12 +112,16 @@ pub header-least : (l : Layout) → 16 ≤ table.largeRow l .width
 header-least Modern = omega arith
 header-least (Legacy x y) = omega arith
 
-module _ (l : Layout) (f : Func) (o o1 o2 : List ℕ) (h : o1 ≡ sets o (f .ptr + table.largeOffset .at) (bytesOf 4 (f .begin))) where
-  pub header-modern : l ≡ Modern → o2 ≡ sets o1 (f .ptr + table.modernLargeSize .at) (bytesOf 4 (f .size)) → o2 ≡ writeAll (putHeader l f) o
+module _ (l : Layout) (f : Func) (o o1 o2 : List ℕ)
+    (h : o1 ≡ sets o (f .ptr + table.largeOffset .at) (bytesFor table.largeOffset (f .begin))) where
+  pub header-modern : l ≡ Modern → o2 ≡ sets o1 (f .ptr + table.modernLargeSize .at) (bytesFor table.modernLargeSize (f .size))
+      → o2 ≡ writeAll (putHeader l f) o
   unfolding putHeader writeAll
   header-modern e k = rw (e, ← h) k
 
-  pub header-legacy : (x y : Bool) → l ≡ Legacy x y → o2 ≡ sets o1 (f .ptr + table.legacyLargeSize .at) (bytesOf 4 (f .size))
-      → (o3 : List ℕ) → o3 ≡ sets o2 (f .ptr + table.legacyLargeInfo .at) (bytesOf 4 (f .info)) → o3 ≡ writeAll (putHeader l f) o
+  pub header-legacy : (x y : Bool) → l ≡ Legacy x y
+      → o2 ≡ sets o1 (f .ptr + table.legacyLargeSize .at) (bytesFor table.legacyLargeSize (f .size))
+      → (o3 : List ℕ) → o3 ≡ sets o2 (f .ptr + table.legacyLargeInfo .at) (bytesFor table.legacyLargeInfo (f .info))
+      → o3 ≡ writeAll (putHeader l f) o
   unfolding putHeader writeAll
   header-legacy x y e k o3 j = rw (e, ← h, ← k) j

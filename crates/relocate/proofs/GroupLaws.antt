@@ -23,20 +23,20 @@ use Rattle.format.specs.Move.{moved}
 use Rattle.format.proofs.MoveLaws.{moved-low, moved-high}
 use Rattle.image.specs.Sections.{functionsIn, recordAt, kindsAt, tailAt}
 use Rattle.image.specs.Functions.{Func, small, header, recordIn, funcOf}
-use Rattle.image.specs.Edit.{Write, writeAll, groups, putSmall, pointed, putHeader, recordGroup, headerGroup, moveFunc}
-use Rattle.image.specs.Rebuild.{resized}
-use Rattle.image.proofs.WriteLaws.{writes-append}
+use Rattle.edits.specs.Edit.{Write, writeAll, groups, putSmall, pointed, putHeader, recordGroup, headerGroup, moveFunc}
+use Rattle.edits.specs.Rebuild.{resized}
+use Rattle.edits.proofs.WriteLaws.{writes-append}
 use Rattle.image.proofs.PlaceLaws.{ordered, record-in}
 use Rattle.image.proofs.CheckLaws.{headers-in}
 use Rattle.function_table.proofs.ReadLaws.{small-is, is-small, header-is, is-large}
-use Rattle.relocate.specs.declared.Patch.{Patch}
-use Rattle.relocate.specs.declared.Patch.the-variants.{Strings, Body}
+use Rattle.relocate.specs.declared.Cause.{Cause}
+use Rattle.relocate.specs.declared.Cause.the-variants.{Strings, Body}
 use Rattle.relocate.specs.declared.Move.{Move}
-use Rattle.relocate.specs.Relocate.{placeAfter, writesAll, funcFor, funcAfter, functionGroup, Movable}
+use Rattle.relocate.specs.Relocate.{movedPlace, writesAll, funcFor, funcAfter, functionGroup, Movable}
 
 -- ---- a patch leaves the flag of a function, and moves its pointer
 
-pub after-flag : (mv : ℕ → ℕ) (p : Patch) (i : ℕ) (f : Func) → funcFor mv p i f .large ≡ f .large
+pub after-flag : (mv : ℕ → ℕ) (p : Cause) (i : ℕ) (f : Func) → funcFor mv p i f .large ≡ f .large
 after-flag mv Strings i f = refl
 after-flag mv (Body id size) i f = go (eqb i id)
   where
@@ -44,7 +44,7 @@ after-flag mv (Body id size) i f = go (eqb i id)
     go true = refl
     go false = refl
 
-pub after-pointer : (mv : ℕ → ℕ) (p : Patch) (i : ℕ) (f : Func) → funcFor mv p i f .ptr ≡ mv (f .ptr)
+pub after-pointer : (mv : ℕ → ℕ) (p : Cause) (i : ℕ) (f : Func) → funcFor mv p i f .ptr ≡ mv (f .ptr)
 after-pointer mv Strings i f = refl
 after-pointer mv (Body id size) i f = go (eqb i id)
   where
@@ -58,42 +58,53 @@ module _ (l : Layout) (s : List ℕ) (m : Move) (i : ℕ) where
   -- by the function's flag
   abbrev writesBy : Bool → Func → List Write
   writesBy b f =
-      record { place = recordAt l i; bytes = bytesOf (table.recordRow l .width) (pick b (pointed l (writesAll (m .patch)) (f .ptr) (recordIn l s i)) (putSmall l f (recordIn l s i))) }
+      record {
+        place = recordAt l i;
+        bytes = bytesOf (table.recordRow l .width)
+            (pick b (pointed l (writesAll (m .cause)) (f .ptr) (recordIn l s i)) (putSmall l f (recordIn l s i)));
+      }
       ∷ pick b (putHeader l f) []
 
   group-of : (f : Func) (b : Bool) → f ≡ funcAfter l s m i → f .large ≡ b → functionGroup l s m i ≡ writesBy b f
   unfolding recordGroup headerGroup
   group-of f b h z = ap (λ (g : Func). writesBy (g .large) g) (sym h) ∙ ap (λ (x : Bool). writesBy x f) z
 
-  module _ (n : ℕ) (e : n ≡ recordIn l s i) (b : Bool) (g : b ≡ isLarge l n) (f₀ f : Func) (h : f ≡ funcFor (placeAfter m) (m .patch) i f₀) (r : ℕ) (o o₁ : List ℕ)
+  module _ (n : ℕ) (e : n ≡ recordIn l s i) (b : Bool) (g : b ≡ isLarge l n) (f₀ f : Func)
+      (h : f ≡ funcFor (movedPlace m) (m .cause) i f₀) (r : ℕ) (o o₁ : List ℕ)
       (j : o₁ ≡ sets o (recordAt l i) (bytesOf (table.recordRow l .width) r)) where
     pub small-group : not b ≡ true → f₀ ≡ small l n → r ≡ putSmall l f n → o₁ ≡ writeAll (functionGroup l s m i) o
     unfolding writeAll
     small-group t d k =
         let q : f₀ ≡ funcOf l s i = small-is l s i n e b g (not-true b t) f₀ d in
-        let a : f ≡ funcAfter l s m i = h ∙ ap (funcFor (placeAfter m) (m .patch) i) q in
-        let z : f .large ≡ false = ap (λ (x : Func). x .large) a ∙ after-flag (placeAfter m) (m .patch) i (funcOf l s i) ∙ is-small l s i n e b g (not-true b t) in
+        let a : f ≡ funcAfter l s m i = h ∙ ap (funcFor (movedPlace m) (m .cause) i) q in
+        let z : f .large ≡ false
+        =
+        ap (λ (x : Func). x .large) a ∙ after-flag (movedPlace m) (m .cause) i (funcOf l s i)
+        ∙ is-small l s i n e b g (not-true b t) in
         j ∙ ap (λ (x : ℕ). sets o (recordAt l i) (bytesOf (table.recordRow l .width) x)) (k ∙ ap (putSmall l f) e)
         ∙ ap (λ (ws : List Write). writeAll ws o) (sym (group-of f false a z))
 
     module _ (t : not b ≡ false) (p : ℕ) (q : p ≡ pointer l n) (d : f₀ ≡ header l p s) where
       is-after : f ≡ funcAfter l s m i
-      is-after = h ∙ ap (funcFor (placeAfter m) (m .patch) i) (header-is l s i n e b g (not-false b t) p q f₀ d)
+      is-after = h ∙ ap (funcFor (movedPlace m) (m .cause) i) (header-is l s i n e b g (not-false b t) p q f₀ d)
 
-      pub large-group : (all : Bool) → all ≡ writesAll (m .patch) → r ≡ pointed l all (f .ptr) n → (o₂ : List ℕ) → o₂ ≡ writeAll (putHeader l f) o₁
+      pub large-group : (all : Bool) → all ≡ writesAll (m .cause) → r ≡ pointed l all (f .ptr) n → (o₂ : List ℕ)
+          → o₂ ≡ writeAll (putHeader l f) o₁
           → o₂ ≡ writeAll (functionGroup l s m i) o
       unfolding writeAll
       large-group all c k o₂ x =
           let z : f .large ≡ true =
-          ap (λ (x : Func). x .large) is-after ∙ after-flag (placeAfter m) (m .patch) i (funcOf l s i) ∙ is-large l s i n e b g (not-false b t) p q in
-          let y : r ≡ pointed l (writesAll (m .patch)) (f .ptr) (recordIn l s i) = k ∙ rw (c, e) in
+          ap (λ (x : Func). x .large) is-after ∙ after-flag (movedPlace m) (m .cause) i (funcOf l s i)
+          ∙ is-large l s i n e b g (not-false b t) p q in
+          let y : r ≡ pointed l (writesAll (m .cause)) (f .ptr) (recordIn l s i) = k ∙ rw (c, e) in
           x ∙ ap (writeAll (putHeader l f)) (j ∙ ap (λ (x : ℕ). sets o (recordAt l i) (bytesOf (table.recordRow l .width) x)) y)
           ∙ ap (λ (ws : List Write). writeAll ws o) (sym (group-of f true is-after z))
 
       -- its large header has room where it goes
       pub header-held : (room : ℕ) → Movable l s m room → i < functionsIn s → f .ptr + table.largeRow l .width ≤ room
       header-held room ok c =
-          let z : f .ptr ≡ placeAfter m (funcOf l s i .ptr) = ap (λ (x : Func). x .ptr) is-after ∙ after-pointer (placeAfter m) (m .patch) i (funcOf l s i) in
+          let z : f .ptr ≡ movedPlace m (funcOf l s i .ptr)
+          = ap (λ (x : Func). x .ptr) is-after ∙ after-pointer (movedPlace m) (m .cause) i (funcOf l s i) in
           rw z (ok .held i c (is-large l s i n e b g (not-false b t) p q))
 
 -- ---- those of all functions
@@ -102,7 +113,8 @@ pub groups-none : (g : ℕ → List Write) (o : List ℕ) → o ≡ writeAll (gr
 unfolding groups writeAll
 groups-none g o = refl
 
-pub groups-more : (g : ℕ → List Write) (i : ℕ) (o o₁ o₂ : List ℕ) → o₁ ≡ writeAll (groups i g) o → o₂ ≡ writeAll (g i) o₁ → o₂ ≡ writeAll (groups (i + 1) g) o
+pub groups-more : (g : ℕ → List Write) (i : ℕ) (o o₁ o₂ : List ℕ) → o₁ ≡ writeAll (groups i g) o
+    → o₂ ≡ writeAll (g i) o₁ → o₂ ≡ writeAll (groups (i + 1) g) o
 unfolding groups
 groups-more g i o o₁ o₂ p q = rw (add-one, writes-append (groups i g) (g i) o, ← p) q
 
@@ -124,7 +136,8 @@ one-comm n w (y ∷ ys) o h k =
     one-comm n w ys (sets o (y .place) (y .bytes)) h (k .1)
     ∙ ap (λ (l : List ℕ). writeAll ys l) (sets-comm (w .bytes) (y .bytes) o (w .place) (y .place) (omega (arith, h, k .0)))
 
-writes-comm : (n : ℕ) (xs ys : List Write) (o : List ℕ) → Before n xs → Past n ys → writeAll xs (writeAll ys o) ≡ writeAll ys (writeAll xs o)
+writes-comm : (n : ℕ) (xs ys : List Write) (o : List ℕ) → Before n xs → Past n ys
+    → writeAll xs (writeAll ys o) ≡ writeAll ys (writeAll xs o)
 unfolding writeAll
 writes-comm n [] ys o h k = refl
 writes-comm n (x ∷ xs) ys o h k = rw (one-comm n x ys o (h .0) k) (writes-comm n xs ys (sets o (x .place) (x .bytes)) (h .1) k)
@@ -138,7 +151,8 @@ unfolding groups
 past-groups n zero b h = tt
 past-groups n (suc k) b h = past-append n (groups k b) (b k) (past-groups n k b (λ j l. h j (omega arith))) (h k (omega arith))
 
-groups-apart : (n k : ℕ) (a b : ℕ → List Write) (o : List ℕ) → ((j : ℕ) → j < k → Before n (a j)) → ((j : ℕ) → j < k → Past n (b j))
+groups-apart : (n k : ℕ) (a b : ℕ → List Write) (o : List ℕ) → ((j : ℕ) → j < k → Before n (a j))
+    → ((j : ℕ) → j < k → Past n (b j))
     → writeAll (groups k (λ j. a j ++ b j)) o ≡ writeAll (groups k b) (writeAll (groups k a) o)
 unfolding groups
 groups-apart n zero a b o h l = sym (groups-none (λ j. a j ++ b j) o) ∙ groups-none a o ∙ groups-none b (writeAll (groups 0 a) o)
@@ -164,7 +178,7 @@ moved-past from to p n h k =
     elim (below-or p from) [ inl t ↦ rw (moved-low from to p t) k | inr t ↦ rw (moved-high from to p t) (omega arith) ]
 
 module _ (l : Layout) (s : List ℕ) (m : Move) (room : ℕ) (ok : Movable l s m room) where
-  records-before : (j : ℕ) → j < functionsIn s → Before (kindsAt l s) (recordGroup l (writesAll (m .patch)) s (funcAfter l s m) j)
+  records-before : (j : ℕ) → j < functionsIn s → Before (kindsAt l s) (recordGroup l (writesAll (m .cause)) s (funcAfter l s m) j)
   unfolding recordGroup
   records-before j h = (rw length-bytesOf (record-in l s j h), tt)
 
@@ -175,15 +189,18 @@ module _ (l : Layout) (s : List ℕ) (m : Move) (room : ℕ) (ok : Movable l s m
       go : (b : Bool) → funcAfter l s m j .large ≡ b → Past (kindsAt l s) (pick b (putHeader l (funcAfter l s m j)) [])
       go false e = tt
       go true e =
-          let t : funcOf l s j .large ≡ true = sym (after-flag (placeAfter m) (m .patch) j (funcOf l s j)) ∙ e in
+          let t : funcOf l s j .large ≡ true = sym (after-flag (movedPlace m) (m .cause) j (funcOf l s j)) ∙ e in
           let p : tailAt l s ≤ funcOf l s j .ptr = headers-in l s .holds (ok .headers) j h t .0 in
           let o = ordered l s in
           header-past l (funcAfter l s m j) (kindsAt l s)
-          (rw (after-pointer (placeAfter m) (m .patch) j (funcOf l s j))
-          (moved-past (m .from) (m .to) (funcOf l s j .ptr) (kindsAt l s) (ok .past) (omega (arith, o .hashes, o .small, o .over, o .storage, o .tail, p))))
+          (rw (after-pointer (movedPlace m) (m .cause) j (funcOf l s j))
+          (moved-past (m .from) (m .to) (funcOf l s j .ptr) (kindsAt l s) (ok .past)
+          (omega (arith, o .hashes, o .small, o .over, o .storage, o .tail, p))))
 
   -- function by function is all records, then all large headers
   pub functions-apart : (o : List ℕ) → writeAll (groups (functionsIn s) (functionGroup l s m)) o
-      ≡ writeAll (groups (functionsIn s) (headerGroup l (funcAfter l s m))) (writeAll (groups (functionsIn s) (recordGroup l (writesAll (m .patch)) s (funcAfter l s m))) o)
+      ≡ writeAll (groups (functionsIn s) (headerGroup l (funcAfter l s m)))
+      (writeAll (groups (functionsIn s) (recordGroup l (writesAll (m .cause)) s (funcAfter l s m))) o)
   functions-apart o =
-      groups-apart (kindsAt l s) (functionsIn s) (recordGroup l (writesAll (m .patch)) s (funcAfter l s m)) (headerGroup l (funcAfter l s m)) o records-before headers-past
+      groups-apart (kindsAt l s) (functionsIn s) (recordGroup l (writesAll (m .cause)) s (funcAfter l s m))
+      (headerGroup l (funcAfter l s m)) o records-before headers-past

@@ -10,17 +10,18 @@ ghost use lib.ListN.{length};
 ghost use lib.Seq.{sets};
 ghost use Rattle.bits.specs.Words.{whole};
 ghost use Rattle.bits.specs.Bytes.{bytesOf};
-ghost use Rattle.format.specs.Table.{rowOf, rowCount, recordRow, largeRow, overflowCount, storageSize};
+ghost use Rattle.format.specs.Table.{headerLength, recordRow, largeRow};
 ghost use Rattle.format.specs.Record.{pointer, putPointer};
 ghost use Rattle.format.specs.Move.{moved};
 ghost use Rattle.footer.specs.Finalize.{sizeLimit};
 ghost use Rattle.image.specs.Sections.{functionsIn, recordAt};
-ghost use Rattle.image.specs.Edit.{splice, word, writeAll, groups, putSmall, pointed, putHeader, moveFunc};
+ghost use Rattle.edits.specs.Edit.{splice, writeAll, groups, putSmall, pointed, putHeader, moveFunc};
 ghost use Rattle.function_table.specs.Functions.{asFunc, WordSized};
-ghost use Rattle.relocate.specs.Relocate.{placeAfter, writesAll, funcFor, debugWord, functionGroup, relocated, around, Movable};
+ghost use Rattle.relocate.specs.Relocate.{movedPlace, writesAll, funcFor, countWords, debugWord, functionGroup};
+ghost use Rattle.relocate.specs.Relocate.{relocated, around, Copied, Movable};
 
 // Which patch moves the places: a rebuild of the strings, or that of a body to another size.
-pub enum Patch {
+pub enum Cause {
     Strings,
     Body { id: usize, size: usize },
 }
@@ -29,7 +30,7 @@ pub enum Patch {
 pub struct Move {
     pub from: usize,
     pub to: usize,
-    pub patch: Patch,
+    pub cause: Cause,
 }
 
 // ---- a function after the patch
@@ -41,21 +42,21 @@ fn moved_function(f: Function, from: usize, to: usize) -> Function
 {
     Function {
         large: f.large,
-        ptr: moves::move_place(from, to, f.ptr),
-        begin: moves::move_place(from, to, f.begin),
+        ptr: moved_fields::move_place(from, to, f.ptr),
+        begin: moved_fields::move_place(from, to, f.begin),
         size: f.size,
-        info: moves::move_place(from, to, f.info),
+        info: moved_fields::move_place(from, to, f.info),
     }
 }
 
 // Function `i` after the patch. A patched body stays where it starts and has its new size.
 fn function_after(f: Function, m: Move, i: usize) -> Function
     requires { ⌜ WordSized f × (m .to < 4294967296) ⌝ }
-    ensures { λ r. ⌜ asFunc r ≡ funcFor (placeAfter m) (m .patch) i (asFunc f) ⌝ }
+    ensures { λ r. ⌜ asFunc r ≡ funcFor (movedPlace m) (m .cause) i (asFunc f) ⌝ }
 {
     let moved = moved_function(f, m.from, m.to);
-    let patch = m.patch;
-    let Patch::Body { id, size } = patch else {
+    let cause = m.cause;
+    let Cause::Body { id, size } = cause else {
         return moved;
     };
     if i != id {
@@ -72,12 +73,12 @@ fn function_after(f: Function, m: Move, i: usize) -> Function
 
 // Whether every large pointer is written whole: a body patch writes only those that move.
 fn writes_all(m: Move) -> bool
-    ensures { λ r. ⌜ r ≡ writesAll (m .patch) ⌝ }
+    ensures { λ r. ⌜ r ≡ writesAll (m .cause) ⌝ }
 {
-    let patch = m.patch;
-    match patch {
-        Patch::Strings => true,
-        Patch::Body { id: _, size: _ } => false,
+    let cause = m.cause;
+    match cause {
+        Cause::Strings => true,
+        Cause::Body { id: _, size: _ } => false,
     }
 }
 
@@ -150,7 +151,8 @@ fn store_record(slot: &mut [u8], layout: Layout, words: Words)
 // Function record `i`, which is handed on as its own part of the image.
 fn put_record(out: &mut [u8], layout: Layout, i: usize, words: Words)
     requires { ⌜ (i < sizeLimit) × (recordAt layout i + recordRow layout .width ≤ length (now out)) ⌝ }
-    ensures { λ _. ⌜ now (out .exit) ≡ sets (now (out .entry)) (recordAt layout i) (bytesOf (recordRow layout .width) (whole words)) ⌝ }
+    ensures { λ _. ⌜ now (out .exit) ≡ sets (now (out .entry)) (recordAt layout i) (bytesOf (recordRow layout .width) (whole words))
+        ⌝ }
 {
     let at = sections::record_at(layout, i);
     let end = at + format::record_row(layout).width;
@@ -159,29 +161,22 @@ fn put_record(out: &mut [u8], layout: Layout, i: usize, words: Words)
 
 // ---- its large header
 
-// A word of the large header at `ptr`, by the name of its row.
-fn put_large_word(out: &mut [u8], ptr: usize, k: usize, x: usize)
-    requires { ⌜ (k < rowCount) × (ptr + rowOf k .at + 4 ≤ length (now out)) × (length (now out) ≤ sizeLimit) ⌝ }
-    ensures { λ _. ⌜ now (out .exit) ≡ sets (now (out .entry)) (ptr + rowOf k .at) (bytesOf 4 x) ⌝ }
-{
-    bits::put_word(out, ptr + format::at(k), x as u64);
-}
-
 // The words of a function's large header.
 fn put_header(out: &mut [u8], layout: Layout, f: Function)
-    requires { ⌜ (f .ptr + largeRow layout .width ≤ length (now out)) × (length (now out) ≤ sizeLimit) ⌝ }
+    requires { ⌜ f .ptr + largeRow layout .width ≤ length (now out) ⌝ }
     ensures { λ _. ⌜ now (out .exit) ≡ writeAll (putHeader layout (asFunc f)) (now (out .entry)) ⌝ }
 {
     let ptr = f.ptr;
-    put_large_word(out, ptr, format::LARGE_OFFSET, f.begin);
+    let size = f.size as u64;
+    format::put_word(out, ptr, format::LARGE_OFFSET, f.begin as u64);
     match layout {
-        Layout::Modern => put_large_word(out, ptr, format::MODERN_LARGE_SIZE, f.size),
+        Layout::Modern => format::put_word(out, ptr, format::MODERN_LARGE_SIZE, size),
         Layout::Legacy {
             big_integers: _,
             function_sources: _,
         } => {
-            put_large_word(out, ptr, format::LEGACY_LARGE_SIZE, f.size);
-            put_large_word(out, ptr, format::LEGACY_LARGE_INFO, f.info);
+            format::put_word(out, ptr, format::LEGACY_LARGE_SIZE, size);
+            format::put_word(out, ptr, format::LEGACY_LARGE_INFO, f.info as u64);
         }
     }
 }
@@ -223,21 +218,20 @@ fn relocate_functions(out: &mut [u8], image: &[u8], layout: Layout, m: Move, n: 
 
 // The counts of the header that a rebuild changes.
 pub fn put_counts(out: &mut [u8], overflows: usize, storage: usize)
-    requires { ⌜ 128 ≤ length (now out) ⌝ }
-    ensures { λ _. ⌜ now (out .exit) ≡ writeAll (word (overflowCount .at) overflows ∷ word (storageSize .at) storage ∷ []) (now (out .entry)) ⌝ }
+    requires { ⌜ headerLength ≤ length (now out) ⌝ }
+    ensures { λ _. ⌜ now (out .exit) ≡ writeAll (countWords overflows storage) (now (out .entry)) ⌝ }
 {
-    bits::put_word(out, format::at(format::OVERFLOW_COUNT), overflows as u64);
-    bits::put_word(out, format::at(format::STORAGE_SIZE), storage as u64);
+    format::put_word(out, 0, format::OVERFLOW_COUNT, overflows as u64);
+    format::put_word(out, 0, format::STORAGE_SIZE, storage as u64);
 }
 
 // The debug offset, moved.
 fn put_debug(out: &mut [u8], image: &[u8], layout: Layout, m: Move)
-    requires { ⌜ (128 ≤ length (now image)) × (128 ≤ length (now out)) × (m .to ≤ sizeLimit) ⌝ }
+    requires { ⌜ (headerLength ≤ length (now image)) × (headerLength ≤ length (now out)) × (m .to ≤ sizeLimit) ⌝ }
     ensures { λ _. ⌜ now (out .exit) ≡ writeAll (debugWord layout (now (image .entry)) m ∷ []) (now (out .entry)) ⌝ }
 {
-    let at = format::place(format::debug_row(layout), layout);
-    let debug = moves::move_place(m.from, m.to, bits::word(image, at) as usize);
-    bits::put_word(out, at, debug as u64);
+    let debug = moved_fields::move_place(m.from, m.to, sections::debug_of(image, layout));
+    bits::put_word(out, sections::debug_at(layout), debug as u64);
 }
 
 // The debug offset, every record and the words of every large header, as they are after the patch.
@@ -254,7 +248,7 @@ pub fn relocate(out: &mut [u8], image: &[u8], layout: Layout, m: Move)
 
 // The bytes before `a` at the front of `out`, those from `b` on at `to`.
 pub fn copy_around(out: &mut [u8], image: &[u8], a: usize, b: usize, to: usize)
-    requires { ⌜ (a ≤ length (now image)) × (a ≤ length (now out)) × (b ≤ length (now image)) × (to + (length (now image) - b) ≤ length (now out)) ⌝ }
+    requires { ⌜ Copied a b to (length (now image)) (length (now out)) ⌝ }
     ensures { λ _. ⌜ now (out .exit) ≡ around a b to (now (image .entry)) (now (out .entry)) ⌝ }
 {
     let end = image.len();

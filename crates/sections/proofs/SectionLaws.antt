@@ -1,18 +1,20 @@
 -- The places that code derives are the definitions', and sections that fit lie one behind the other before the tail.
-use mathlib.Core.Path.{_≡_, refl, subst⁻¹}
+use mathlib.Core.Path.{_≡_, refl, ap, _∙_, subst⁻¹}
 use mathlib.Core.List.{List}
 use Prim.Native.Nat.{ℕ, _+_, _-_, _*_, _≤_, _<_}
 use native.Mathlib.Nat.{mul-le-mul-left}
 use native.Mathlib.Omega.{arith}
 use lib.ListN.{length}
-use Rattle.bits.specs.Bytes.{up4}
+use Rattle.bits.specs.Bytes.{wordAt, up4}
 use Rattle.format.specs.declared.Field.{Field}
 use Rattle.format.specs.declared.Layout.{Layout}
 use Rattle.format.specs.declared.Layout.the-variants.{Modern, Legacy}
 use Rattle.format.specs.Table as table
 use Rattle.footer.specs.Footer.{footerLength}
 use Rattle.footer.specs.Finalize.{sizeLimit}
-use Rattle.image.specs.Sections.{functionsIn, kindsIn, identifiersIn, stringsIn, overflowsIn, storageIn, recordAt, kindsAt, hashesAt, smallAt, overAt, storageAt, tailAt}
+use Rattle.image.proofs.PlaceLaws.{records-at, debug-wide, debug-at}
+use Rattle.image.specs.Sections.{functionsIn, kindsIn, identifiersIn, stringsIn, overflowsIn, storageIn, debugIn}
+use Rattle.image.specs.Sections.{recordAt, kindsAt, hashesAt, smallAt, overAt, storageAt, tailAt}
 use Rattle.sections.specs.declared.Places.{Places}
 use Rattle.sections.specs.Places.{placesOf, Fits, Placed}
 
@@ -22,24 +24,38 @@ use Rattle.sections.specs.Places.{placesOf, Fits, Placed}
 pub nth-within : (at i size : ℕ) → size ≤ 16 → at + i * size ≤ at + i * 16
 nth-within at i size h = omega (arith, mul-le-mul-left i h)
 
--- the records start at one place in every layout, and none is larger than 16 bytes
-pub record-start : (l : Layout) → table.recordRow l .at ≡ 128
-record-start Modern = refl
-record-start (Legacy big sources) = refl
-
+-- no record is larger than 16 bytes
 pub record-size : (l : Layout) → table.recordRow l .width ≤ 16
 record-size Modern = omega arith
 record-size (Legacy big sources) = omega arith
 
-pub row-size : (l : Layout) (f : Field) → f ≡ table.recordRow l → (f .at ≡ 128) × (f .width ≤ 16)
-row-size l f e = rw e (record-start l, record-size l)
+pub row-size : (l : Layout) (f : Field) → f ≡ table.recordRow l → (f .at ≡ table.headerLength) × (f .width ≤ 16)
+row-size l f e = rw e (records-at l, record-size l)
 
 pub record-end : (l : Layout) (i r : ℕ) (f : Field) → f ≡ table.recordRow l → r ≡ f .at + i * f .width → r ≡ recordAt l i
 record-end l i r f e h = rw e at h
 
+-- ---- the debug offset
+
+pub debug-fits : (l : Layout) (f : Field) → f ≡ table.debugRow l → f .at + f .big + f .sources ≤ table.headerLength
+debug-fits l f e = rw e (go l)
+  where
+    go : (l : Layout) → table.debugRow l .at + table.debugRow l .big + table.debugRow l .sources ≤ table.headerLength
+    go Modern = omega arith
+    go (Legacy big sources) = omega arith
+
+pub debug-place : (l : Layout) (f : Field) (at : ℕ) → f ≡ table.debugRow l → at ≡ table.placeIn l f
+    → (at ≡ table.placeIn l (table.debugRow l)) × (at + 4 ≤ table.headerLength)
+debug-place l f at e h = let g = h ∙ ap (table.placeIn l) e in (g, omega (arith, g, debug-at l, debug-wide l))
+
+pub debug-read : (l : Layout) (s : List ℕ) (at x : ℕ) → at ≡ table.placeIn l (table.debugRow l) → x ≡ wordAt s at
+    → x ≡ debugIn l s
+debug-read l s at x e h = rw (debug-wide l, ← e) h
+
 -- what code derives, step by step
 pub derived : (l : Layout) (s : List ℕ) (f k i n o z ka ha sa oa st t : ℕ)
-    → f ≡ functionsIn s → k ≡ kindsIn s → i ≡ identifiersIn s → n ≡ stringsIn s → o ≡ overflowsIn s → z ≡ storageIn s
+    → f ≡ functionsIn s → k ≡ kindsIn s → i ≡ identifiersIn s → n ≡ stringsIn s → o ≡ overflowsIn s
+    → z ≡ storageIn s
     → ka ≡ recordAt l f → ha ≡ ka + k * table.kindEntry .width → sa ≡ ha + i * table.hashEntry .width
     → oa ≡ sa + n * table.smallEntry .width → st ≡ oa + o * table.overflowEntry .width → t ≡ up4 (st + z)
     → record {
@@ -77,7 +93,7 @@ pub record Sectioned (p : Places) (s : List ℕ) : Type 0 where
   pub overFrom : p .«over_at» ≡ overAt (p .layout) s
   pub storageFrom : p .«storage_at» ≡ storageAt (p .layout) s
   pub tailFrom : p .tail ≡ tailAt (p .layout) s
-  pub kindsNext : 128 ≤ p .«kinds_at»
+  pub kindsNext : table.headerLength ≤ p .«kinds_at»
   pub hashesNext : p .«hashes_at» ≡ p .«kinds_at» + p .kinds * 4
   pub smallNext : p .«small_at» ≡ p .«hashes_at» + p .identifiers * 4
   pub overNext : p .«over_at» ≡ p .«small_at» + p .strings * 4
@@ -92,7 +108,7 @@ tail-past l s = omega arith
 
 records-past : (l : Layout) (s : List ℕ) → 128 ≤ kindsAt l s
 unfolding kindsAt
-records-past l s = omega (arith, record-start l)
+records-past l s = omega (arith, records-at l)
 
 of-places : (l : Layout) (s : List ℕ) → Fits l s → Sectioned (placesOf l s) s
 unfolding placesOf hashesAt smallAt overAt storageAt
@@ -128,7 +144,8 @@ unfolding kindsAt
 before-kinds Modern s i k = omega arith
 before-kinds (Legacy big sources) s i k = omega arith
 
-pub records-fit : (l : Layout) (s : List ℕ) (i : ℕ) → Fits l s → i < functionsIn s → recordAt l i + table.recordRow l .width ≤ length s
+pub records-fit : (l : Layout) (s : List ℕ) (i : ℕ) → Fits l s → i < functionsIn s
+    → recordAt l i + table.recordRow l .width ≤ length s
 unfolding placesOf
 records-fit l s i h k =
     let a : recordAt l i + table.recordRow l .width ≤ kindsAt l s = before-kinds l s i k in

@@ -1,4 +1,5 @@
 -- The record of places. 01, Forms to change: "`BytecodeFile` becomes a record of places, derived anew per call".
+-- docs/FORMAT.md: Sections.
 use mathlib.Core.Path.{_≡_}
 use mathlib.Core.List.{List}
 use Prim.Native.Nat.{ℕ, _+_, _-_, _≤_}
@@ -6,7 +7,9 @@ use lib.ListN.{length}
 use Rattle.format.specs.declared.Layout.{Layout}
 use Rattle.footer.specs.Footer.{footerLength}
 use Rattle.footer.specs.Finalize.{sizeLimit}
-use Rattle.image.specs.Sections.{functionsIn, kindsIn, identifiersIn, stringsIn, overflowsIn, storageIn, kindsAt, hashesAt, smallAt, overAt, storageAt, tailAt}
+use Rattle.image.specs.Sections.{functionsIn, kindsIn, identifiersIn, stringsIn, overflowsIn, storageIn, kindsAt, hashesAt}
+use Rattle.image.specs.Sections.{smallAt, overAt, storageAt, tailAt}
+use Rattle.image.specs.Admitted.{Admitted}
 use Rattle.sections.specs.declared.Places.{Places}
 
 -- the places of an image, with the layout inside
@@ -38,3 +41,8 @@ pub record Fits (l : Layout) (s : List ℕ) : Type 0 where
 pub record Placed (p : Places) (s : List ℕ) : Type 0 where
   pub is : p ≡ placesOf (p .layout) s
   pub fits : Fits (p .layout) s
+
+-- an admitted image with its places: what everything above admission goes by
+pub record Laid (p : Places) (s : List ℕ) : Type 0 where
+  pub placed : Placed p s
+  pub admitted : Admitted (p .layout) s

@@ -4,10 +4,10 @@ use format::Layout;
 ghost use mathlib.Core.Path.{_≡_};
 ghost use Prim.Native.Nat.{_+_, _*_, _≤_, _<_};
 ghost use lib.ListN.{length};
-ghost use Rattle.bits.specs.Bytes.{wordAt, up4};
-ghost use Rattle.format.specs.Table.{rowOf, rowCount};
+ghost use Rattle.format.specs.Table.{rowOf, rowCount, headerLength, placeIn, debugRow};
+ghost use Rattle.format.specs.Number.{numberHeld, entryAt};
 ghost use Rattle.footer.specs.Footer.{footerLength};
-ghost use Rattle.image.specs.Sections.{recordAt};
+ghost use Rattle.image.specs.Sections.{debugIn, recordAt};
 ghost use Rattle.sections.specs.Places.{placesOf};
 
 // The counts of the header, and the start of each section. The records start where the table says.
@@ -30,11 +30,26 @@ pub struct Places {
 
 // A word of the header, by the name of its row.
 pub fn header_word(image: &[u8], k: usize) -> usize
-    requires { ⌜ k < rowCount ⌝ }
-    requires { ⌜ rowOf k .at + 4 ≤ length (now image) ⌝ }
-    ensures { λ r. ⌜ (r ≡ wordAt (now (image .entry)) (rowOf k .at)) × (r < 4294967296) ⌝ }
+    requires { ⌜ (k < rowCount) × (rowOf k .width ≡ 4) ⌝ }
+    requires { ⌜ rowOf k .at + rowOf k .width ≤ length (now image) ⌝ }
+    ensures { λ r. ⌜ (r ≡ numberHeld (rowOf k) (now (image .entry))) × (r < 4294967296) ⌝ }
 {
-    bits::word(image, format::at(k)) as usize
+    format::word(image, 0, k) as usize
+}
+
+// Where the debug offset stands.
+pub fn debug_at(layout: Layout) -> usize
+    ensures { λ r. ⌜ (r ≡ placeIn layout (debugRow layout)) × (r + 4 ≤ headerLength) ⌝ }
+{
+    format::place(format::debug_row(layout), layout)
+}
+
+// The debug offset.
+pub fn debug_of(image: &[u8], layout: Layout) -> usize
+    requires { ⌜ headerLength ≤ length (now image) ⌝ }
+    ensures { λ r. ⌜ (r ≡ debugIn layout (now (image .entry))) × (r < 4294967296) ⌝ }
+{
+    bits::word(image, debug_at(layout)) as usize
 }
 
 // Where item `i` of `size` bytes starts, the first one starting at `at`.
@@ -50,7 +65,7 @@ fn nth_at(at: usize, i: usize, size: usize) -> usize
 pub fn entry_at(at: usize, i: usize, k: usize) -> usize
     requires { ⌜ (at < 1099511627776) × (i < 4294967296) ⌝ }
     requires { ⌜ (k < rowCount) × (rowOf k .width ≤ 16) ⌝ }
-    ensures { λ r. ⌜ r ≡ at + i * rowOf k .width ⌝ }
+    ensures { λ r. ⌜ r ≡ entryAt at (rowOf k) i ⌝ }
 {
     nth_at(at, i, format::width(k))
 }
@@ -58,24 +73,16 @@ pub fn entry_at(at: usize, i: usize, k: usize) -> usize
 // Where function record `i` starts.
 pub fn record_at(layout: Layout, i: usize) -> usize
     requires { ⌜ i < 4294967296 ⌝ }
-    ensures { λ r. ⌜ (r ≡ recordAt layout i) × (r ≤ 128 + i * 16) ⌝ }
+    ensures { λ r. ⌜ (r ≡ recordAt layout i) × (r ≤ headerLength + i * 16) ⌝ }
 {
     let row = format::record_row(layout);
     nth_at(row.at, i, row.width)
 }
 
-// The next multiple of 4.
-pub fn round_up(n: usize) -> usize
-    requires { ⌜ n < 9223372036854775808 ⌝ }
-    ensures { λ r. ⌜ r ≡ up4 n ⌝ }
-{
-    (n + 3) / 4 * 4
-}
-
 // The places of an image that is long enough for a header and a footer. The sums are exact: a count
 // is below 2^32 and an entry has at most 16 bytes.
 pub fn places_of(image: &[u8], layout: Layout) -> Places
-    requires { ⌜ 128 + footerLength ≤ length (now image) ⌝ }
+    requires { ⌜ headerLength + footerLength ≤ length (now image) ⌝ }
     ensures { λ r. ⌜ r ≡ placesOf layout (now (image .entry)) ⌝ }
 {
     let functions = header_word(image, format::FUNCTION_COUNT);
@@ -102,7 +109,7 @@ pub fn places_of(image: &[u8], layout: Layout) -> Places
         small_at,
         over_at,
         storage_at,
-        tail: round_up(storage_at + storage_size),
+        tail: bits::up4(storage_at + storage_size),
         footer: image.len() - footer::FOOTER_LEN,
     }
 }

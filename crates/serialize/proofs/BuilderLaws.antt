@@ -20,6 +20,7 @@ use Rattle.bits.specs.declared.Answer.the-variants.{Length, Refused}
 use Rattle.bits.proofs.TestLaws.{both-0, both-1, both-of, which, all-at, all-fails, all-next}
 use Rattle.bits.proofs.JudgeLaws.{judge-pass}
 use Rattle.bits.proofs.OutcomeLaws.{roomed-short, roomed-fits, roomed-more, lent-front}
+use Rattle.format.specs.Entry as entry
 use Rattle.format.specs.Entry.{isOver}
 use Rattle.footer.specs.Finalize.{sizeLimit}
 use Rattle.serialize.specs.Parts.{startOf, placeOf, storageOf, lengthOf, minimal}
@@ -58,23 +59,31 @@ module _ (ends : List ℕ) where
     falls h l = sym (all-fails ascending (length ends) i h (lt-leb (startOf ends i) (startOf ends (suc i)) (omega (arith, s, next))))
 
     pub rises : start ≤ end → allBelow i ascending ≡ true → allBelow (i + 1) ascending ≡ true
-    rises l t = all-next ascending i ∙ both-of (ascending i) (allBelow i ascending) (le-leb (startOf ends i) (startOf ends (suc i)) (omega (arith, s, next))) t
+    rises l t =
+        all-next ascending i
+        ∙ both-of (ascending i) (allBelow i ascending) (le-leb (startOf ends i) (startOf ends (suc i)) (omega (arith, s, next))) t
 
-    pub far : i < length ends → 0x800000 ≤ start → false ≡ allSmall ends
+    pub far : i < length ends → entry.far ≤ start → false ≡ allSmall ends
     unfolding allSmall
-    far h l = sym (all-fails small (length ends) i h (rw (le-leb 0x800000 (startOf ends i) (omega (arith, s)))))
+    far h l = sym (all-fails small (length ends) i h (rw (le-leb entry.far (startOf ends i) (omega (arith, s)))))
 
-    pub long : i < length ends → start < 0x800000 → start + 255 ≤ end → false ≡ allSmall ends
+    pub long : i < length ends → start < entry.far → start + entry.long ≤ end → false ≡ allSmall ends
     unfolding allSmall
     long h g l =
         sym (all-fails small (length ends) i h
-        (rw (lt-leb 0x800000 (startOf ends i) (omega (arith, s)), le-leb 255 (startOf ends (suc i) - startOf ends i) (omega (arith, s, next)))))
+        (rw (
+          lt-leb entry.far (startOf ends i) (omega (arith, s)),
+          le-leb entry.long (startOf ends (suc i) - startOf ends i) (omega (arith, s, next)),
+        )))
 
-    pub fits : start < 0x800000 → end < start + 255 → allBelow i small ≡ true → allBelow (i + 1) small ≡ true
+    pub fits : start < entry.far → end < start + entry.long → allBelow i small ≡ true → allBelow (i + 1) small ≡ true
     fits g l t =
         all-next small i
         ∙ both-of (small i) (allBelow i small)
-        (rw (lt-leb 0x800000 (startOf ends i) (omega (arith, s)), lt-leb 255 (startOf ends (suc i) - startOf ends i) (omega (arith, s, next))))
+        (rw (
+          lt-leb entry.far (startOf ends i) (omega (arith, s)),
+          lt-leb entry.long (startOf ends (suc i) - startOf ends i) (omega (arith, s, next)),
+        ))
         t
 
   module _ (i : ℕ) (e : i ≡ length ends) where
@@ -100,8 +109,10 @@ module _ (text ends : List ℕ) where
   unfolding allBelow
   within-all zero t h = refl
   within-all (suc n) t h =
+      let a : Bool = ascending ends n in
+      let b : Bool = allBelow n (ascending ends) in
       both-of (within n) (allBelow n within) (le-leb _ _ h)
-      (within-all n (both-1 (ascending ends n) (allBelow n (ascending ends)) t) (omega (arith, leb-true (startOf ends n) (startOf ends (suc n)) (both-0 (ascending ends n) (allBelow n (ascending ends)) t))))
+      (within-all n (both-1 a b t) (omega (arith, leb-true (startOf ends n) (startOf ends (suc n)) (both-0 a b t))))
 
   within-last : (n : ℕ) → allBelow n within ≡ true → startOf ends n ≤ length text
   unfolding allBelow startOf
@@ -112,18 +123,21 @@ module _ (text ends : List ℕ) where
   within-not n h = elim (which (allBelow n within)) [ inl t ↦ absurd (omega (arith, within-last n t)) | inr f ↦ f ]
 
 -- the part of the text that the code judges is the storage
-pub ascii-is : (text ends : List ℕ) (size : ℕ) (r b : Bool) → size ≡ startOf ends (length ends) → r ≡ ascii (take (size - 0) (drop 0 text)) → r ≡ b → ascii (storageOf text ends) ≡ b
+pub ascii-is : (text ends : List ℕ) (size : ℕ) (r b : Bool) → size ≡ startOf ends (length ends)
+    → r ≡ ascii (take (size - 0) (drop 0 text)) → r ≡ b → ascii (storageOf text ends) ≡ b
 ascii-is text ends size r b s e f = sym (rw (s, sub-zero) at e) ∙ f
 
 -- ---- an outcome that is judged
 
 -- the last test is of the length
-by-limit : (b : Bool) (n : ℕ) (new : List ℕ) → n ≡ length new → pick b (Refused 11) (Length n) ≡ answered (pick (eqb (pick b 11 0) 0) (made new) (refused (pick b 11 0)))
+by-limit : (b : Bool) (n : ℕ) (new : List ℕ) → n ≡ length new
+    → pick b (Refused 11) (Length n) ≡ answered (pick (eqb (pick b 11 0) 0) (made new) (refused (pick b 11 0)))
 by-limit true n new e = refl
 by-limit false n new e = ap Length e
 
 -- a length is answered where nothing refuses
-none-met : (j n : ℕ) (new : List ℕ) → Length n ≡ answered (pick (eqb j 0) (made new) (refused j)) → (j ≡ 0) × (n ≡ length new)
+none-met : (j n : ℕ) (new : List ℕ) → Length n ≡ answered (pick (eqb j 0) (made new) (refused j)) → (j ≡ 0)
+    × (n ≡ length new)
 none-met j n new e = go (eqb j 0) refl e
   where
     go : (b : Bool) → eqb j 0 ≡ b → Length n ≡ answered (pick b (made new) (refused j)) → (j ≡ 0) × (n ≡ length new)
@@ -165,12 +179,15 @@ module _ (v : ℕ) (text ends body : List ℕ) where
           unfolding checks judge
           not-small h = refuses 12 (rw (a, ends-within, le-ltb v leastVersion d, f, h)) (λ e. omega arith)
 
-          pub by-length : allSmall ends ≡ true → lengthAnswer (lengthOf (length ends) (startOf ends (length ends)) (length body)) ≡ answered (built v text ends body)
+          pub by-length : allSmall ends ≡ true
+              → lengthAnswer (lengthOf (length ends) (startOf ends (length ends)) (length body)) ≡ answered (built v text ends body)
           unfolding checks judge built
           by-length h =
               let k : length (storageOf text ends) ≡ startOf ends (length ends) = length-take-le (startOf ends (length ends)) text b in
-              let m : length (minimal v (storageOf text ends) ends body) ≡ lengthOf (length ends) (startOf ends (length ends)) (length body) = length-minimal v (storageOf text ends) ends body ∙ rw k in
-              rw (a, ends-within, le-ltb v leastVersion d, f, h, m) (by-limit (ltb sizeLimit (lengthOf (length ends) (startOf ends (length ends)) (length body))) _ _ (sym m))
+              let n : ℕ = lengthOf (length ends) (startOf ends (length ends)) (length body) in
+              let m : length (minimal v (storageOf text ends) ends body) ≡ n
+              = length-minimal v (storageOf text ends) ends body ∙ rw k in
+              rw (a, ends-within, le-ltb v leastVersion d, f, h, m) (by-limit (ltb sizeLimit n) _ _ (sym m))
 
 -- ---- what is accepted
 
@@ -178,10 +195,13 @@ pub record Accepted (v : ℕ) (text ends body : List ℕ) (n : ℕ) : Type 0 whe
   pub makes : built v text ends body ≡ made (minimal v (storageOf text ends) ends body)
   pub ascends : endsAscend ends ≡ true
   pub last : startOf ends (length ends) ≤ length text
+  pub plain : ascii (storageOf text ends) ≡ true
+  pub small : allSmall ends ≡ true
   pub measured : n ≡ lengthOf (length ends) (length (storageOf text ends)) (length body)
   pub limit : n ≤ sizeLimit
 
-pub accepted : (v : ℕ) (text ends body : List ℕ) (n : ℕ) → Length n ≡ answered (built v text ends body) → Accepted v text ends body n
+pub accepted : (v : ℕ) (text ends body : List ℕ) (n : ℕ) → Length n ≡ answered (built v text ends body)
+    → Accepted v text ends body n
 unfolding built checks endsWithin
 accepted v text ends body n e =
     let new = minimal v (storageOf text ends) ends body in
@@ -196,6 +216,8 @@ accepted v text ends body n e =
       makes = rw (z .0);
       ascends = not-false (endsAscend ends) c₁;
       last = within-last text ends (length ends) (not-false (endsWithin text ends) c₂);
+      plain = not-false (ascii (storageOf text ends)) c₄;
+      small = not-false (allSmall ends) c₅;
       measured = z .1 ∙ length-minimal v (storageOf text ends) ends body;
       limit = omega (arith, z .1, ltb-false sizeLimit (length new) c₆);
     }
@@ -236,12 +258,16 @@ module _ (v : ℕ) (text ends body out : List ℕ) (r : Answer) (e : r ≡ answe
           × ((length (take (n - 0) (drop 0 out)) ≤ sizeLimit) × (endsAscend ends ≡ true))
       room-made = rw (sub-zero, sub-zero, s, length-take-le n out h) (fine .measured, (fine .limit, fine .ascends))
 
-      pub written-out : (q : Answer) (part : List ℕ) → Answers (made (minimal v (take (size - 0) (drop 0 text)) ends body)) q (take (n - 0) (drop 0 out)) part → Answers outcome q out (putMid 0 (n - 0) out part)
+      pub written-out : (q : Answer) (part : List ℕ)
+          → Answers (made (minimal v (take (size - 0) (drop 0 text)) ends body)) q (take (n - 0) (drop 0 out)) part
+          → Answers outcome q out (putMid 0 (n - 0) out part)
       unfolding new
       written-out q part a =
           rw (sub-zero, fine .makes, roomed-fits (length out) new (omega (arith, long-as)))
           (lent-front new out part n q long-as h (rw (sub-zero, sub-zero, s) at a))
 
 -- for one input a longer buffer changes no answer but 13
-pub longer-buffer : (v : ℕ) (text ends body : List ℕ) (room more : ℕ) → room ≤ more → (roomed room (built v text ends body) ≡ refused 13 → ⊥) → roomed more (built v text ends body) ≡ roomed room (built v text ends body)
+pub longer-buffer : (v : ℕ) (text ends body : List ℕ) (room more : ℕ) → room ≤ more
+    → (roomed room (built v text ends body) ≡ refused 13 → ⊥)
+    → roomed more (built v text ends body) ≡ roomed room (built v text ends body)
 longer-buffer v text ends body = roomed-more (built v text ends body)

@@ -1,20 +1,26 @@
 -- The parts of the image: their lengths, and each written at its place.
 use mathlib.Core.Path.{_≡_, refl, ap, _∙_}
 use mathlib.Core.Bool.{false}
-use mathlib.Core.List.{List, [], _∷_, _++_, append-nil}
-use Prim.Native.Nat.{ℕ, zero, suc, _+_, _-_, _*_, _≤_}
+use mathlib.Core.List.{List, [], _++_, append-nil}
+use Prim.Native.Nat.{ℕ, zero, suc, _+_, _-_, _*_, _^_, _≤_, _<_}
 use native.Mathlib.Numerals.{add-one}
 use native.Mathlib.Omega.{arith}
 use borrow.Rule.Slice.PartMut.{putMid}
 use lib.ListN.{length, take, drop, replicate, length-append, length-replicate, length-drop, drop-of-length-le}
-use lib.Seq.{sets}
+use lib.Seq.{sets, length-sets}
 use Rattle.bits.specs.Bytes.{bytesOf, up4, zerosTo4}
-use Rattle.bits.specs.Fields.{withField}
 use Rattle.bits.specs.Outcome.{Answers, made}
 use Rattle.bits.specs.declared.Answer.{Answer}
-use Rattle.bits.proofs.ByteLaws.{length-bytesOf, length-words}
+use Rattle.bits.proofs.ListLaws.{AllBelow, below-zeros}
+use Rattle.bits.proofs.ByteLaws.{length-bytesOf}
 use Rattle.bits.proofs.WriteLaws.{sets-then, part-sets}
+use Rattle.format.specs.declared.Field.{Field}
+use Rattle.format.specs.Table as table
+use Rattle.format.specs.Table.{headerLength, sourceHash}
+use Rattle.format.specs.Number.{numberHeld, bytesFor, withNumber}
 use Rattle.format.specs.Entry.{entry}
+use Rattle.format.proofs.RecordLaws.{Apart}
+use Rattle.format.proofs.NumberLaws.{number-put, number-kept, number-below, number-within}
 use Rattle.header_write.specs.declared.Wrote.{Wrote}
 use Rattle.header_write.specs.Slots.{Writes}
 use Rattle.header_write.specs.Headers.{modernHeader, onHeader}
@@ -23,72 +29,151 @@ use Rattle.header_write.proofs.SlotLaws.{front}
 use Rattle.footer.specs.Footer.{footerLength}
 use Rattle.footer.specs.Finalize.{sizeLimit, lengthed, sealed, finalizeOf}
 use Rattle.footer.proofs.FinalizeLaws.{finalize-within, length-finalized, finalized-over}
-use Rattle.serialize.specs.Parts.{startOf, storageAt, bodyAt, largeAt, lengthOf, headerOf, recordOf, smallTable, sections, largeHeader, tailOf, laid, minimal}
+use Rattle.serialize.specs.Parts.{startOf, storageAt, bodyAt, largeAt, lengthOf, headerOf, recordOf, smallTable, sections}
+use Rattle.serialize.specs.Parts.{largeHeader, tailOf, allButFooter, minimal}
 
 -- ---- lengths
 
 length-zerosTo4 : (n : ℕ) → length (zerosTo4 n) ≡ up4 n - n
 length-zerosTo4 n = length-replicate {A = ℕ} (up4 n - n) 0
 
-length-headerOf : (v n z : ℕ) → length (headerOf v n z) ≡ 128
+length-headerOf : (v n z : ℕ) → length (headerOf v n z) ≡ headerLength
 unfolding headerOf
-length-headerOf v n z = length-modernHeader v (replicate 20 0) 1 1 0 n z (replicate 128 0)
+length-headerOf v n z = length-modernHeader v (replicate (sourceHash .width) 0) 1 1 0 n z (replicate headerLength 0)
 
 length-smallTable : (ends : List ℕ) (n : ℕ) → length (smallTable ends n) ≡ n * 4
 unfolding smallTable
 length-smallTable ends zero = refl
 length-smallTable ends (suc n) =
     let e = bytesOf 4 (entry false (startOf ends n) (startOf ends (suc n) - startOf ends n)) in
-    omega (arith, length-append (smallTable ends n) e, length-smallTable ends n, length-bytesOf 4 (entry false (startOf ends n) (startOf ends (suc n) - startOf ends n)))
+    omega (
+      arith,
+      length-append (smallTable ends n) e,
+      length-smallTable ends n,
+      length-bytesOf 4
+          (entry false (startOf ends n) (startOf ends (suc n) - startOf ends n)),
+    )
 
-length-largeHeader : (begin size : ℕ) → length (largeHeader begin size) ≡ 40
+pub length-largeHeader : (begin size : ℕ) → length (largeHeader begin size) ≡ table.modernLargeWhole .width
 unfolding largeHeader
-length-largeHeader begin size = length-words (begin ∷ 1 ∷ 0 ∷ size ∷ 0 ∷ 0 ∷ 1 ∷ 1 ∷ 0 ∷ 2 ∷ [])
+length-largeHeader begin size = simp length-sets
 
-length-sections : (v : ℕ) (storage ends : List ℕ) (p : ℕ) → length (sections v storage ends p) ≡ bodyAt (length ends) (length storage)
+length-sections : (v : ℕ) (storage ends : List ℕ) (p : ℕ)
+    → length (sections v storage ends p) ≡ bodyAt (length ends) (length storage)
 unfolding sections
 length-sections v storage ends p = simp (length-append, length-headerOf, length-bytesOf, length-smallTable, length-zerosTo4) (omega arith)
 
-length-tailOf : (begin : ℕ) (body : List ℕ) → begin + length (tailOf begin body) ≡ largeAt begin (length body) + 40
+length-tailOf : (begin : ℕ) (body : List ℕ)
+    → begin + length (tailOf begin body) ≡ largeAt begin (length body) + table.modernLargeWhole .width
 unfolding tailOf
 length-tailOf begin body = simp (length-append, length-zerosTo4, length-largeHeader) (omega arith)
 
 -- ---- the header, in a buffer of zeros
 
-pub header-is : (v n z : ℕ) (r : Wrote) (s : List ℕ) → Writes (onHeader (modernHeader v (replicate 20 0) 1 1 0 n z) (replicate 128 0)) r (replicate 128 0) s → s ≡ headerOf v n z
+pub header-is : (v n z : ℕ) (r : Wrote) (s : List ℕ)
+    → Writes (onHeader (modernHeader v (replicate (sourceHash .width) 0) 1 1 0 n z) (replicate headerLength 0)) r
+    (replicate headerLength 0) s
+    → s ≡ headerOf v n z
 unfolding onHeader headerOf
 header-is v n z r s w =
-    let h = modernHeader v (replicate 20 0) 1 1 0 n z (replicate 128 0) in
-    let l : length h ≡ 128 = length-headerOf v n z in
-    w .1 ∙ rw (drop-of-length-le (replicate {A = ℕ} 128 0) {i = length h} (omega arith)) (append-nil h)
+    let h = modernHeader v (replicate (sourceHash .width) 0) 1 1 0 n z (replicate headerLength 0) in
+    let l : length h ≡ headerLength = length-headerOf v n z in
+    w .1 ∙ rw (drop-of-length-le (replicate {A = ℕ} headerLength 0) {i = length h} (omega arith)) (append-nil h)
 
 -- ---- the record, in the part that is lent for it
 
-pub record-laid : (l new : List ℕ) (at end w p : ℕ) → at ≡ 128 → end ≡ 140 → 140 ≤ length l → new ≡ sets (take (end - at) (drop at l)) 0 (bytesOf 12 w) → w ≡ recordOf p
+pub record-laid : (l new : List ℕ) (at end w p : ℕ) → at ≡ 128 → end ≡ 140 → 140 ≤ length l
+    → new ≡ sets (take (end - at) (drop at l)) 0 (bytesOf 12 w) → w ≡ recordOf p
     → putMid at (end - at) l new ≡ sets l 128 (bytesOf 12 (recordOf p))
 record-laid l new at end w p a b h e k =
     rw (e, k, a, b) (part-sets l (bytesOf 12 (recordOf p)) 128 12 0 h (omega (arith, length-bytesOf 12 (recordOf p))))
 
--- ---- the small table: an entry of a narrow string, and one entry more
-
--- a number with no bit set says narrow
-none-set : withField 0 0 1 0 ≡ 0
-unfolding withField
-none-set = refl
-
-pub narrow-entry : (offset len : ℕ) → withField (withField 0 1 23 offset) 24 8 len ≡ entry false offset len
-unfolding entry
-narrow-entry offset len = rw none-set
+-- ---- the small table: one entry more
 
 pub small-none : (ends o : List ℕ) → o ≡ sets o 144 (smallTable ends 0)
 unfolding smallTable
 small-none ends o = refl
 
-pub small-more : (ends o o1 o2 : List ℕ) (i at w : ℕ) → o1 ≡ sets o 144 (smallTable ends i) → at ≡ storageAt i → w ≡ entry false (startOf ends i) (startOf ends (i + 1) - startOf ends i)
+pub small-more : (ends o o1 o2 : List ℕ) (i at w : ℕ) → o1 ≡ sets o 144 (smallTable ends i) → at ≡ storageAt i
+    → w ≡ entry false (startOf ends i) (startOf ends (i + 1) - startOf ends i)
     → o2 ≡ sets o1 at (bytesOf 4 w) → o2 ≡ sets o 144 (smallTable ends (i + 1))
 unfolding smallTable
 small-more ends o o1 o2 i at w p e k q =
     rw add-one (sets-then o o1 o2 (smallTable ends i) _ 144 at p (omega (arith, length-smallTable ends i)) (q ∙ rw (k, add-one)))
+
+-- ---- the large header
+
+module _ (begin size : ℕ) where
+  abbrev z : List ℕ
+  z = replicate (table.modernLargeWhole .width) 0
+
+  abbrev a : List ℕ
+  a = withNumber table.largeOffset begin z
+
+  abbrev b : List ℕ
+  b = withNumber table.modernLargeParams 1 a
+
+  abbrev c : List ℕ
+  c = withNumber table.modernLargeSize size b
+
+  abbrev d : List ℕ
+  d = withNumber table.modernLargeNonPtrRegs 1 c
+
+  abbrev e : List ℕ
+  e = withNumber table.modernLargeFrame 1 d
+
+  -- its body offset and its body size are read back
+  behind : (g : Field) → Apart table.modernLargeNonPtrRegs g → Apart table.modernLargeFrame g → Apart table.modernLargeFlags g
+      → numberHeld g (largeHeader begin size) ≡ numberHeld g c
+  unfolding largeHeader
+  behind g j k l =
+      number-kept table.modernLargeFlags g 2 e l ∙ number-kept table.modernLargeFrame g 1 d k
+      ∙ number-kept table.modernLargeNonPtrRegs g 1 c j
+
+  pub large-offset : begin < 2 ^ 32 → numberHeld table.largeOffset (largeHeader begin size) ≡ begin
+  large-offset h =
+      behind table.largeOffset (omega arith) (omega arith) (omega arith)
+      ∙ number-kept table.modernLargeSize table.largeOffset size b (omega arith)
+      ∙ number-kept table.modernLargeParams table.largeOffset 1 a (omega arith) ∙ number-put table.largeOffset begin z (omega arith) h
+
+  pub large-size : size < 2 ^ 32 → numberHeld table.modernLargeSize (largeHeader begin size) ≡ size
+  large-size h =
+      behind table.modernLargeSize (omega arith) (omega arith) (omega arith)
+      ∙ number-put table.modernLargeSize size b (simp length-sets (omega arith)) h
+
+  -- it is bytes
+  pub large-below : AllBelow 256 (largeHeader begin size)
+  unfolding largeHeader
+  large-below =
+      number-below table.modernLargeFlags 2 e
+      (number-below table.modernLargeFrame 1 d
+      (number-below table.modernLargeNonPtrRegs 1 c
+      (number-below table.modernLargeSize size b
+      (number-below table.modernLargeParams 1 a
+      (number-below table.largeOffset begin z (below-zeros 256 (omega arith) (table.modernLargeWhole .width)))))))
+
+-- zeros, then field by field
+module _ (o o0 o1 o2 o3 o4 o5 : List ℕ) (at begin size : ℕ) where
+  pub large-laid : at + table.modernLargeWhole .width ≤ length o → o0 ≡ sets o at (replicate (table.modernLargeWhole .width) 0)
+      → o1 ≡ sets o0 (at + table.largeOffset .at) (bytesFor table.largeOffset begin)
+      → o2 ≡ sets o1 (at + table.modernLargeParams .at) (bytesFor table.modernLargeParams 1)
+      → o3 ≡ sets o2 (at + table.modernLargeSize .at) (bytesFor table.modernLargeSize size)
+      → o4 ≡ sets o3 (at + table.modernLargeNonPtrRegs .at) (bytesFor table.modernLargeNonPtrRegs 1)
+      → o5 ≡ sets o4 (at + table.modernLargeFrame .at) (bytesFor table.modernLargeFrame 1)
+      → sets o5 (at + table.modernLargeFlags .at) (bytesFor table.modernLargeFlags 2) ≡ sets o at (largeHeader begin size)
+  unfolding largeHeader
+  large-laid h e0 e1 e2 e3 e4 e5 =
+      let f1 = number-within table.largeOffset begin o o0 o1 (z begin size) at h (omega arith) e0 e1 in
+      let f2 = next table.modernLargeParams 1 o1 o2 (a begin size) (simp length-sets) (omega arith) f1 e2 in
+      let f3 = next table.modernLargeSize size o2 o3 (b begin size) (simp length-sets) (omega arith) f2 e3 in
+      let f4 = next table.modernLargeNonPtrRegs 1 o3 o4 (c begin size) (simp length-sets) (omega arith) f3 e4 in
+      let f5 = next table.modernLargeFrame 1 o4 o5 (d begin size) (simp length-sets) (omega arith) f4 e5 in
+      next table.modernLargeFlags 2 o5 _ (e begin size) (simp length-sets) (omega arith) f5 refl
+    where
+      next : (f : Field) (x : ℕ) (l m s : List ℕ) → length s ≡ table.modernLargeWhole .width
+          → f .at + f .width ≤ table.modernLargeWhole .width → l ≡ sets o at s
+          → m ≡ sets l (at + f .at) (bytesFor f x) → m ≡ sets o at (withNumber f x s)
+      next f x l m s n k p q = number-within f x o l m s at (omega arith) (omega arith) p q
 
 -- ---- parts behind each other
 
@@ -117,7 +202,8 @@ module _ (v : ℕ) (storage ends : List ℕ) (p : ℕ) (o o1 o2 o3 o4 o5 o6 : Li
       sets-then o o5 o6 (d ++ storage) _ 0 _ f5 (omega (arith, length-append d storage)) e6
 
 module _ (o o1 o2 o3 : List ℕ) where
-  pub tail-laid : (begin : ℕ) (body : List ℕ) → o1 ≡ sets o begin body → o2 ≡ sets o1 (begin + length body) (zerosTo4 (begin + length body))
+  pub tail-laid : (begin : ℕ) (body : List ℕ) → o1 ≡ sets o begin body
+      → o2 ≡ sets o1 (begin + length body) (zerosTo4 (begin + length body))
       → o3 ≡ sets o2 (largeAt begin (length body)) (largeHeader begin (length body)) → o3 ≡ sets o begin (tailOf begin body)
   unfolding tailOf
   tail-laid begin body e1 e2 e3 =
@@ -134,37 +220,53 @@ module _ (v : ℕ) (storage ends body : List ℕ) where
   abbrev large : ℕ
   large = largeAt begin (length body)
 
-  length-laid : length (laid v storage ends body) + footerLength ≡ lengthOf (length ends) (length storage) (length body)
-  unfolding laid
+  length-laid : length (allButFooter v storage ends body) + footerLength ≡ lengthOf (length ends) (length storage) (length body)
+  unfolding allButFooter
   length-laid =
-      omega (arith, length-append (sections v storage ends large) (tailOf begin body), length-sections v storage ends large, length-tailOf begin body)
+      omega (
+        arith,
+        length-append (sections v storage ends large) (tailOf begin body),
+        length-sections v storage ends large,
+        length-tailOf
+            begin body,
+      )
 
-  length-unsealed : length (laid v storage ends body ++ replicate footerLength 0) ≡ lengthOf (length ends) (length storage) (length body)
-  length-unsealed = length-append (laid v storage ends body) (replicate footerLength 0) ∙ length-laid
+  length-unsealed : length (allButFooter v storage ends body ++ replicate footerLength 0) ≡ lengthOf (length ends) (length storage)
+      (length body)
+  length-unsealed = length-append (allButFooter v storage ends body) (replicate footerLength 0) ∙ length-laid
 
   pub length-minimal : length (minimal v storage ends body) ≡ lengthOf (length ends) (length storage) (length body)
   unfolding minimal
-  length-minimal = length-finalized (laid v storage ends body ++ replicate footerLength 0) (omega (arith, length-unsealed)) ∙ length-unsealed
+  length-minimal =
+      length-finalized (allButFooter v storage ends body ++ replicate footerLength 0) (omega (arith, length-unsealed)) ∙ length-unsealed
 
-  all-laid : (o o1 o2 : List ℕ) → o1 ≡ sets o 0 (sections v storage ends large) → o2 ≡ sets o1 begin (tailOf begin body) → o2 ≡ sets o 0 (laid v storage ends body)
-  unfolding laid
-  all-laid o o1 o2 e1 e2 = sets-then o o1 o2 (sections v storage ends large) (tailOf begin body) 0 begin e1 (omega (arith, length-sections v storage ends large)) e2
+  all-laid : (o o1 o2 : List ℕ) → o1 ≡ sets o 0 (sections v storage ends large) → o2 ≡ sets o1 begin (tailOf begin body)
+      → o2 ≡ sets o 0 (allButFooter v storage ends body)
+  unfolding allButFooter
+  all-laid o o1 o2 e1 e2 =
+      sets-then o o1 o2 (sections v storage ends large) (tailOf begin body) 0 begin e1 (omega (arith, length-sections v storage ends large))
+      e2
 
   -- what is laid, with any bytes for the footer, finalized
-  minimal-is : (s x : List ℕ) → s ≡ laid v storage ends body ++ x → length x ≡ footerLength → sealed (lengthed s) ≡ minimal v storage ends body
+  minimal-is : (s x : List ℕ) → s ≡ allButFooter v storage ends body ++ x → length x ≡ footerLength
+      → sealed (lengthed s) ≡ minimal v storage ends body
   unfolding minimal
-  minimal-is s x e l = rw e (finalized-over (laid v storage ends body) x (replicate footerLength 0) l refl)
+  minimal-is s x e l = rw e (finalized-over (allButFooter v storage ends body) x (replicate footerLength 0) l refl)
 
-  pub image-made : (o o1 o2 o3 : List ℕ) (r : Answer) → length o ≡ lengthOf (length ends) (length storage) (length body) → length o ≤ sizeLimit
-      → o1 ≡ sets o 0 (sections v storage ends large) → o2 ≡ sets o1 begin (tailOf begin body) → Answers (finalizeOf o2) r o2 o3 → Answers (made (minimal v storage ends body)) r o o3
+  pub image-made : (o o1 o2 o3 : List ℕ) (r : Answer) → length o ≡ lengthOf (length ends) (length storage) (length body)
+      → length o ≤ sizeLimit
+      → o1 ≡ sets o 0 (sections v storage ends large) → o2 ≡ sets o1 begin (tailOf begin body) → Answers (finalizeOf o2) r o2 o3
+      → Answers (made (minimal v storage ends body)) r o o3
   image-made o o1 o2 o3 r l h e1 e2 a =
-      let m = laid v storage ends body in
+      let m = allButFooter v storage ends body in
       let k = length-laid in
       let x = drop (length m) o in
       let e : o2 ≡ m ++ x = all-laid o o1 o2 e1 e2 ∙ front m o (omega arith) in
       let n : length x ≡ footerLength = length-drop (length m) o ∙ omega arith in
       let f : length o2 ≡ length o = ap length e ∙ length-append m x ∙ omega arith in
-      let g : finalizeOf o2 ≡ made (minimal v storage ends body) = finalize-within o2 (omega arith) (omega arith) ∙ ap made (minimal-is o2 x e n) in
+      let g : finalizeOf o2 ≡ made (minimal v storage ends body)
+      = finalize-within o2 (omega arith) (omega arith) ∙ ap made (minimal-is o2 x e n) in
       let b = rw g at a in
-      let d : (s : List ℕ) → length s ≡ length o → drop (length (minimal v storage ends body)) s ≡ [] = λ s i. drop-of-length-le s {i = length (minimal v storage ends body)} (omega (arith, length-minimal)) in
+      let d : (s : List ℕ) → length s ≡ length o → drop (length (minimal v storage ends body)) s ≡ []
+      = λ s i. drop-of-length-le s {i = length (minimal v storage ends body)} (omega (arith, length-minimal)) in
       (b .0, b .1 ∙ rw (d o2 f, d o refl))

@@ -1,9 +1,11 @@
 -- The builder: its refusals in order, and its outcome. 01, Refusal numbers: "Builder: 15, 8, 12, 11, 13".
+-- docs/FORMAT.md: Builder, Order.
 use mathlib.Core.Bool.{Bool, not}
 use mathlib.Core.List.{List, [], _∷_}
 use Prim.Native.Nat.{ℕ, suc}
 use lib.Dec.{leb, ltb}
 use lib.ListN.{length}
+use Rattle.refusals.specs.Numbers as refusals
 use Rattle.bits.specs.Choice.{pick, allBelow, Check, check, judge}
 use Rattle.bits.specs.Bytes.{ascii}
 use Rattle.bits.specs.Outcome.{Outcome, outcomeFor}
@@ -32,12 +34,12 @@ allSmall ends = allBelow (length ends) (λ i. not (isOver (placeOf ends i)))
 -- all refusals but 13
 unfoldable pub checks : ℕ → List ℕ → List ℕ → List ℕ → List Check
 checks version text ends body =
-    check 15 (not (endsAscend ends))
-    ∷ check 15 (not (endsWithin text ends))
-    ∷ check 15 (ltb version leastVersion)
-    ∷ check 8 (not (ascii (storageOf text ends)))
-    ∷ check 12 (not (allSmall ends))
-    ∷ check 11 (ltb sizeLimit (length (minimal version (storageOf text ends) ends body)))
+    check refusals.job (not (endsAscend ends))
+    ∷ check refusals.job (not (endsWithin text ends))
+    ∷ check refusals.job (ltb version leastVersion)
+    ∷ check refusals.value (not (ascii (storageOf text ends)))
+    ∷ check refusals.field (not (allSmall ends))
+    ∷ check refusals.limit (ltb sizeLimit (length (minimal version (storageOf text ends) ends body)))
     ∷ []
 
 -- what a buffer that is long enough gets
@@ -46,4 +48,4 @@ built version text ends body = outcomeFor (judge (checks version text ends body)
 
 -- the answer by the length alone
 abbrev pub lengthAnswer : ℕ → Answer
-lengthAnswer n = pick (ltb sizeLimit n) (Refused 11) (Length n)
+lengthAnswer n = pick (ltb sizeLimit n) (Refused refusals.limit) (Length n)

@@ -1,12 +1,15 @@
--- The minimal modern image, its parts in order. serialize.rs, `build_minimal_modern`: one function with a large header. Places and widths are the table's.
+-- The minimal modern image, its parts in order. serialize.rs, `build_minimal_modern`: one function with a large header. Places and
+-- widths are the table's.
+-- docs/FORMAT.md: Builder.
 use mathlib.Core.Bool.{false}
-use mathlib.Core.List.{List, [], _∷_, _++_}
+use mathlib.Core.List.{List, [], _++_}
 use Prim.Native.Nat.{ℕ, zero, suc, _+_, _-_, _*_}
 use lib.ListN.{length, getD, take, replicate}
-use Rattle.bits.specs.Bytes.{bytesOf, wordsOf, up4, zerosTo4}
+use Rattle.bits.specs.Bytes.{bytesOf, up4, zerosTo4}
 use Rattle.format.specs.declared.Layout.the-variants.{Modern}
 use Rattle.format.specs.Table as table
 use Rattle.format.specs.Record.{withValue, putPointer}
+use Rattle.format.specs.Number.{withNumber}
 use Rattle.format.specs.Entry.{Place, entry}
 use Rattle.header_write.specs.Headers.{modernHeader}
 use Rattle.footer.specs.Footer.{footerLength}
@@ -48,7 +51,7 @@ largeAt begin size = up4 (begin + size)
 
 -- the header: one function, one kind, no identifier, and a source hash of zeros
 unfoldable pub headerOf : ℕ → ℕ → ℕ → List ℕ
-headerOf version n storage = modernHeader version (replicate (table.sourceHash .width) 0) 1 1 0 n storage (replicate (table.modernRecord .at) 0)
+headerOf version n storage = modernHeader version (replicate (table.sourceHash .width) 0) 1 1 0 n storage (replicate table.headerLength 0)
 
 -- the record of the function: nothing but the flag and the pointer of its large header
 unfoldable pub recordOf : ℕ → ℕ
@@ -73,25 +76,19 @@ sections version storage ends p =
 
 -- ---- the tail
 
--- the large header of a body: serialize.rs, `large`, four bytes of caches, the flags byte, zeros to a multiple of 4
+-- the large header of a body. serialize.rs: `large`, caches, `PROHIBIT_NONE`. The one parameter is `this`; the flags say that the function
+-- may be called with and without `new`; loop depth, name, number registers and caches are 0
 unfoldable pub largeHeader : ℕ → ℕ → List ℕ
 largeHeader begin size =
-    wordsOf
-    -- body offset; one parameter, `this`; loop depth; body size
-    (begin ∷ 1 ∷ 0 ∷ size
-    -- name; number registers; one other register; a frame of one
-    ∷ 0 ∷ 0 ∷ 1 ∷ 1
-    -- caches; flags: may be called with and without `new`
-    ∷ 0 ∷ 2
-    ∷ [])
-
--- its length
-abbrev pub largeLength : ℕ
-largeLength = 40
+    withNumber table.modernLargeFlags 2
+    (withNumber table.modernLargeFrame 1
+    (withNumber table.modernLargeNonPtrRegs 1
+    (withNumber table.modernLargeSize size
+    (withNumber table.modernLargeParams 1 (withNumber table.largeOffset begin (replicate (table.modernLargeWhole .width) 0))))))
 
 -- the length of the whole image
 abbrev pub lengthOf : ℕ → ℕ → ℕ → ℕ
-lengthOf n storage size = largeAt (bodyAt n storage) size + largeLength + footerLength
+lengthOf n storage size = largeAt (bodyAt n storage) size + table.modernLargeWhole .width + footerLength
 
 -- body, zeros, large header, from the place where the body begins
 unfoldable pub tailOf : ℕ → List ℕ → List ℕ
@@ -100,11 +97,11 @@ tailOf begin body = body ++ zerosTo4 (begin + length body) ++ largeHeader begin 
 -- ---- the image
 
 -- all before the footer
-unfoldable pub laid : ℕ → List ℕ → List ℕ → List ℕ → List ℕ
-laid version storage ends body =
+unfoldable pub allButFooter : ℕ → List ℕ → List ℕ → List ℕ → List ℕ
+allButFooter version storage ends body =
     let begin = bodyAt (length ends) (length storage) in
     sections version storage ends (largeAt begin (length body)) ++ tailOf begin body
 
 -- that and the footer's 20 bytes, finalized
 unfoldable pub minimal : ℕ → List ℕ → List ℕ → List ℕ → List ℕ
-minimal version storage ends body = sealed (lengthed (laid version storage ends body ++ replicate footerLength 0))
+minimal version storage ends body = sealed (lengthed (allButFooter version storage ends body ++ replicate footerLength 0))

@@ -11,35 +11,29 @@ ghost use mathlib.Core.Bool.{true, false};
 ghost use Prim.Native.Nat.{_+_, _≤_, _<_, _^_};
 ghost use lib.ListN.{length};
 ghost use lib.Seq.{sets};
-ghost use Rattle.bits.specs.Bytes.{bytesOf, up4};
+ghost use Rattle.bits.specs.Bytes.{bytesOf};
 ghost use Rattle.bits.specs.Words.{whole};
 ghost use Rattle.bits.specs.Outcome.{Answers, answered, made, roomed};
-ghost use Rattle.format.specs.Table.{modernRecord};
-ghost use Rattle.format.specs.Entry.{entry};
+ghost use Rattle.format.specs.Table.{headerLength, modernRecord, modernLargeWhole};
 ghost use Rattle.footer.specs.Finalize.{sizeLimit};
-ghost use Rattle.serialize.specs.Parts.{startOf, kindsAt, smallAt, storageAt, bodyAt, largeAt, lengthOf, headerOf, recordOf, smallTable, sections, largeLength, largeHeader, tailOf, minimal};
+ghost use Rattle.serialize.specs.Parts.{startOf, kindsAt, smallAt, storageAt, bodyAt, largeAt, lengthOf};
+ghost use Rattle.serialize.specs.Parts.{headerOf, recordOf, smallTable, sections, largeHeader, tailOf, minimal};
 ghost use Rattle.serialize.specs.Builder.{endsAscend, allSmall, lengthAnswer, built};
 
 // The first version with modern headers.
 const LEAST_VERSION: u32 = 97;
 
-// A string of that length, or at that offset, does not fit a small entry.
-const LONG: usize = 255;
+// What the builder sets in a large header: the one parameter is `this`; a function may be called
+// with and without `new`.
+const PARAMS: u64 = 1;
 
-const FAR: usize = 0x800000;
+const NON_PTR_REGS: u64 = 1;
 
-// The length of a large header.
-const LARGE_LEN: usize = 40;
+const FRAME_SIZE: u64 = 1;
+
+const PROHIBIT_NONE: u8 = 2;
 
 // ---- Places.
-
-// Rounded up to 4.
-fn up4(n: usize) -> usize
-    requires { ⌜ n < 2 ^ 40 ⌝ }
-    ensures { λ r. ⌜ r ≡ up4 n ⌝ }
-{
-    (n + 3) / 4 * 4
-}
 
 // The place of the kinds, behind the one function record.
 fn kinds_at() -> usize
@@ -68,7 +62,7 @@ fn body_at(strings: usize, size: usize) -> usize
     requires { ⌜ (strings ≤ sizeLimit) × (size < 2 ^ 32) ⌝ }
     ensures { λ r. ⌜ r ≡ bodyAt strings size ⌝ }
 {
-    up4(storage_at(strings) + size)
+    bits::up4(storage_at(strings) + size)
 }
 
 // ---- Strings.
@@ -112,10 +106,10 @@ fn all_small(ends: &[u32]) -> bool
     let mut i = 0;
     while i < ends.len() {
         let start = start_of(ends, i);
-        if FAR <= start {
+        if format::FAR <= start {
             return false;
         }
-        if start + LONG <= start_of(ends, i + 1) {
+        if start + format::LONG <= start_of(ends, i + 1) {
             return false;
         }
         i += 1;
@@ -132,15 +126,15 @@ fn limited(strings: usize, size: usize, body: usize) -> Answer
     ensures { λ r. ⌜ r ≡ lengthAnswer (lengthOf strings size body) ⌝ }
 {
     if footer::SIZE_LIMIT < strings {
-        return Answer::Refused(11);
+        return Answer::Refused(refusals::LIMIT);
     }
     if footer::SIZE_LIMIT < body {
-        return Answer::Refused(11);
+        return Answer::Refused(refusals::LIMIT);
     }
-    let large_at = up4(body_at(strings, size) + body);
-    let length = large_at + LARGE_LEN + footer::FOOTER_LEN;
+    let large_at = bits::up4(body_at(strings, size) + body);
+    let length = large_at + format::width(format::MODERN_LARGE_WHOLE) + footer::FOOTER_LEN;
     if footer::SIZE_LIMIT < length {
-        return Answer::Refused(11);
+        return Answer::Refused(refusals::LIMIT);
     }
     Answer::Length(length)
 }
@@ -150,35 +144,36 @@ fn measure(version: u32, text: &[u8], ends: &[u32], body: &[u8]) -> Answer
     ensures { λ r. ⌜ r ≡ answered (built version (now (text .entry)) (now (ends .entry)) (now (body .entry))) ⌝ }
 {
     if !ends_ascend(ends) {
-        return Answer::Refused(15);
+        return Answer::Refused(refusals::JOB);
     }
     let size = start_of(ends, ends.len());
     let given = text.len();
     if given < size {
-        return Answer::Refused(15);
+        return Answer::Refused(refusals::JOB);
     }
     if version < LEAST_VERSION {
-        return Answer::Refused(15);
+        return Answer::Refused(refusals::JOB);
     }
     let storage = &text[0..size];
     if !bits::ascii(storage) {
-        return Answer::Refused(8);
+        return Answer::Refused(refusals::VALUE);
     }
     if !all_small(ends) {
-        return Answer::Refused(12);
+        return Answer::Refused(refusals::FIELD);
     }
     limited(ends.len(), size, body.len())
 }
 
 // ---- The parts, each written at its place.
 
-// The file header. Its 128 bytes are enough, so that it is never refused.
+// The file header. Its buffer is as long as a header is, so that it is never refused.
 fn put_header(image: &mut [u8], version: u32, strings: u32, size: u32)
-    requires { ⌜ modernRecord .at ≤ length (now image) ⌝ }
+    requires { ⌜ headerLength ≤ length (now image) ⌝ }
     ensures { λ _. ⌜ now (image .exit) ≡ sets (now (image .entry)) 0 (headerOf version strings size) ⌝ }
 {
-    let mut header = [0u8; 128];
-    headers::write_modern_header(&mut header, version, [0; 20], 1, 1, 0, strings, size);
+    let mut header = [0u8; format::HEADER_LEN];
+    let hash = [0u8; format::SOURCE_HASH_LEN];
+    headers::write_modern_header(&mut header, version, hash, 1, 1, 0, strings, size);
     bits::put_bytes(image, 0, &header);
 }
 
@@ -196,35 +191,31 @@ fn pointing_record(large_at: usize) -> Words
 // That record in its slot.
 fn put_record(image: &mut [u8], large_at: usize)
     requires { ⌜ kindsAt ≤ length (now image) ⌝ }
-    ensures { λ _. ⌜ now (image .exit) ≡ sets (now (image .entry)) (modernRecord .at) (bytesOf (modernRecord .width) (recordOf «large_at»)) ⌝ }
+    ensures { λ _. ⌜ now (image .exit) ≡ sets (now (image .entry)) (modernRecord .at)
+        (bytesOf (modernRecord .width) (recordOf «large_at»)) ⌝ }
 {
     let at = format::at(format::MODERN_RECORD);
     let end = kinds_at();
     bits::store12(&mut image[at..end], pointing_record(large_at));
 }
 
-// The small entry of a narrow string.
-fn small_entry(offset: u64, len: u64) -> u64
-    ensures { λ r. ⌜ r ≡ entry false offset len ⌝ }
-{
-    let offset_at = format::at(format::ENTRY_OFFSET);
-    let placed = bits::with_field(0, offset_at, format::width(format::ENTRY_OFFSET), offset);
-    let len_at = format::at(format::ENTRY_LENGTH);
-    bits::with_field(placed, len_at, format::width(format::ENTRY_LENGTH), len)
-}
-
-// The small entries of all strings.
+// The small entries of all strings, which are narrow.
 fn put_small_table(image: &mut [u8], ends: &[u32])
     requires { ⌜ storageAt (length (now ends)) ≤ length (now image) ⌝ }
     requires { ⌜ length (now image) ≤ sizeLimit ⌝ }
     requires { ⌜ endsAscend (now ends) ≡ true ⌝ }
-    ensures { λ _. ⌜ now (image .exit) ≡ sets (now (image .entry)) smallAt (smallTable (now (ends .entry)) (length (now (ends .entry)))) ⌝ }
+    ensures { λ _. ⌜ now (image .exit) ≡ sets (now (image .entry)) smallAt
+        (smallTable (now (ends .entry)) (length (now (ends .entry)))) ⌝ }
 {
     let mut i = 0;
     while i < ends.len() {
         let start = start_of(ends, i);
         let len = start_of(ends, i + 1) - start;
-        bits::put_word(image, storage_at(i), small_entry(start as u64, len as u64));
+        bits::put_word(
+            image,
+            storage_at(i),
+            format::entry(false, start as u64, len as u64),
+        );
         i += 1;
     }
 }
@@ -234,7 +225,8 @@ fn put_sections(image: &mut [u8], version: u32, storage: &[u8], ends: &[u32], la
     requires { ⌜ bodyAt (length (now ends)) (length (now storage)) ≤ length (now image) ⌝ }
     requires { ⌜ length (now image) ≤ sizeLimit ⌝ }
     requires { ⌜ endsAscend (now ends) ≡ true ⌝ }
-    ensures { λ _. ⌜ now (image .exit) ≡ sets (now (image .entry)) 0 (sections version (now (storage .entry)) (now (ends .entry)) «large_at») ⌝ }
+    ensures { λ _. ⌜ now (image .exit) ≡ sets (now (image .entry)) 0
+        (sections version (now (storage .entry)) (now (ends .entry)) «large_at») ⌝ }
 {
     let strings = ends.len();
     put_header(image, version, strings as u32, storage.len() as u32);
@@ -244,29 +236,33 @@ fn put_sections(image: &mut [u8], version: u32, storage: &[u8], ends: &[u32], la
     let at = storage_at(strings);
     bits::put_bytes(image, at, storage);
     let end = at + storage.len();
-    bits::put_zeros(image, end, up4(end) - end);
+    bits::put_zeros(image, end, bits::up4(end) - end);
 }
 
-// The large header of a body: body offset, parameters (`this`), loop depth, body size; name, number
-// registers, other registers, frame size; four bytes of caches; the flags byte, 2 for a function that
-// may be called with and without `new`, and three zeros.
+// The large header of a body: zeros, and in them the fields that are not 0.
 fn put_large_header(image: &mut [u8], at: usize, begin: u32, size: u32)
-    requires { ⌜ at + largeLength ≤ length (now image) ⌝ }
+    requires { ⌜ at + modernLargeWhole .width ≤ length (now image) ⌝ }
     ensures { λ _. ⌜ now (image .exit) ≡ sets (now (image .entry)) at (largeHeader begin size) ⌝ }
 {
-    let words = [begin, 1, 0, size, 0, 0, 1, 1, 0, 2];
-    bits::put_words(image, at, &words);
+    bits::put_zeros(image, at, format::width(format::MODERN_LARGE_WHOLE));
+    format::put_word(image, at, format::LARGE_OFFSET, begin as u64);
+    format::put_word(image, at, format::MODERN_LARGE_PARAMS, PARAMS);
+    format::put_word(image, at, format::MODERN_LARGE_SIZE, size as u64);
+    format::put_word(image, at, format::MODERN_LARGE_NON_PTR_REGS, NON_PTR_REGS);
+    format::put_word(image, at, format::MODERN_LARGE_FRAME, FRAME_SIZE);
+    let flags_at = at + format::at(format::MODERN_LARGE_FLAGS);
+    image[flags_at] = PROHIBIT_NONE;
 }
 
 // The body, from `begin` on, and its large header.
 fn put_tail(image: &mut [u8], begin: usize, body: &[u8])
-    requires { ⌜ largeAt begin (length (now body)) + largeLength ≤ length (now image) ⌝ }
+    requires { ⌜ largeAt begin (length (now body)) + modernLargeWhole .width ≤ length (now image) ⌝ }
     requires { ⌜ length (now image) ≤ sizeLimit ⌝ }
     ensures { λ _. ⌜ now (image .exit) ≡ sets (now (image .entry)) begin (tailOf begin (now (body .entry))) ⌝ }
 {
     bits::put_bytes(image, begin, body);
     let end = begin + body.len();
-    let at = up4(end);
+    let at = bits::up4(end);
     bits::put_zeros(image, end, at - end);
     put_large_header(image, at, begin as u32, body.len() as u32);
 }
@@ -276,10 +272,11 @@ fn put_image(image: &mut [u8], version: u32, storage: &[u8], ends: &[u32], body:
     requires { ⌜ length (now image) ≡ lengthOf (length (now ends)) (length (now storage)) (length (now body)) ⌝ }
     requires { ⌜ length (now image) ≤ sizeLimit ⌝ }
     requires { ⌜ endsAscend (now ends) ≡ true ⌝ }
-    ensures { λ r. ⌜ Answers (made (minimal version (now (storage .entry)) (now (ends .entry)) (now (body .entry)))) r (now (image .entry)) (now (image .exit)) ⌝ }
+    ensures { λ r. ⌜ Answers (made (minimal version (now (storage .entry)) (now (ends .entry)) (now (body .entry)))) r
+        (now (image .entry)) (now (image .exit)) ⌝ }
 {
     let begin = body_at(ends.len(), storage.len());
-    let large_at = up4(begin + body.len());
+    let large_at = bits::up4(begin + body.len());
     put_sections(image, version, storage, ends, large_at);
     put_tail(image, begin, body);
     footer::finalize_raw_image(image)
@@ -296,14 +293,16 @@ pub fn build_minimal_modern(
     body: &[u8],
     out: &mut [u8],
 ) -> Answer
-    ensures { λ r. ⌜ Answers (roomed (length (now (out .entry))) (built version (now (text .entry)) (now (ends .entry)) (now (body .entry)))) r (now (out .entry)) (now (out .exit)) ⌝ }
+    ensures { λ r. ⌜ Answers
+        (roomed (length (now (out .entry))) (built version (now (text .entry)) (now (ends .entry)) (now (body .entry)))) r
+        (now (out .entry)) (now (out .exit)) ⌝ }
 {
     let measured = measure(version, text, ends, body);
     let Answer::Length(length) = measured else {
         return measured;
     };
     if out.len() < length {
-        return Answer::Refused(13);
+        return Answer::Refused(refusals::ROOM);
     }
     let size = start_of(ends, ends.len());
     put_image(&mut out[0..length], version, &text[0..size], ends, body)

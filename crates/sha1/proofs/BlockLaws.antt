@@ -15,7 +15,8 @@ use Rattle.sha1.proofs.BigEndianLaws.{length-bigBytes, length-words, le
 
 -- ---- blocks
 
-pub hashed-more : (h s g n : List ℕ) (i : ℕ) → g ≡ hashes i h s → n ≡ hashed g (take (i * 64 + 64 - i * 64) (drop (i * 64) s)) → n ≡ hashes (i + 1) h s
+pub hashed-more : (h s g n : List ℕ) (i : ℕ) → g ≡ hashes i h s → n ≡ hashed g (take (i * 64 + 64 - i * 64) (drop (i * 64) s))
+    → n ≡ hashes (i + 1) h s
 unfolding hashes blockAt
 hashed-more h s g n i p e =
     let d : i * 64 + 64 - i * 64 ≡ 64 = omega arith in
@@ -58,7 +59,8 @@ module _ (rest : List ℕ) (n : ℕ) (l : length rest ≡ n % 64) where
       ∙ getD-replicate 128 (n % 64 + 1 + j) 0 0 (omega (arith, zeros-right n .1))
 
   -- the code's stores, one after the other
-  pub padded-rest : (z o1 o2 o3 : List ℕ) (count : ℕ) → z ≡ replicate 128 0 → count ≡ (n % 64 + 72) / 64 → o1 ≡ sets z 0 rest
+  pub padded-rest : (z o1 o2 o3 : List ℕ) (count : ℕ) → z ≡ replicate 128 0 → count ≡ (n % 64 + 72) / 64
+      → o1 ≡ sets z 0 rest
       → o2 ≡ sets (set o1 (n % 64) 0x80) (count * 64 - 8) (bigBytes 4 (n / 536870912 % 4294967296))
       → o3 ≡ sets o2 (count * 64 - 4) (bigBytes 4 (n % 536870912 * 8))
       → o3 ≡ sets (replicate 128 0) 0 (rest ++ padding n)
@@ -68,7 +70,23 @@ module _ (rest : List ℕ) (n : ℕ) (l : length rest ≡ n % 64) where
       let g = zeros-right n .1 in
       let e : n % 64 + 1 + zeros n ≡ count * 64 - 8 = omega arith in
       let k : count * 64 - 8 + 4 ≡ count * 64 - 4 = omega arith in
-      r ∙ rw (q, p, a) (sym (rw (sets-append rest, zero-add, l, sets-append (0x80 ∷ []), sets-append (replicate (zeros n) 0), length-replicate, e, length-words n, sets-append (bigBytes 4 (n / 536870912 % 4294967296)), length-bigBytes, k, sets-same (replicate (zeros n) 0) (set (sets (replicate 128 0) 0 rest) (n % 64) 0x80) (n % 64 + 1) (λ j h. still j (rw length-replicate at h) ∙ sym (getD-replicate (zeros n) j 0 0 (rw length-replicate at h))))))
+      r ∙ rw (q, p, a) (sym (rw (
+        sets-append rest,
+        zero-add,
+        l,
+        sets-append (0x80 ∷ []),
+        sets-append (replicate (zeros n) 0),
+        length-replicate,
+        e,
+        length-words
+            n,
+        sets-append (bigBytes 4 (n / 536870912 % 4294967296)),
+        length-bigBytes,
+        k,
+        sets-same (replicate (zeros n) 0)
+            (set (sets (replicate 128 0) 0 rest) (n % 64) 0x80) (n % 64 + 1)
+            (λ j h. still j (rw length-replicate at h) ∙ sym (getD-replicate (zeros n) j 0 0 (rw length-replicate at h))),
+      )))
 
 -- ---- the whole message, from its full blocks and its padded rest
 
@@ -85,10 +103,17 @@ whole s last h c a p q =
     let ld : length d ≡ c * 64 = length-append (drop (f * 64) s) (padding n) ∙ rw (length-drop, length-padding n) (omega arith) in
     let lp : length (s ++ padding n) ≡ (f + c) * 64 = length-append s (padding n) ∙ rw (length-padding n) (omega arith) in
     let k : length (s ++ padding n) / 64 ≡ f + c = omega arith in
-    let t : take (n - f * 64) (drop (f * 64) s) ≡ drop (f * 64) s = take-all (n - f * 64) (drop (f * 64) s) (rw length-drop (omega arith)) in
+    let t : take (n - f * 64) (drop (f * 64) s) ≡ drop (f * 64) s
+    = take-all (n - f * 64) (drop (f * 64) s) (rw length-drop (omega arith)) in
     let w : last ≡ d ++ drop (length d) (replicate 128 0) = (rw t at q) ∙ rw (sets-eq d (replicate 128 0) 0 (omega arith), zero-add) in
     rw (w, hashes-only c h d (drop (length d) (replicate 128 0)) (omega arith), p)
-    (sym (rw (k, hashes-append f c initial (s ++ padding n), hashes-only f initial s (padding n) (omega arith), drop-append-le (f * 64) s (padding n) (omega arith))))
+    (sym (rw (
+      k,
+      hashes-append f c initial (s ++ padding n),
+      hashes-only f initial s (padding n) (omega arith),
+      drop-append-le (f * 64) s
+          (padding n) (omega arith),
+    )))
 
 pub length-digest : (m : List ℕ) → length (digest m) ≡ 20
 unfolding digest
@@ -110,4 +135,5 @@ digest-below m =
     let h : List ℕ = hashes (length (padded m) / 64) initial (padded m) in
     let w : ℕ → List ℕ = λ i. bigBytes 4 (getD h i 0) in
     big-before 4 (getD h 0 0) (w 1 ++ (w 2 ++ (w 3 ++ w 4)))
-    (big-before 4 (getD h 1 0) (w 2 ++ (w 3 ++ w 4)) (big-before 4 (getD h 2 0) (w 3 ++ w 4) (big-before 4 (getD h 3 0) (w 4) (big-below 4 (getD h 4 0)))))
+    (big-before 4 (getD h 1 0) (w 2 ++ (w 3 ++ w 4))
+    (big-before 4 (getD h 2 0) (w 3 ++ w 4) (big-before 4 (getD h 3 0) (w 4) (big-below 4 (getD h 4 0)))))

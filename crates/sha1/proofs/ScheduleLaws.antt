@@ -15,7 +15,8 @@ module _ (w : List ℕ) (i x : ℕ) (h : i < length w) where
   grown : take (i + 1) (set w i x) ≡ take i w ++ x ∷ []
   grown = rw add-one (take-suc-set w i x h)
 
-  pub loaded-more : (block : List ℕ) → x ≡ bigAt block (i * 4) 4 → take i w ≡ words i block → take (i + 1) (set w i x) ≡ words (i + 1) block
+  pub loaded-more : (block : List ℕ) → x ≡ bigAt block (i * 4) 4 → take i w ≡ words i block
+      → take (i + 1) (set w i x) ≡ words (i + 1) block
   unfolding words
   loaded-more block e p = grown ∙ rw (add-one, e, p)
 
@@ -26,5 +27,17 @@ module _ (w : List ℕ) (i x : ℕ) (h : i < length w) where
   extended-more m k e p =
       let a : i + 1 - 16 ≡ suc (i - 16) = omega arith in
       let b : 16 + (i - 16) ≡ i = omega arith in
-      let g : (j : ℕ) → j < i → getD w j 0 ≡ getD (extended (i - 16) m) j 0 = λ j q. sym (getD-take i w j 0 q) ∙ ap (λ (v : List ℕ). getD v j 0) p in
-      rw (grown, p, a, b, ← g (i - 3) (omega arith), ← g (i - 8) (omega arith), ← g (i - 14) (omega arith), ← g (i - 16) (omega arith), ← e)
+      let g : (j : ℕ) → j < i → getD w j 0 ≡ getD (extended (i - 16) m) j 0
+      = λ j q. sym (getD-take i w j 0 q) ∙ ap (λ (v : List ℕ). getD v j 0) p in
+      rw (
+        grown,
+        p,
+        a,
+        b,
+        ← g (i - 3) (omega arith),
+        ← g (i - 8) (omega arith),
+        ← g (i - 14) (omega arith),
+        ← g (i - 16)
+            (omega arith),
+        ← e,
+      )

@@ -1,5 +1,6 @@
 -- The functions and constants of SHA-1, FIPS 180-4. What changes between the rounds changes by quarter: t / 20 is
 -- 0 for the rounds 0 to 19, 1 for 20 to 39, 2 for 40 to 59 and 3 for 60 to 79.
+-- docs/FORMAT.md: SHA-1.
 use mathlib.Core.List.{[], _∷_}
 use Prim.Native.Nat.{ℕ, _/_}
 use lib.Dec.{eqb}

@@ -1,4 +1,5 @@
 -- SHA-1 of a list of bytes, FIPS 180-4.
+-- docs/FORMAT.md: SHA-1.
 use mathlib.Core.List.{List, [], _∷_, _++_}
 use Prim.Native.Nat.{ℕ, zero, suc, _+_, _-_, _*_, _/_, _%_}
 use lib.ListN.{length, getD, take, drop, replicate}
@@ -85,7 +86,8 @@ hashes (suc n) h m = hashed (hashes n h m) (blockAt m n)
 -- the bytes of a hash value, H_0 to H_4
 unfoldable pub digestBytes : List ℕ → List ℕ
 digestBytes h =
-    bigBytes 4 (getD h 0 0) ++ (bigBytes 4 (getD h 1 0) ++ (bigBytes 4 (getD h 2 0) ++ (bigBytes 4 (getD h 3 0) ++ bigBytes 4 (getD h 4 0))))
+    bigBytes 4 (getD h 0 0) ++ (bigBytes 4 (getD h 1 0)
+    ++ (bigBytes 4 (getD h 2 0) ++ (bigBytes 4 (getD h 3 0) ++ bigBytes 4 (getD h 4 0))))
 
 -- the message digest
 unfoldable pub digest : List ℕ → List ℕ

@@ -1,14 +1,14 @@
 // A string of an admitted image gets a value that does not fit in place: the strings are packed anew,
 // and what lies behind them moves. Sizes are judged before the first byte is written.
 use bits::Answer;
+use relocate::Cause;
 use relocate::Move;
-use relocate::Patch;
 use sections::Places;
-use string_region::Shape;
-use string_region::Sizes;
+use string_packing::Shape;
+use string_packing::Sizes;
 ghost use lib.ListN.{length};
 ghost use Rattle.bits.specs.Outcome.{Answers, made, roomed};
-ghost use Rattle.string_patch.specs.Patch.{patched, patchKnown};
+ghost use Rattle.string_in_place.specs.Patch.{patchedString, patchKnown};
 ghost use Rattle.string_rebuild.specs.Ready.{Asked, Ready};
 
 // The image with its strings packed anew, in a buffer of its length.
@@ -23,19 +23,20 @@ fn put_rebuilt<'a>(
     tail: usize,
 ) -> Answer
     requires { ⌜ Ready p (now image) (now value) id new sizes tail (length (now out)) ⌝ }
-    ensures { λ r. ⌜ Answers (made (patched (p .layout) (now (image .entry)) id (now (value .entry)))) r (now (out .entry)) (now (out .exit)) ⌝ }
+    ensures { λ r. ⌜ Answers (made (patchedString (p .layout) (now (image .entry)) id (now (value .entry)))) r (now (out .entry))
+        (now (out .exit)) ⌝ }
 {
     let layout = p.layout;
     let m = Move {
         from: p.tail,
         to: tail,
-        patch: Patch::Strings,
+        cause: Cause::Strings,
     };
     relocate::copy_around(out, image, p.small_at, p.tail, tail);
-    region_write::put_region(out, image, value, p, id, new, sizes);
+    string_packing_write::put_region(out, image, value, p, id, new, sizes);
     relocate::put_counts(out, sizes.overflows, sizes.storage);
     relocate::relocate(out, image, layout, m);
-    string_patch::finish(out, image, p, id, value)
+    string_in_place::finish(out, image, p, id, value)
 }
 
 // The same in a buffer of any length: 11 where the image would be too long, 12 where a place that
@@ -43,23 +44,24 @@ fn put_rebuilt<'a>(
 // have bytes is told before it is part of a sum.
 pub fn rebuild<'a>(out: &mut [u8], image: &'a [u8], value: &'a [u8], p: Places, id: usize) -> Answer
     requires { ⌜ Asked p (now image) (now value) id ⌝ }
-    ensures { λ r. ⌜ Answers (roomed (length (now (out .entry))) (patchKnown (p .layout) (now (image .entry)) id (now (value .entry)))) r (now (out .entry)) (now (out .exit)) ⌝ }
+    ensures { λ r. ⌜ Answers (roomed (length (now (out .entry))) (patchKnown (p .layout) (now (image .entry)) id (now (value .entry)))) r
+        (now (out .entry)) (now (out .exit)) ⌝ }
 {
-    let new = string_region::shape_of(value);
+    let new = string_packing::shape_of(value);
     if footer::SIZE_LIMIT < new.count {
-        return Answer::Refused(11);
+        return Answer::Refused(refusals::LIMIT);
     }
-    let sizes = string_region::measure(image, p, id, new);
-    let tail = string_region::new_tail(p, sizes);
+    let sizes = string_packing::measure(image, p, id, new);
+    let tail = string_packing::new_tail(p, sizes);
     let n = image.len() - p.tail + tail;
     if footer::SIZE_LIMIT < n {
-        return Answer::Refused(11);
+        return Answer::Refused(refusals::LIMIT);
     }
-    if !moves::fields_fit(image, p, p.tail, tail) {
-        return Answer::Refused(12);
+    if !moved_fields::fields_fit(image, p, p.tail, tail) {
+        return Answer::Refused(refusals::FIELD);
     }
     if out.len() < n {
-        return Answer::Refused(13);
+        return Answer::Refused(refusals::ROOM);
     }
     put_rebuilt(&mut out[0..n], image, value, p, id, new, sizes, tail)
 }

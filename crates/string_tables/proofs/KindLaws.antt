@@ -8,12 +8,13 @@ use borrow.Author.Tests.{eq-eqb, ne-eqb}
 use Rattle.bits.specs.Choice.{sumBelow}
 use Rattle.bits.proofs.TestLaws.{sum-next}
 use Rattle.format.specs.declared.Layout.{Layout}
+use Rattle.format.specs.Table.{kindEntry}
+use Rattle.format.specs.Number.{entryIn}
 use Rattle.image.specs.Sections.{kindsIn, kindsAt}
 use Rattle.image.specs.Kinds.{kindIn, runOf, identifierRun, covered, identified}
 use Rattle.sections.specs.declared.Places.{Places}
 use Rattle.sections.specs.Places.{Placed}
 use Rattle.sections.proofs.SectionLaws.{sectioned}
-use Rattle.string_tables.specs.Words.{wordsFrom}
 use Rattle.string_tables.specs.Kinds.{kindsGood}
 
 pub none-covered : (w : ℕ → ℕ) → (_≡_ {A = ℕ} 0 (covered w 0)) × (_≡_ {A = ℕ} 0 (identified w 0))
@@ -31,14 +32,14 @@ module _ (w : ℕ → ℕ) (k x : ℕ) (e : x ≡ w k) where
   identified-next n r h g = rw (h, g, e) (sym (sum-next (λ j. identifierRun (w j)) k))
 
 -- the kind words of an image
-kind-words : (l : Layout) (s : List ℕ) → kindIn l s ≡ wordsFrom s (kindsAt l s)
+kind-words : (l : Layout) (s : List ℕ) → kindIn l s ≡ entryIn (kindsAt l s) kindEntry s
 unfolding kindIn
 kind-words l s = refl
 
-module _ (p : Places) (s : List ℕ) (h : Placed p s) (n m : ℕ) (e : n ≡ covered (wordsFrom s (p .«kinds_at»)) (p .kinds))
-    (f : m ≡ identified (wordsFrom s (p .«kinds_at»)) (p .kinds)) where
-  words : wordsFrom s (p .«kinds_at») ≡ kindIn (p .layout) s
-  words = ap (λ (at : ℕ). wordsFrom s at) (sectioned p s h .kindsFrom) ∙ sym (kind-words (p .layout) s)
+module _ (p : Places) (s : List ℕ) (h : Placed p s) (n m : ℕ) (e : n ≡ covered (entryIn (p .«kinds_at») kindEntry s) (p .kinds))
+    (f : m ≡ identified (entryIn (p .«kinds_at») kindEntry s) (p .kinds)) where
+  words : entryIn (p .«kinds_at») kindEntry s ≡ kindIn (p .layout) s
+  words = ap (λ (at : ℕ). entryIn at kindEntry s) (sectioned p s h .kindsFrom) ∙ sym (kind-words (p .layout) s)
 
   both-sums : (n ≡ covered (kindIn (p .layout) s) (kindsIn s)) × (m ≡ identified (kindIn (p .layout) s) (kindsIn s))
   both-sums =
@@ -53,4 +54,5 @@ module _ (p : Places) (s : List ℕ) (h : Placed p s) (n m : ℕ) (e : n ≡ cov
 
   pub strings-agree : n ≡ p .strings → eqb m (p .identifiers) ≡ kindsGood (p .layout) s
   unfolding kindsGood
-  strings-agree g = rw (← both-sums .0, ← both-sums .1, ← sectioned p s h .strings, ← sectioned p s h .identifiers, eq-eqb n (p .strings) g)
+  strings-agree g =
+      rw (← both-sums .0, ← both-sums .1, ← sectioned p s h .strings, ← sectioned p s h .identifiers, eq-eqb n (p .strings) g)

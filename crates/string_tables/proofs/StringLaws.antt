@@ -16,16 +16,17 @@ use Rattle.bits.specs.Bytes.{wordAt}
 use Rattle.bits.proofs.TestLaws.{which, below, both-0, imp-use, all-next}
 use Rattle.bits.proofs.PassLaws.{all-both, all-same, pass-next, pass-stop}
 use Rattle.format.specs.declared.Layout.{Layout}
-use Rattle.format.specs.Table.{entryOffset, entryLength, ifSet}
+use Rattle.format.specs.Table.{entryOffset, entryLength, overflowEntry, overflowOffset, overflowLength, ifSet}
 use Rattle.format.specs.Record.{valueOf}
+use Rattle.format.specs.Number.{numberFrom, entryAt}
 use Rattle.format.specs.Entry as entry
+use Rattle.format.proofs.EntryLaws.{set-bit}
 use Rattle.image.specs.Sections.{stringsIn, overflowsIn, storageIn, overAt}
-use Rattle.image.specs.Strings.{isFull, isWide, overBefore, placeOf, locate, smallIn, overIn, placeAt, sizeOf}
+use Rattle.image.specs.Strings.{Pair, isFull, isWide, overBefore, placeOf, locate, smallIn, pairIn, overIn, placeAt, sizeOf}
 use Rattle.image.specs.Admission.{overflowsCounted, overflowsNumbered, stringsStored, stringsNarrow, bytesNarrow}
 use Rattle.sections.specs.declared.Places.{Places}
 use Rattle.sections.specs.Places.{Placed}
 use Rattle.sections.proofs.SectionLaws.{Sectioned, sectioned}
-use Rattle.string_tables.specs.Words.{wordsFrom}
 use Rattle.string_tables.specs.Strings.{allNarrow, numbered, stored, entryGood, entryGoodAt, stringsGood}
 
 -- ---- bytes gathered by or
@@ -34,7 +35,8 @@ or-below : (a b : ℕ) → leb (bitOr a b) 0x7F ≡ both (leb b 0x7F) (leb a 0x7
 or-below a b =
     elim (which (leb b 0x7F)) [
       | inl u ↦ rw u (elim (which (leb a 0x7F)) [
-        | inl t ↦ rw t (le-leb (bitOr a b) 0x7F (omega (arith, or-lt 7 a b (omega (arith, leb-true a 0x7F t)) (omega (arith, leb-true b 0x7F u)))))
+        | inl t ↦ rw t (le-leb (bitOr a b) 0x7F
+            (omega (arith, or-lt 7 a b (omega (arith, leb-true a 0x7F t)) (omega (arith, leb-true b 0x7F u)))))
         | inr f ↦ rw f (lt-leb (bitOr a b) 0x7F (omega (arith, or-add-and a b, and-le-r a b, leb-false a 0x7F f)))
       ])
       | inr f ↦ rw f (lt-leb (bitOr a b) 0x7F (omega (arith, or-add-and a b, and-le-l a b, leb-false b 0x7F f)))
@@ -74,23 +76,20 @@ in-pairs overflows k x t f =
 -- ---- the place of an entry
 
 module _ (s : List ℕ) (at k x : ℕ) (w r : Bool) (e : w ≡ isWide x) (g : r ≡ isFull x) where
-  pub pair-place : r ≡ true → (pair a n : ℕ) → pair ≡ at + k * 8 → a ≡ wordAt s pair → n ≡ wordAt s (pair + 4)
-      → record { wide = w; at = a; count = n } ≡ placeOf (wordsFrom s at) k x
+  pub pair-place : r ≡ true → (pair a n : ℕ) → pair ≡ entryAt at overflowEntry k → a ≡ numberFrom pair overflowOffset s
+      → n ≡ numberFrom pair overflowLength s → record { wide = w; at = a; count = n } ≡ placeOf (pairIn at s) k x
   unfolding placeOf
-  pair-place t pair a n h f d =
-      let p : at + k * 2 * 4 ≡ pair = omega arith in
-      let q : at + (k * 2 + 1) * 4 ≡ pair + 4 = omega arith in
-      rw (← g, t, ← e, f, d, p, q)
+  pair-place t pair a n h f d = rw (← g, t, ← e, f, d, h)
 
   pub own-place : r ≡ false → (a n : ℕ) → a ≡ valueOf entryOffset x → n ≡ valueOf entryLength x
-      → record { wide = w; at = a; count = n } ≡ placeOf (wordsFrom s at) k x
+      → record { wide = w; at = a; count = n } ≡ placeOf (pairIn at s) k x
   unfolding placeOf
   own-place t a n f d = rw (← g, t, ← e, f, d)
 
--- the words of an image's overflow table
-over-words : (l : Layout) (s : List ℕ) → overIn l s ≡ wordsFrom s (overAt l s)
+-- the pairs of an image's overflow table
+over-pairs : (l : Layout) (s : List ℕ) → overIn l s ≡ pairIn (overAt l s) s
 unfolding overIn
-over-words l s = refl
+over-pairs l s = refl
 
 both-true : (a : Bool) → both a true ≡ a
 both-true true = refl
@@ -101,10 +100,6 @@ both-no true = refl
 both-no false = refl
 
 -- ---- the pass is the four tests of the definitions
-
-set-bit : (b : Bool) → ifSet b 1 ≡ entry.bit b
-set-bit true = refl
-set-bit false = refl
 
 pub count-none : (w : ℕ → ℕ) → _≡_ {A = ℕ} 0 (overBefore w 0)
 unfolding overBefore
@@ -125,7 +120,8 @@ module _ (l : Layout) (s : List ℕ) (c : overBefore (smallIn l s) (stringsIn s)
   numbered-in i h = go (isFull (smallIn l s i)) (count-mono (smallIn l s) i (stringsIn s) h)
     where
       go : (b : Bool) → overBefore (smallIn l s) i + entry.bit b ≤ overBefore (smallIn l s) (stringsIn s)
-          → implies b (both (ltb (overBefore (smallIn l s) i) (overflowsIn s)) (eqb (valueOf entryOffset (smallIn l s i)) (overBefore (smallIn l s) i)))
+          → implies b (both (ltb (overBefore (smallIn l s) i) (overflowsIn s))
+          (eqb (valueOf entryOffset (smallIn l s i)) (overBefore (smallIn l s) i)))
           ≡ implies b (eqb (valueOf entryOffset (smallIn l s i)) (overBefore (smallIn l s) i))
       go true k = rw (lt-ltb (overBefore (smallIn l s) i) (overflowsIn s) (omega arith))
       go false k = refl
@@ -133,10 +129,14 @@ module _ (l : Layout) (s : List ℕ) (c : overBefore (smallIn l s) (stringsIn s)
   entries-are : allBelow (stringsIn s) (entryGoodAt l s) ≡ both (overflowsNumbered l s) (both (stringsStored l s) (stringsNarrow l s))
   unfolding entryGoodAt entryGood stored overflowsNumbered stringsStored stringsNarrow placeAt locate
   entries-are =
-      all-both (λ i. numbered (overflowsIn s) (overBefore (smallIn l s) i) (smallIn l s i)) (λ i. stored l s (placeAt l s i)) (stringsIn s)
+      all-both (λ i. numbered (overflowsIn s) (overBefore (smallIn l s) i) (smallIn l s i)) (λ i. stored l s (placeAt l s i))
+      (stringsIn s)
       ∙ ap (λ (b : Bool). both b (allBelow (stringsIn s) (λ i. stored l s (placeAt l s i))))
-      (all-same _ (λ i. implies (isFull (smallIn l s i)) (eqb (valueOf entryOffset (smallIn l s i)) (overBefore (smallIn l s) i))) (stringsIn s) numbered-in)
-      ∙ ap (λ (b : Bool). both (overflowsNumbered l s) b) (all-both (λ i. leb (placeAt l s i .at + sizeOf (placeAt l s i)) (storageIn s)) (λ i. bytesNarrow l s (placeAt l s i)) (stringsIn s))
+      (all-same _ (λ i. implies (isFull (smallIn l s i)) (eqb (valueOf entryOffset (smallIn l s i)) (overBefore (smallIn l s) i)))
+      (stringsIn s) numbered-in)
+      ∙ ap (λ (b : Bool). both (overflowsNumbered l s) b)
+      (all-both (λ i. leb (placeAt l s i .at + sizeOf (placeAt l s i)) (storageIn s)) (λ i. bytesNarrow l s (placeAt l s i))
+      (stringsIn s))
 
 all-strings : (l : Layout) (s : List ℕ)
     → both (allBelow (stringsIn s) (entryGoodAt l s)) (eqb (overBefore (smallIn l s) (stringsIn s)) (overflowsIn s)) ≡ stringsGood l s
@@ -144,14 +144,16 @@ unfolding stringsGood overflowsCounted
 all-strings l s = go (eqb (overBefore (smallIn l s) (stringsIn s)) (overflowsIn s)) refl
   where
     go : (b : Bool) → eqb (overBefore (smallIn l s) (stringsIn s)) (overflowsIn s) ≡ b
-        → both (allBelow (stringsIn s) (entryGoodAt l s)) b ≡ both b (both (overflowsNumbered l s) (both (stringsStored l s) (stringsNarrow l s)))
+        → both (allBelow (stringsIn s) (entryGoodAt l s)) b ≡ both b
+        (both (overflowsNumbered l s) (both (stringsStored l s) (stringsNarrow l s)))
     go true e = rw (entries-are l s (eqb-true _ _ e)) (both-true _)
     go false e = both-no (allBelow (stringsIn s) (entryGoodAt l s))
 
 module _ (p : Places) (s : List ℕ) (h : Placed p s) where
-  pub image-place : (k x : ℕ) → placeOf (wordsFrom s (p .«over_at»)) k x ≡ placeOf (overIn (p .layout) s) k x
+  pub image-place : (k x : ℕ) → placeOf (pairIn (p .«over_at») s) k x ≡ placeOf (overIn (p .layout) s) k x
   image-place k x =
-      ap (λ (w : ℕ → ℕ). placeOf w k x) (ap (λ (at : ℕ). wordsFrom s at) (sectioned p s h .overFrom) ∙ sym (over-words (p .layout) s))
+      ap (λ (v : ℕ → Pair). placeOf v k x)
+      (ap (λ (at : ℕ). pairIn at s) (sectioned p s h .overFrom) ∙ sym (over-pairs (p .layout) s))
 
   -- ---- a string in storage
 
@@ -165,9 +167,11 @@ module _ (p : Places) (s : List ℕ) (h : Placed p s) where
       unfolding stored bytesNarrow
       wide-stored t = rw (← e, ← sectioned p s h .storage, le-leb (q .at + n) (p .«storage_size») g, t)
 
-      pub narrow-stored : q .wide ≡ false → (r : Bool) → r ≡ allNarrow s (p .«storage_at» + q .at) (q .count) → r ≡ stored (p .layout) s q
+      pub narrow-stored : q .wide ≡ false → (r : Bool) → r ≡ allNarrow s (p .«storage_at» + q .at) (q .count)
+          → r ≡ stored (p .layout) s q
       unfolding stored bytesNarrow allNarrow
-      narrow-stored t r f = rw (← e, ← sectioned p s h .storage, le-leb (q .at + n) (p .«storage_size») g, t, ← sectioned p s h .storageFrom, f)
+      narrow-stored t r f =
+          rw (← e, ← sectioned p s h .storage, le-leb (q .at + n) (p .«storage_size») g, t, ← sectioned p s h .storageFrom, f)
 
   -- ---- an entry
 
@@ -176,7 +180,7 @@ module _ (p : Places) (s : List ℕ) (h : Placed p s) where
     unfolding entryGood
     entry-misnumbered g = rw (← sectioned p s h .overflows, ← e, not-true r g)
 
-    pub entry-numbered : not r ≡ false → (q : entry.Place) (t : Bool) → q ≡ placeOf (wordsFrom s (p .«over_at»)) k x
+    pub entry-numbered : not r ≡ false → (q : entry.Place) (t : Bool) → q ≡ placeOf (pairIn (p .«over_at») s) k x
         → t ≡ stored (p .layout) s q → t ≡ entryGood (p .layout) s k x
     unfolding entryGood
     entry-numbered g q t f d = rw (← sectioned p s h .overflows, ← e, not-false r g, ← image-place k x, ← f, d)
@@ -200,22 +204,26 @@ module _ (p : Places) (s : List ℕ) (h : Placed p s) where
 
     -- one more entry, whose test answered r
     module _ (r : Bool) (d : r ≡ entryGood (p .layout) s k x) where
-      pub entries-next : not r ≡ false → allBelow i (entryGoodAt (p .layout) s) ≡ true → allBelow (i + 1) (entryGoodAt (p .layout) s) ≡ true
+      pub entries-next : not r ≡ false → allBelow i (entryGoodAt (p .layout) s) ≡ true
+          → allBelow (i + 1) (entryGoodAt (p .layout) s) ≡ true
       entries-next z a = pass-next (entryGoodAt (p .layout) s) i r (d ∙ walked) z a
 
       pub entry-fails : not r ≡ true → i < p .strings → false ≡ stringsGood (p .layout) s
       entry-fails z l =
           let b : false ≡ allBelow (stringsIn s) (entryGoodAt (p .layout) s)
           = pass-stop (entryGoodAt (p .layout) s) (stringsIn s) i r (omega (arith, sectioned p s h .strings)) (d ∙ walked) z in
-          ap (λ (a : Bool). both a (eqb (overBefore (smallIn (p .layout) s) (stringsIn s)) (overflowsIn s))) b ∙ all-strings (p .layout) s
+          ap (λ (a : Bool). both a (eqb (overBefore (smallIn (p .layout) s) (stringsIn s)) (overflowsIn s))) b
+          ∙ all-strings (p .layout) s
 
     pub count-next : (r : Bool) (b : ℕ) → r ≡ isFull x → b ≡ ifSet r 1 → k + b ≡ overBefore (smallIn (p .layout) s) (i + 1)
     unfolding overBefore
     count-next r b d z = rw (add-one, ← small-word, ← d, z, g) (ap (λ (m : ℕ). overBefore (smallIn (p .layout) s) i + m) (set-bit r))
 
-  pub entries-end : (i k : ℕ) → i ≡ p .strings → k ≡ overBefore (smallIn (p .layout) s) i → allBelow i (entryGoodAt (p .layout) s) ≡ true
+  pub entries-end : (i k : ℕ) → i ≡ p .strings → k ≡ overBefore (smallIn (p .layout) s) i
+      → allBelow i (entryGoodAt (p .layout) s) ≡ true
       → eqb k (p .overflows) ≡ stringsGood (p .layout) s
   entries-end i k e g a =
       let z : Sectioned p s = sectioned p s h in
       let b : i ≡ stringsIn s = e ∙ z .strings in
-      rw (g, z .overflows, b) (ap (λ (y : Bool). both y (eqb (overBefore (smallIn (p .layout) s) (stringsIn s)) (overflowsIn s))) (sym (rw b at a)) ∙ all-strings (p .layout) s)
+      rw (g, z .overflows, b) (ap (λ (y : Bool). both y (eqb (overBefore (smallIn (p .layout) s) (stringsIn s)) (overflowsIn s)))
+      (sym (rw b at a)) ∙ all-strings (p .layout) s)

@@ -1,4 +1,5 @@
 -- Refusal 4 as one test. 01: "counts differ from string count, or identifiers from identifier count".
+-- docs/FORMAT.md: Kinds, Admission.
 use mathlib.Core.Bool.{Bool}
 use mathlib.Core.List.{List}
 use Prim.Native.Nat.{ℕ}

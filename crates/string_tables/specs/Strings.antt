@@ -1,4 +1,5 @@
 -- Refusal 5 as one pass over the small table, with the count of overflow entries carried along.
+-- docs/FORMAT.md: Strings, Admission.
 use mathlib.Core.Bool.{Bool}
 use mathlib.Core.List.{List}
 use Prim.Native.Nat.{ℕ, _+_}

@@ -5,11 +5,12 @@ ghost use mathlib.Core.Path.{_≡_};
 ghost use mathlib.Core.Bool.{true};
 ghost use Prim.Native.Nat.{_+_, _*_, _≤_, _<_};
 ghost use lib.ListN.{length};
+ghost use Rattle.format.specs.Table.{kindEntry, overflowEntry};
+ghost use Rattle.format.specs.Number.{entryAt, entryIn};
 ghost use Rattle.footer.specs.Finalize.{sizeLimit};
-ghost use Rattle.image.specs.Strings.{isFull, isWide, placeOf, sizeOf};
+ghost use Rattle.image.specs.Strings.{isFull, isWide, placeOf, pairIn, sizeOf};
 ghost use Rattle.image.specs.Kinds.{identifierRun, covered, identified};
 ghost use Rattle.sections.specs.Places.{Placed};
-ghost use Rattle.string_tables.specs.Words.{wordsFrom};
 ghost use Rattle.string_tables.specs.Kinds.{kindsGood};
 ghost use Rattle.string_tables.specs.Strings.{asPlace, allNarrow, numbered, stored, entryGood, stringsGood};
 
@@ -27,12 +28,6 @@ pub struct Covered {
     pub identifiers: u64,
 }
 
-// The length field of an entry whose place stands in the overflow table.
-pub const FULL: u64 = 255;
-
-// The bytes of a word.
-const WORD: usize = 4;
-
 // ---- kinds
 
 // How many of the ids that a kind word covers are identifiers.
@@ -47,8 +42,9 @@ fn identifier_run(word: u64) -> u64
 
 // What `n` kind words cover that stand from `at` on. The sums are exact: a run is below 2^31.
 fn covered_by(image: &[u8], at: usize, n: usize) -> Covered
-    requires { ⌜ (at + n * 4 ≤ length (now image)) × (length (now image) ≤ sizeLimit) ⌝ }
-    ensures { λ r. ⌜ (r .strings ≡ covered (wordsFrom (now (image .entry)) at) n) × (r .identifiers ≡ identified (wordsFrom (now (image .entry)) at) n) ⌝ }
+    requires { ⌜ (entryAt at kindEntry n ≤ length (now image)) × (length (now image) ≤ sizeLimit) ⌝ }
+    ensures { λ r. ⌜ r .strings ≡ covered (entryIn at kindEntry (now (image .entry))) n ⌝ }
+    ensures { λ r. ⌜ r .identifiers ≡ identified (entryIn at kindEntry (now (image .entry))) n ⌝ }
 {
     let mut strings: u64 = 0;
     let mut identifiers: u64 = 0;
@@ -82,7 +78,7 @@ pub fn are_kinds_good(image: &[u8], p: Places) -> bool
 pub fn is_full(entry: u64) -> bool
     ensures { λ r. ⌜ r ≡ isFull entry ⌝ }
 {
-    format::value(entry, format::ENTRY_LENGTH) == FULL
+    format::value(entry, format::ENTRY_LENGTH) == format::FULL
 }
 
 pub fn is_wide(entry: u64) -> bool
@@ -95,14 +91,15 @@ pub fn is_wide(entry: u64) -> bool
 // the overflow table, which starts at `pairs`.
 pub fn place_of_entry(image: &[u8], pairs: usize, k: usize, entry: u64) -> Place
     requires { ⌜ (pairs < 1099511627776) × (k < 4294967296) ⌝ }
-    requires { ⌜ (isFull entry ≡ true → pairs + k * 8 + 8 ≤ length (now image)) ⌝ }
-    ensures { λ r. ⌜ (asPlace r ≡ placeOf (wordsFrom (now (image .entry)) pairs) k entry) × (r .at < 4294967296) × (r .count < 4294967296) ⌝ }
+    requires { ⌜ (isFull entry ≡ true → entryAt pairs overflowEntry k + overflowEntry .width ≤ length (now image)) ⌝ }
+    ensures { λ r. ⌜ (asPlace r ≡ placeOf (pairIn pairs (now (image .entry))) k entry) × (r .at < 4294967296)
+        × (r .count < 4294967296) ⌝ }
 {
     let wide = is_wide(entry);
     if is_full(entry) {
         let pair = sections::entry_at(pairs, k, format::OVERFLOW_ENTRY);
-        let at = bits::word(image, pair) as usize;
-        let count = bits::word(image, pair + WORD) as usize;
+        let at = format::word(image, pair, format::OVERFLOW_OFFSET) as usize;
+        let count = format::word(image, pair, format::OVERFLOW_LENGTH) as usize;
         return Place { wide, at, count };
     }
     let at = format::value(entry, format::ENTRY_OFFSET) as usize;

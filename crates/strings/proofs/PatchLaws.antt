@@ -7,6 +7,7 @@ use native.Mathlib.Omega.{arith}
 use borrow.Author.Tests.{le-leb, lt-leb, ne-eqb, not-true, not-false}
 use lib.Dec.{leb, eqb}
 use lib.ListN.{length}
+use Rattle.refusals.specs.Numbers as refusals
 use Rattle.bits.specs.Choice.{Check, check, judge}
 use Rattle.bits.specs.Outcome.{Answers, roomed, outcomeFor}
 use Rattle.bits.specs.declared.Answer.{Answer}
@@ -16,13 +17,19 @@ use Rattle.unicode.specs.Utf8.{isUtf8, utf16}
 use Rattle.image.specs.Sections.{stringsIn}
 use Rattle.image.specs.Admission.{checks}
 use Rattle.sections.specs.declared.Places.{Places}
+use Rattle.string_tables.specs.declared.Place.{Place}
+use Rattle.string_walk.specs.declared.Location.{Location}
+use Rattle.string_walk.specs.declared.Location.the-variants as location
+use Rattle.string_walk.specs.Places.{Locates}
+use Rattle.string_walk.specs.Places.{numberOf as location-number}
+use Rattle.string_walk.proofs.WalkLaws.{located-at, located-none}
 use Rattle.sections.specs.Places.{placesOf}
 use Rattle.admission.specs.declared.Admission.{Admission}
 use Rattle.admission.specs.declared.Admission.the-variants as answer
 use Rattle.admission.specs.Admission.{admission, numberOf}
 use Rattle.admission.proofs.AnswerLaws.{refused-is, refused-then, laid-is, laid-then, laid-layout}
-use Rattle.find_string.specs.Find.{findId}
-use Rattle.string_patch.specs.Patch.{resultChecks, patched, patchKnown}
+use Rattle.string_find.specs.Find.{findId}
+use Rattle.string_in_place.specs.Patch.{resultChecks, patchedString, patchKnown}
 use Rattle.strings.specs.Patch.{byIdRefusal, patchById, byValueRefusal, patchByValue}
 
 module _ (l : Layout) (s : List ℕ) (r : Admission) (e : r ≡ admission l s) where
@@ -35,13 +42,15 @@ module _ (l : Layout) (s : List ℕ) (r : Admission) (e : r ≡ admission l s) w
       let z : eqb k 0 ≡ false = ne-eqb k 0 (λ y. omega (arith, refused-is l s r e k f .1)) in
       rw (refused-then l s r e k f ds, z, m) (refl, refl)
 
-  pub id-refused : (id : ℕ) (value out : List ℕ) (k n : ℕ) → r ≡ answer.Refused k → n ≡ numberOf r → Answers (roomed (length out) (patchById l s id value)) (Refused n) out out
+  pub id-refused : (id : ℕ) (value out : List ℕ) (k n : ℕ) → r ≡ answer.Refused k → n ≡ numberOf r
+      → Answers (roomed (length out) (patchById l s id value)) (Refused n) out out
   unfolding patchById byIdRefusal
-  id-refused id value out k n f g = refused-all _ (patched l s id value) out k n f g
+  id-refused id value out k n f g = refused-all _ (patchedString l s id value) out k n f g
 
-  pub value-refused : (old new out : List ℕ) (k n : ℕ) → r ≡ answer.Refused k → n ≡ numberOf r → Answers (roomed (length out) (patchByValue l s old new)) (Refused n) out out
+  pub value-refused : (old new out : List ℕ) (k n : ℕ) → r ≡ answer.Refused k → n ≡ numberOf r
+      → Answers (roomed (length out) (patchByValue l s old new)) (Refused n) out out
   unfolding patchByValue byValueRefusal
-  value-refused old new out k n f g = refused-all _ (patched l s (findId l s (utf16 old)) new) out k n f g
+  value-refused old new out k n f g = refused-all _ (patchedString l s (findId l s (utf16 old)) new) out k n f g
 
   -- admitted: what comes behind decides
   module _ (p : Places) (f : r ≡ answer.Laid p) where
@@ -50,13 +59,20 @@ module _ (l : Layout) (s : List ℕ) (r : Admission) (e : r ≡ admission l s) w
     strings-is = ap (λ (q : Places). q .strings) (laid-is l s r e p f .1)
 
     module _ (id : ℕ) (value out : List ℕ) where
-      behind : patchById l s id value ≡ outcomeFor (judge (check 7 (leb (stringsIn s) id) ∷ check 8 (not (isUtf8 value)) ∷ resultChecks l s id value)) (patched l s id value)
+      behind : patchById l s id value ≡ outcomeFor
+          (judge (check 7 (leb (stringsIn s) id) ∷ check 8 (not (isUtf8 value)) ∷ resultChecks l s id value))
+          (patchedString l s id value)
       unfolding patchById byIdRefusal
-      behind = ap (λ (n : ℕ). outcomeFor n (patched l s id value)) (laid-then l s r e p f _)
+      behind = ap (λ (n : ℕ). outcomeFor n (patchedString l s id value)) (laid-then l s r e p f _)
 
-      pub id-absent : p .strings ≤ id → Answers (roomed (length out) (patchById l s id value)) (Refused 7) out out
+      pub id-absent : (loc : Location) → Locates p s id refusals.id loc → (m : ℕ) → loc ≡ location.Refused m → (n : ℕ)
+          → n ≡ location-number loc
+          → Answers (roomed (length out) (patchById l s id value)) (Refused n) out out
       unfolding judge roomed
-      id-absent h = rw (behind, ← strings-is, le-leb (p .strings) id h) (refl, refl)
+      id-absent loc h m u n v =
+          let (w, b) = located-none p s id refusals.id loc h m u in
+          let x : n ≡ 7 = v ∙ ap location-number u ∙ w in
+          rw (behind, ← strings-is, le-leb (p .strings) id b, x) (refl, refl)
 
       module _ (h : id < p .strings) (b : Bool) (g : b ≡ isUtf8 value) where
         pub id-value : not b ≡ true → Answers (roomed (length out) (patchById l s id value)) (Refused 8) out out
@@ -67,7 +83,8 @@ module _ (l : Layout) (s : List ℕ) (r : Admission) (e : r ≡ admission l s) w
         unfolding patchKnown judge
         known-is t = behind ∙ rw (← strings-is, lt-leb (p .strings) id h, ← g, not-false b t)
 
-        pub id-known : not b ≡ false → (a : Answer) (o : List ℕ) → Answers (roomed (length out) (patchKnown (p .layout) s id value)) a out o
+        pub id-known : not b ≡ false → (a : Answer) (o : List ℕ)
+            → Answers (roomed (length out) (patchKnown (p .layout) s id value)) a out o
             → Answers (roomed (length out) (patchById l s id value)) a out o
         id-known t a o k = rw (known-is t) (rw (laid-layout l s r e p f) at k)
 
@@ -76,9 +93,10 @@ module _ (l : Layout) (s : List ℕ) (r : Admission) (e : r ≡ admission l s) w
       at = findId l s (utf16 old)
 
       after : patchByValue l s old new
-          ≡ outcomeFor (judge (check 8 (not (isUtf8 old)) ∷ check 8 (not (isUtf8 new)) ∷ check 14 (leb (stringsIn s) at) ∷ resultChecks l s at new)) (patched l s at new)
+          ≡ outcomeFor (judge (check 8 (not (isUtf8 old)) ∷ check 8 (not (isUtf8 new)) ∷ check 14 (leb (stringsIn s) at)
+          ∷ resultChecks l s at new)) (patchedString l s at new)
       unfolding patchByValue byValueRefusal
-      after = ap (λ (n : ℕ). outcomeFor n (patched l s at new)) (laid-then l s r e p f _)
+      after = ap (λ (n : ℕ). outcomeFor n (patchedString l s at new)) (laid-then l s r e p f _)
 
       module _ (b : Bool) (g : b ≡ isUtf8 old) where
         pub old-value : not b ≡ true → Answers (roomed (length out) (patchByValue l s old new)) (Refused 8) out out
@@ -90,18 +108,30 @@ module _ (l : Layout) (s : List ℕ) (r : Admission) (e : r ≡ admission l s) w
           unfolding judge roomed
           new-value u = rw (after, ← g, not-false b t, ← d, not-true c u) (refl, refl)
 
-          module _ (u : not c ≡ false) (id : ℕ) (i : id ≡ findId (p .layout) s (utf16 old)) where
-            id-is : id ≡ at
-            id-is = i ∙ rw (laid-layout l s r e p f)
+          module _ (u : not c ≡ false) (loc : Location) (h : Locates p s (findId (p .layout) s (utf16 old)) refusals.absent loc) where
+            found-here : findId (p .layout) s (utf16 old) ≡ at
+            found-here = rw (laid-layout l s r e p f)
 
-            pub value-absent : p .strings ≤ id → Answers (roomed (length out) (patchByValue l s old new)) (Refused 14) out out
+            pub value-absent : (m : ℕ) → loc ≡ location.Refused m → (n : ℕ) → n ≡ location-number loc
+                → Answers (roomed (length out) (patchByValue l s old new)) (Refused n) out out
             unfolding judge roomed
-            value-absent h = rw (after, ← g, not-false b t, ← d, not-false c u, ← id-is, ← strings-is, le-leb (p .strings) id h) (refl, refl)
+            value-absent m v n w =
+                let (x, k) = located-none p s _ refusals.absent loc h m v in
+                let y : n ≡ 14 = w ∙ ap location-number v ∙ x in
+                rw (after, ← g, not-false b t, ← d, not-false c u, ← strings-is, le-leb (p .strings) at (rw found-here at k), y)
+                (refl, refl)
 
-            found-is : id < p .strings → patchByValue l s old new ≡ patchKnown l s id new
-            unfolding patchKnown judge
-            found-is h = after ∙ rw (← g, not-false b t, ← d, not-false c u, ← id-is, ← strings-is, lt-leb (p .strings) id h)
+            module _ (id : ℕ) (q : Place) (v : loc ≡ location.At id q) where
+              id-is : id ≡ at
+              id-is = located-at p s _ refusals.absent loc h id q v .0 ∙ found-here
 
-            pub value-known : id < p .strings → (a : Answer) (o : List ℕ) → Answers (roomed (length out) (patchKnown (p .layout) s id new)) a out o
-                → Answers (roomed (length out) (patchByValue l s old new)) a out o
-            value-known h a o k = rw (found-is h) (rw (laid-layout l s r e p f) at k)
+              id-in : id < p .strings
+              id-in = let (x, k, y) = located-at p s _ refusals.absent loc h id q v in rw x k
+
+              found-is : patchByValue l s old new ≡ patchKnown l s id new
+              unfolding patchKnown judge
+              found-is = after ∙ rw (← g, not-false b t, ← d, not-false c u, ← id-is, ← strings-is, lt-leb (p .strings) id id-in)
+
+              pub value-known : (a : Answer) (o : List ℕ) → Answers (roomed (length out) (patchKnown (p .layout) s id new)) a out o
+                  → Answers (roomed (length out) (patchByValue l s old new)) a out o
+              value-known a o k = rw found-is (rw (laid-layout l s r e p f) at k)

@@ -3,22 +3,33 @@ use admission::Admission;
 use bits::Answer;
 use format::Layout;
 use sections::Places;
+use string_tables::Place;
+use string_walk::Location;
 ghost use Prim.Native.Nat.{_<_};
 ghost use lib.ListN.{length};
 ghost use Rattle.bits.specs.Outcome.{Answers, roomed};
-ghost use Rattle.image.specs.Admitted.{Admitted};
-ghost use Rattle.sections.specs.Places.{Placed};
-ghost use Rattle.string_patch.specs.Patch.{patchKnown};
+ghost use Rattle.sections.specs.Places.{Laid};
+ghost use Rattle.string_walk.specs.Places.{Stands};
+ghost use Rattle.string_in_place.specs.Patch.{patchKnown};
 ghost use Rattle.strings.specs.Patch.{patchById, patchByValue};
 
-// A string of an admitted image gets a value: in place where it fits there, else by a rebuild.
-fn patch_known<'a>(out: &mut [u8], image: &'a [u8], value: &'a [u8], p: Places, id: usize) -> Answer
-    requires { ⌜ Placed p (now image) × Admitted (p .layout) (now image) × (id < p .strings) ⌝ }
-    ensures { λ r. ⌜ Answers (roomed (length (now (out .entry))) (patchKnown (p .layout) (now (image .entry)) id (now (value .entry)))) r (now (out .entry)) (now (out .exit)) ⌝ }
+// A string of an admitted image, which stands at `own`, gets a value: in place where it fits there,
+// else by a rebuild.
+fn patch_known<'a>(
+    out: &mut [u8],
+    image: &'a [u8],
+    value: &'a [u8],
+    p: Places,
+    id: usize,
+    own: Place,
+) -> Answer
+    requires { ⌜ Laid p (now image) × (id < p .strings) ⌝ }
+    requires { ⌜ Stands p (now image) id own ⌝ }
+    ensures { λ r. ⌜ Answers (roomed (length (now (out .entry))) (patchKnown (p .layout) (now (image .entry)) id (now (value .entry)))) r
+        (now (out .entry)) (now (out .exit)) ⌝ }
 {
-    let own = walk::locate(image, p, id);
-    if string_patch::fits_in_place(image, p, id, own, value) {
-        return string_patch::patch_in_place(out, image, p, id, own, value);
+    if string_in_place::fits_in_place(image, p, id, own, value) {
+        return string_in_place::patch_in_place(out, image, p, id, own, value);
     }
     string_rebuild::rebuild(out, image, value, p, id)
 }
@@ -34,19 +45,21 @@ pub fn patch_string_by_id<'a>(
     value: &'a [u8],
     out: &mut [u8],
 ) -> Answer
-    ensures { λ r. ⌜ Answers (roomed (length (now (out .entry))) (patchById layout (now (image .entry)) id (now (value .entry)))) r (now (out .entry)) (now (out .exit)) ⌝ }
+    ensures { λ r. ⌜ Answers (roomed (length (now (out .entry))) (patchById layout (now (image .entry)) id (now (value .entry)))) r
+        (now (out .entry)) (now (out .exit)) ⌝ }
 {
     let admitted = admission::admit(image, layout);
     let Admission::Laid(p) = admitted else {
         return Answer::Refused(admission::number_of(admitted));
     };
-    if p.strings <= id {
-        return Answer::Refused(7);
-    }
+    let location = string_walk::locate(image, p, id);
+    let Location::At(_, own) = location else {
+        return Answer::Refused(string_walk::number_of(location));
+    };
     if !unicode::is_utf8(value) {
-        return Answer::Refused(8);
+        return Answer::Refused(refusals::VALUE);
     }
-    patch_known(out, image, value, p, id)
+    patch_known(out, image, value, p, id, own)
 }
 
 // The lowest string that has the units of `old` gets the value `new`. Refused as by id, but for 8
@@ -58,21 +71,23 @@ pub fn patch_string_replace<'a>(
     new: &'a [u8],
     out: &mut [u8],
 ) -> Answer
-    ensures { λ r. ⌜ Answers (roomed (length (now (out .entry))) (patchByValue layout (now (image .entry)) (now (old .entry)) (now (new .entry)))) r (now (out .entry)) (now (out .exit)) ⌝ }
+    ensures { λ r. ⌜ Answers
+        (roomed (length (now (out .entry))) (patchByValue layout (now (image .entry)) (now (old .entry)) (now (new .entry)))) r
+        (now (out .entry)) (now (out .exit)) ⌝ }
 {
     let admitted = admission::admit(image, layout);
     let Admission::Laid(p) = admitted else {
         return Answer::Refused(admission::number_of(admitted));
     };
     if !unicode::is_utf8(old) {
-        return Answer::Refused(8);
+        return Answer::Refused(refusals::VALUE);
     }
     if !unicode::is_utf8(new) {
-        return Answer::Refused(8);
+        return Answer::Refused(refusals::VALUE);
     }
-    let id = find_string::find(image, p, old);
-    if p.strings <= id {
-        return Answer::Refused(14);
-    }
-    patch_known(out, image, new, p, id)
+    let location = string_find::find(image, p, old);
+    let Location::At(id, own) = location else {
+        return Answer::Refused(string_walk::number_of(location));
+    };
+    patch_known(out, image, new, p, id, own)
 }

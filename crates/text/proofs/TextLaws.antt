@@ -21,7 +21,8 @@ unfolding decimalOf
 same (suc n) (suc m) x h g = go (ltb x 10) (λ k. same n m (x / 10) (omega (arith, ltb-false x 10 k)) (omega (arith, ltb-false x 10 k)))
   where
     go : (t : Bool) → (t ≡ false → decimalOf n (x / 10) ≡ decimalOf m (x / 10))
-        → pick t (digit x ∷ []) (decimalOf n (x / 10) ++ (digit (x % 10) ∷ [])) ≡ pick t (digit x ∷ []) (decimalOf m (x / 10) ++ (digit (x % 10) ∷ []))
+        → pick t (digit x ∷ []) (decimalOf n (x / 10) ++ (digit (x % 10) ∷ [])) ≡ pick t (digit x ∷ [])
+        (decimalOf m (x / 10) ++ (digit (x % 10) ∷ []))
     go true e = refl
     go false e = ap (λ (l : List ℕ). l ++ (digit (x % 10) ∷ [])) (e refl)
 
@@ -50,13 +51,18 @@ decimal-short (suc k) x h = go (below-or x 10) (decimal-short k (x / 10))
 
 -- ---- as the code writes them
 
-pub put-one : (x at d : ℕ) (out : List ℕ) → x < 10 → d ≡ digit x → (at + 1 ≡ at + length (decimal x)) × (set out at d ≡ sets out at (decimal x))
+pub put-one : (x at d : ℕ) (out : List ℕ) → x < 10 → d ≡ digit x → (at + 1 ≡ at + length (decimal x))
+    × (set out at d ≡ sets out at (decimal x))
 put-one x at d out h e = rw (decimal-one x h, ← e) (refl, refl)
 
-pub put-more : (x at last d : ℕ) (out mid : List ℕ) → 10 ≤ x → last ≡ at + length (decimal (x / 10)) → mid ≡ sets out at (decimal (x / 10)) → d ≡ digit (x % 10)
+pub put-more : (x at last d : ℕ) (out mid : List ℕ) → 10 ≤ x → last ≡ at + length (decimal (x / 10))
+    → mid ≡ sets out at (decimal (x / 10)) → d ≡ digit (x % 10)
     → (last + 1 ≡ at + length (decimal x)) × (set mid last d ≡ sets out at (decimal x))
-put-more x at last d out mid h l m e =
-    (omega (arith, more-length x h), rw (decimal-more x h, ← e) (sets-then out mid (set mid last d) (decimal (x / 10)) (d ∷ []) at last m l refl))
+put-more x at last d out mid h l m e = (
+  omega (arith, more-length x h),
+  rw (decimal-more x h, ← e)
+      (sets-then out mid (set mid last d) (decimal (x / 10)) (d ∷ []) at last m l refl),
+)
 
 -- a 64-bit number has at most 20 digits
 pub decimal-20 : (x : ℕ) → x < 2 ^ 64 → length (decimal x) ≤ 20
@@ -65,7 +71,11 @@ decimal-20 x h = decimal-short 19 x (omega arith)
 -- ---- texts one behind the other
 
 pub wrote-then : (l m n a b : List ℕ) (at r q : ℕ) → Wrote l at a r m → Wrote m r b q n → Wrote l at (a ++ b) q n
-wrote-then l m n a b at r q w v = (v .0 ∙ rw (w .0) (add-assoc at (length a) (length b) ∙ ap (λ (k : ℕ). at + k) (sym (length-append a b))), sets-then l m n a b at r (w .1) (w .0) (v .1))
+wrote-then l m n a b at r q w v = (
+  v .0 ∙ rw (w .0) (add-assoc at (length a) (length b) ∙ ap (λ (k : ℕ). at + k) (sym (length-append a b))),
+  sets-then l m n a b at
+      r (w .1) (w .0) (v .1),
+)
 
 pub wrote-byte : (l m a : List ℕ) (at r b : ℕ) → Wrote l at a r m → Wrote l at (a ++ (b ∷ [])) (r + 1) (set m r b)
 wrote-byte l m a at r b w = wrote-then l m (set m r b) a (b ∷ []) at r (r + 1) w (refl, refl)
@@ -76,6 +86,7 @@ spaced-snoc [] w = refl
 spaced-snoc (v ∷ ws) w = rw (spaced-snoc ws w) (sym (append-assoc v (space ∷ spaced ws) (w ++ (space ∷ []))))
 
 -- one more word of a line
-pub wrote-word : (l m n : List ℕ) (ws : List (List ℕ)) (w : List ℕ) (at r q : ℕ) → Wrote l at (spaced ws) r m → Wrote m r (w ++ (space ∷ [])) q n
+pub wrote-word : (l m n : List ℕ) (ws : List (List ℕ)) (w : List ℕ) (at r q : ℕ) → Wrote l at (spaced ws) r m
+    → Wrote m r (w ++ (space ∷ [])) q n
     → Wrote l at (spaced (ws ++ (w ∷ []))) q n
 wrote-word l m n ws w at r q a b = rw (spaced-snoc ws w) (wrote-then l m n (spaced ws) (w ++ (space ∷ [])) at r q a b)

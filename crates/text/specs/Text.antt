@@ -1,4 +1,6 @@
--- Numbers and lines as text. 01, Programs: "numbers are decimal"; "units as four lower-case hex digits each"; "Every printed line ends with a line feed".
+-- Numbers and lines as text. 01, Programs: "numbers are decimal"; "units as four lower-case hex digits each"; "Every printed line
+-- ends with a line feed".
+-- docs/FORMAT.md: Listing.
 use mathlib.Core.Path.{_≡_}
 use mathlib.Core.List.{List, [], _∷_, _++_}
 use Prim.Native.Nat.{ℕ, zero, suc, _+_, _/_, _%_}

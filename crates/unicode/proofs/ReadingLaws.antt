@@ -53,7 +53,8 @@ module _ (b : ℕ) where
       (refl, record { few = omega arith; low = omega arith; from = omega arith; to = omega arith })
 
   pub opens-three : 0xE0 ≤ b → b < 0xF0
-      → Reads (record { ok = true; need = 2; point = b - 0xE0; lo = pick (eqb b 0xE0) 0xA0 0x80; hi = pick (eqb b 0xED) 0x9F 0xBF }) (opens b)
+      → Reads (record { ok = true; need = 2; point = b - 0xE0; lo = pick (eqb b 0xE0) 0xA0 0x80; hi = pick (eqb b 0xED) 0x9F 0xBF })
+      (opens b)
   unfolding opens
   opens-three h g =
       let l = pick-from (eqb b 0xE0) 0xA0 0x80 128 (omega arith) (omega arith) in
@@ -62,7 +63,8 @@ module _ (b : ℕ) where
       (refl, record { few = omega arith; low = omega arith; from = l; to = u })
 
   pub opens-four : 0xF0 ≤ b → b < 0xF5
-      → Reads (record { ok = true; need = 3; point = b - 0xF0; lo = pick (eqb b 0xF0) 0x90 0x80; hi = pick (eqb b 0xF4) 0x8F 0xBF }) (opens b)
+      → Reads (record { ok = true; need = 3; point = b - 0xF0; lo = pick (eqb b 0xF0) 0x90 0x80; hi = pick (eqb b 0xF4) 0x8F 0xBF })
+      (opens b)
   unfolding opens
   opens-four h g =
       let l = pick-from (eqb b 0xF0) 0x90 0x80 128 (omega arith) (omega arith) in
@@ -73,7 +75,14 @@ module _ (b : ℕ) where
   pub opens-past : 0xF5 ≤ b → wrong ≡ opens b
   unfolding opens
   opens-past h =
-      rw (le-ltb b 0x80 (omega arith), le-ltb b 0xC2 (omega arith), le-ltb b 0xE0 (omega arith), le-ltb b 0xF0 (omega arith), le-ltb b 0xF5 h)
+      rw (
+        le-ltb b 0x80 (omega arith),
+        le-ltb b 0xC2 (omega arith),
+        le-ltb b 0xE0 (omega arith),
+        le-ltb b 0xF0 (omega arith),
+        le-ltb b 0xF5
+            h,
+      )
 
 -- ---- a further byte
 
@@ -81,7 +90,8 @@ module _ (b : ℕ) where
 grown : (m p x : ℕ) → (p + 1) * 64 ^ suc m ≤ 2097152 → x ≤ 63 → (p * 64 + x + 1) * 64 ^ m ≤ 2097152
 grown m p x h k =
     let a : p * 64 + x + 1 ≤ (p + 1) * 64 = omega arith in
-    let e : (p + 1) * 64 * 64 ^ m ≡ (p + 1) * 64 ^ suc m = mul-assoc (p + 1) 64 (64 ^ m) ∙ ap (λ (q : ℕ). (p + 1) * q) (mul-comm 64 (64 ^ m) ∙ sym (pow-suc 64 m)) in
+    let e : (p + 1) * 64 * 64 ^ m ≡ (p + 1) * 64 ^ suc m
+    = mul-assoc (p + 1) 64 (64 ^ m) ∙ ap (λ (q : ℕ). (p + 1) * q) (mul-comm 64 (64 ^ m) ∙ sym (pow-suc 64 m)) in
     le-trans (mul-le-mul-right (64 ^ m) a) (rw e h)
 
 pub point-low : (r : Reading) → Small r → 0 < r .need → r .point * 64 + 64 ≤ 2097152
@@ -99,10 +109,16 @@ goes-below r b h = rw (lt-leb (r .lo) b h)
 pub goes-above : (r : Reading) (b : ℕ) → r .lo ≤ b → r .hi < b → wrong ≡ goesOn r b
 goes-above r b h g = rw (le-leb (r .lo) b h, lt-leb b (r .hi) g)
 
-pub goes-on : (r : Reading) (b : ℕ) → Small r → 0 < r .need → r .lo ≤ b → b ≤ r .hi → Reads (further (r .need - 1) (r .point * 64 + (b - 0x80))) (goesOn r b)
+pub goes-on : (r : Reading) (b : ℕ) → Small r → 0 < r .need → r .lo ≤ b → b ≤ r .hi
+    → Reads (further (r .need - 1) (r .point * 64 + (b - 0x80))) (goesOn r b)
 goes-on r b s h g k = (
   rw (le-leb (r .lo) b g, le-leb b (r .hi) k),
-  record { few = omega (arith, s .few); low = go (r .need) (r .point) (b - 0x80) h (s .low) (omega (arith, s .to)); from = omega arith; to = omega arith },
+  record {
+    few = omega (arith, s .few);
+    low = go (r .need) (r .point) (b - 0x80) h (s .low) (omega (arith, s .to));
+    from = omega arith;
+    to = omega arith;
+  },
 )
   where
     go : (n p x : ℕ) → 0 < n → (p + 1) * 64 ^ n ≤ 2097152 → x ≤ 63 → (p * 64 + x + 1) * 64 ^ (n - 1) ≤ 2097152
@@ -125,7 +141,8 @@ next-on r b h e = rw (h, ne-eqb (r .need) 0 e)
 
 -- ---- a loop over the bytes
 
-pub reading-next : (r : Reading) (s : List ℕ) (i : ℕ) → i < length s → readingOf (nextByte r (getD s i 0)) (drop (i + 1) s) ≡ readingOf r (drop i s)
+pub reading-next : (r : Reading) (s : List ℕ) (i : ℕ) → i < length s
+    → readingOf (nextByte r (getD s i 0)) (drop (i + 1) s) ≡ readingOf r (drop i s)
 unfolding readingOf
 reading-next r s i h = rw (add-one, drop-cons s i 0 h)
 
@@ -159,8 +176,12 @@ module _ (r : Reading) (s : List ℕ) (i : ℕ) (h : length s ≤ i) (e : readin
 
   pub judged-ok : r .ok ≡ true → eqb (r .need) 0 ≡ isUtf8 s
   unfolding isUtf8
-  judged-ok t = subst (λ (q : Reading). q .ok ≡ true → eqb (q .need) 0 ≡ both (readingOf between s .ok) (eqb (readingOf between s .need) 0)) (sym last) (λ k. rw k) t
+  judged-ok t =
+      subst (λ (q : Reading). q .ok ≡ true → eqb (q .need) 0 ≡ both (readingOf between s .ok) (eqb (readingOf between s .need) 0))
+      (sym last) (λ k. rw k) t
 
   pub judged-wrong : r .ok ≡ false → false ≡ isUtf8 s
   unfolding isUtf8
-  judged-wrong t = subst (λ (q : Reading). q .ok ≡ false → false ≡ both (readingOf between s .ok) (eqb (readingOf between s .need) 0)) (sym last) (λ k. rw k) t
+  judged-wrong t =
+      subst (λ (q : Reading). q .ok ≡ false → false ≡ both (readingOf between s .ok) (eqb (readingOf between s .need) 0)) (sym last)
+      (λ k. rw k) t

@@ -45,7 +45,8 @@ pub length-two : (u v : ℕ) → length (unitBytes (u ∷ v ∷ [])) ≡ 4
 length-two u v = ap length (two-units u v) ∙ length-append (bytesOf 2 u) (bytesOf 2 v) ∙ rw (length-bytesOf 2 u, length-bytesOf 2 v)
 
 -- one after the other, as the code stores them
-pub put-two : (u v at : ℕ) (out out₁ out₂ : List ℕ) → out₁ ≡ sets out at (bytesOf 2 u) → out₂ ≡ sets out₁ (at + 2) (bytesOf 2 v) → out₂ ≡ sets out at (unitBytes (u ∷ v ∷ []))
+pub put-two : (u v at : ℕ) (out out₁ out₂ : List ℕ) → out₁ ≡ sets out at (bytesOf 2 u)
+    → out₂ ≡ sets out₁ (at + 2) (bytesOf 2 v) → out₂ ≡ sets out at (unitBytes (u ∷ v ∷ []))
 put-two u v at out out₁ out₂ p q = rw (two-units u v, sets-append (bytesOf 2 u) (bytesOf 2 v), length-bytesOf 2 u, ← p) q
 
 pub bytes-append : (us vs : List ℕ) → unitBytes (us ++ vs) ≡ unitBytes us ++ unitBytes vs
@@ -123,13 +124,16 @@ module _ (r q : Reading) (s us : List ℕ) (i : ℕ) (h : i < length s) (n : q �
       (ap (λ (z : List ℕ). z ++ unitsFrom q (drop (i + 1) s)) (sym u))
 
   pub count-turn : (k x : ℕ) → k + length (unitsFrom r (drop i s)) ≡ x → k + length us + length (unitsFrom q (drop (i + 1) s)) ≡ x
-  count-turn k x e = add-assoc k (length us) (length (unitsFrom q (drop (i + 1) s))) ∙ ap (λ (m : ℕ). k + m) (sym (length-append us (unitsFrom q (drop (i + 1) s)))) ∙ rw rest at e
+  count-turn k x e =
+      add-assoc k (length us) (length (unitsFrom q (drop (i + 1) s)))
+      ∙ ap (λ (m : ℕ). k + m) (sym (length-append us (unitsFrom q (drop (i + 1) s)))) ∙ rw rest at e
 
   -- the counted units and the reading's wait stay below the bytes read
   pub weight-turn : length us + waits q ≤ 1 + waits r
   weight-turn = rw u (subst (λ (z : Reading). weight z ≤ 1 + waits r) (sym n) (next-weight r (getD s i 0)))
 
-  pub hash-turn : (g x : ℕ) → hashFrom g (unitsFrom r (drop i s)) ≡ x → hashFrom (hashFrom g us) (unitsFrom q (drop (i + 1) s)) ≡ x
+  pub hash-turn : (g x : ℕ) → hashFrom g (unitsFrom r (drop i s)) ≡ x
+      → hashFrom (hashFrom g us) (unitsFrom q (drop (i + 1) s)) ≡ x
   hash-turn g x e = sym (hash-append g us (unitsFrom q (drop (i + 1) s))) ∙ rw rest at e
 
   -- what is left to store

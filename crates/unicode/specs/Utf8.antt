@@ -1,4 +1,6 @@
--- Well-formed UTF-8 and its UTF-16 units, one byte at a time. The Unicode Standard, Table 3-7, Well-Formed UTF-8 Byte Sequences, and Table 3-5, UTF-16 Bit Distribution.
+-- Well-formed UTF-8 and its UTF-16 units, one byte at a time. The Unicode Standard, Table 3-7, Well-Formed UTF-8 Byte Sequences,
+-- and Table 3-5, UTF-16 Bit Distribution.
+-- docs/FORMAT.md: Values.
 use mathlib.Core.Bool.{Bool, true, false}
 use mathlib.Core.List.{List, [], _∷_, _++_}
 use Prim.Native.Nat.{ℕ, _+_, _-_, _*_, _/_, _%_, _^_, _≤_}
@@ -9,7 +11,8 @@ use Rattle.unicode.specs.declared.Reading.{Reading}
 use Rattle.unicode.specs.declared.Units.{Units}
 use Rattle.unicode.specs.declared.Units.the-variants.{None, One, Two}
 
--- `Reading` is where a reader stands: `need` bytes of a code point are to come, the next of them from `lo` to `hi`; `point` is what was read of it; not `ok` after a wrong byte
+-- `Reading` is where a reader stands: `need` bytes of a code point are to come, the next of them from `lo` to `hi`; `point` is what
+-- was read of it; not `ok` after a wrong byte
 
 -- n further bytes of the common range 80..BF
 abbrev pub further : ℕ → ℕ → Reading
@@ -23,14 +26,17 @@ between = further 0 0
 abbrev pub wrong : Reading
 wrong = record { ok = false; need = 0; point = 0; lo = 0x80; hi = 0xBF }
 
--- the first byte of a code point, row by row: 00..7F; C2..DF; E0 (then A0..BF), E1..EC, ED (then 80..9F), EE..EF; F0 (then 90..BF), F1..F3, F4 (then 80..8F)
+-- the first byte of a code point, row by row: 00..7F; C2..DF; E0 (then A0..BF), E1..EC, ED (then 80..9F), EE..EF; F0 (then 90..BF),
+-- F1..F3, F4 (then 80..8F)
 unfoldable pub opens : ℕ → Reading
 opens b =
     pick (ltb b 0x80) (further 0 b)
     (pick (ltb b 0xC2) wrong
     (pick (ltb b 0xE0) (further 1 (b - 0xC0))
-    (pick (ltb b 0xF0) (record { ok = true; need = 2; point = b - 0xE0; lo = pick (eqb b 0xE0) 0xA0 0x80; hi = pick (eqb b 0xED) 0x9F 0xBF })
-    (pick (ltb b 0xF5) (record { ok = true; need = 3; point = b - 0xF0; lo = pick (eqb b 0xF0) 0x90 0x80; hi = pick (eqb b 0xF4) 0x8F 0xBF }) wrong))))
+    (pick (ltb b 0xF0) (record
+    { ok = true; need = 2; point = b - 0xE0; lo = pick (eqb b 0xE0) 0xA0 0x80; hi = pick (eqb b 0xED) 0x9F 0xBF })
+    (pick (ltb b 0xF5) (record
+    { ok = true; need = 3; point = b - 0xF0; lo = pick (eqb b 0xF0) 0x90 0x80; hi = pick (eqb b 0xF4) 0x8F 0xBF }) wrong))))
 
 -- a further byte: 6 bits of the code point
 abbrev pub goesOn : Reading → ℕ → Reading

@@ -202,7 +202,8 @@ fn put_unit(out: &mut [u8], at: usize, unit: u32)
 // Units stored from `at` on. Answers where the next ones go.
 fn put_completed(out: &mut [u8], at: usize, units: Units) -> usize
     requires { ⌜ at + length (unitBytes (listOf units)) ≤ length (now out) ⌝ }
-    ensures { λ n. ⌜ (n ≡ at + length (unitBytes (listOf units))) × (now (out .exit) ≡ sets (now (out .entry)) at (unitBytes (listOf units))) ⌝ }
+    ensures { λ n. ⌜ (n ≡ at + length (unitBytes (listOf units)))
+        × (now (out .exit) ≡ sets (now (out .entry)) at (unitBytes (listOf units))) ⌝ }
 {
     match units {
         Units::None => at,

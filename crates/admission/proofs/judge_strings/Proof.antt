@@ -7,10 +7,16 @@ returns : tie.Need-returns
 returns c = bad-kinds _ _ _ (c .before .are-kinds-good .ensures) (c .if1 .taken)
 
 returns-2 : tie.Need-returns-2
-returns-2 c = bad-strings _ _ _ (c .before .before .before .are-kinds-good .ensures) (c .before .before .if1 .left) _ (c .before .are-strings-good .ensures) (c .if2 .taken)
+returns-2 c =
+    let at-are-kinds-good = c .before .before .before in
+    bad-strings _ _ _ (at-are-kinds-good .are-kinds-good .ensures) (c .before .before .if1 .left) _
+    (c .before .are-strings-good .ensures) (c .if2 .taken)
 
 returns-3 : tie.Need-returns-3
-returns-3 c = good-strings _ _ _ (c .before .before .before .are-kinds-good .ensures) (c .before .before .if1 .left) _ (c .before .are-strings-good .ensures) (c .if2 .left)
+returns-3 c =
+    let at-are-kinds-good = c .before .before .before in
+    good-strings _ _ _ (at-are-kinds-good .are-kinds-good .ensures) (c .before .before .if1 .left) _
+    (c .before .are-strings-good .ensures) (c .if2 .left)
 
 pub judge-strings-spec : {M : Type 1} → statement M
 judge-strings-spec =

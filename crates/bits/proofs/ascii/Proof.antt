@@ -1,3 +1,4 @@
+-- The bytes before i, gathered by "or", are below 128 exactly where each of them is.
 use Prim.Native.Nat.{_≤_, _-_}
 use mathlib.Core.Path.{_≡_, _∙_}
 use native.Mathlib.Omega.{arith}
@@ -17,7 +18,10 @@ loop-holds : tie.Need-loop-holds Inv-loop μ-loop
 loop-holds c = (omega arith, ascii-none (c .args .s .now))
 
 loop-again : tie.Need-loop-again Inv-loop μ-loop
-loop-again c = let l = c .before .before .loop in (omega arith, ascii-next (c .before .before .before .args .s .now) (l .i) (l .seen) (l .inv .1))
+loop-again c =
+    let start = c .before .before .before in
+    let l = c .before .before .loop in
+    (omega arith, ascii-next (start .args .s .now) (l .i) (l .seen) (l .inv .1))
 
 returns : tie.Need-returns Inv-loop μ-loop
 returns c = let l = c .before .loop in l .inv .1 ∙ ascii-all (c .before .before .args .s .now) (l .i) (omega arith)

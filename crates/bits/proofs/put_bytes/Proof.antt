@@ -1,3 +1,4 @@
+-- The first i bytes of the source stand at their place; the rest of the buffer is as it was.
 use Prim.Native.Nat.{_≤_, _-_}
 use mathlib.Core.Path.{_≡_, refl}
 use native.Mathlib.Omega.{arith}
@@ -18,11 +19,13 @@ loop-holds c = (omega arith, refl, paste-zero (c .args .s .now) (c .args .at) (c
 
 loop-again : tie.Need-loop-again Inv-loop μ-loop
 loop-again c =
+    let start = c .before .before .before in
     let l = c .before .before .loop in
-    let a = c .before .before .before .args in (
+    let a = start .args in (
       omega arith,
       simp length-set (l .inv .1),
-      copied-more (a .s .now) (a .src .now) (l .s) (a .at) (l .i) (l .inv .2) (omega arith) (omega arith),
+      copied-more (a .s .now) (a .src .now) (l .s) (a .at) (l .i) (l .inv .2) (omega arith)
+          (omega arith),
     )
 
 same-length : tie.Need-same-length Inv-loop μ-loop
@@ -37,4 +40,5 @@ returns c =
 pub put-bytes-spec : {M : Type 1} → statement M
 put-bytes-spec =
     tie.close
-    (tie.spec Inv-loop μ-loop loop-holds (λ c. omega arith) (λ c. omega arith) (λ c. omega arith) (λ c. omega arith) (λ c. omega arith) loop-again same-length returns)
+    (tie.spec Inv-loop μ-loop loop-holds (λ c. omega arith) (λ c. omega arith) (λ c. omega arith) (λ c. omega arith)
+    (λ c. omega arith) loop-again same-length returns)

@@ -7,7 +7,8 @@ use Rattle.bits.proofs.put_word64.Tie as tie
 
 returns : tie.Need-returns
 returns c =
-    let x = c .before .before .before .before .before .before .before .before .before .args .x in
+    let start = c .before .before .before .before .before .before .before .before .before in
+    let x = start .args .x in
     rw (bytesOf-split 4 4 x, sets-append (bytesOf 4 x), length-bytesOf) (cc)
 
 pub put-word64-spec : {M : Type 1} → statement M

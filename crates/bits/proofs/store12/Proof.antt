@@ -8,7 +8,8 @@ use Rattle.bits.proofs.store12.Tie as tie
 
 returns : tie.Need-returns
 returns c =
-    let w = c .before .before .before .before .before .before .before .before .before .args .w in
+    let start = c .before .before .before .before .before .before .before .before .before in
+    let w = start .args .w in
     rw (bytesOf-words 4 (w .high) (w .low) (omega arith), sets-append (bytesOf 8 (w .low)), length-bytesOf) (cc)
 
 pub store12-spec : {M : Type 1} → statement M

@@ -18,8 +18,10 @@ returns c =
 returns-2 : tie.Need-returns-2
 returns-2 c =
     let a = c .before .before .args in
-    let e : 64 + (a .at - 64) ≡ a .at = omega arith in
-    (c .field2 .ensures .0 ∙ sym (rw e at (field-high (a .w .high) (a .w .low) (a .at - 64) (a .width) (omega arith))), c .field2 .ensures .1)
+    let e : 64 + (a .at - 64) ≡ a .at = omega arith in (
+      c .field2 .ensures .0 ∙ sym (rw e at (field-high (a .w .high) (a .w .low) (a .at - 64) (a .width) (omega arith))),
+      c .field2 .ensures .1,
+    )
 
 pub words-field-spec : {M : Type 1} → statement M
 words-field-spec = tie.close (tie.spec field-requires (λ c κs. search needs) returns returns-2)

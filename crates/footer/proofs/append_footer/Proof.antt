@@ -1,27 +1,25 @@
-use mathlib.Core.Path.{refl, ap, sym, _∙_}
+use mathlib.Core.Path.{ap, sym, _∙_}
 use native.Mathlib.Omega.{arith}
 use Rattle.bits.specs.declared.Answer.the-variants.{Length}
-use Rattle.footer.proofs.FooterLaws.{append-short, append-fits, length-made, footed-stored}
+use Rattle.footer.proofs.FooterLaws.{append-out, append-fits, length-made, footed-stored}
 use borrow.Author.Needs.{needs}
 use Rattle.footer.proofs.append_footer.Statement.{statement}
 use Rattle.footer.proofs.append_footer.Tie as tie
 
 returns : tie.Need-returns
-returns c =
-    let a = c .before .before .args in
-    rw (append-short (a .buf .now) (a .len) (omega arith)) (refl, refl)
+returns c = append-out _ _ (omega arith)
 
 returns-2 : tie.Need-returns-2
-returns-2 c =
-    let a = c .before .before .before .args in
-    rw (append-short (a .buf .now) (a .len) (omega arith)) (refl, refl)
+returns-2 c = append-out _ _ (omega arith)
 
 returns-3 : tie.Need-returns-3
 returns-3 c =
-    let a = c .before .before .before .before .before .before .before .args in
+    let start = c .before .before .before .before .before .before .before in
+    let a = start .args in
     rw (append-fits (a .buf .now) (a .len) (omega arith)) (
       ap Length (sym (length-made (a .buf .now) (a .len) (omega arith))),
-      c .before .before .put-footer .ensures ∙ footed-stored (a .buf .now) (a .len) (omega arith),
+      c .before .before .put-footer .ensures
+          ∙ footed-stored (a .buf .now) (a .len) (omega arith),
     )
 
 pub append-footer-spec : {M : Type 1} → statement M

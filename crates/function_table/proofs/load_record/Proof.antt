@@ -3,10 +3,14 @@ use Rattle.function_table.proofs.load_record.Statement.{statement}
 use Rattle.function_table.proofs.load_record.Tie as tie
 
 load12-requires : tie.Need-load12-requires
-load12-requires c κs = rw (c .enum-told .given .1) at (c .before .before .before .pre)
+load12-requires c κs =
+    let start = c .before .before .before in
+    rw (c .enum-told .given .1) at (start .pre)
 
 load16-requires : tie.Need-load16-requires
-load16-requires c κs = rw (c .enum-told2 .given .1) at (c .before .before .before .pre)
+load16-requires c κs =
+    let start = c .before .before .before in
+    rw (c .enum-told2 .given .1) at (start .pre)
 
 returns : tie.Need-returns
 returns c = rw (c .before .enum-told .given .1) (c .load12 .ensures)

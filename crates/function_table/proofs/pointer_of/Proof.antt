@@ -8,7 +8,8 @@ returns : tie.Need-returns
 returns c = (pointer-modern _ _ (c .before .enum-told .given .1) _ (c .modern-pointer .ensures .0), omega arith)
 
 returns-2 : tie.Need-returns-2
-returns-2 c = (pointer-legacy _ _ _ _ (c .before .enum-told2 .given .1) _ (c .legacy-pointer .ensures .0), c .legacy-pointer .ensures .1)
+returns-2 c =
+    (pointer-legacy _ _ _ _ (c .before .enum-told2 .given .1) _ (c .legacy-pointer .ensures .0), c .legacy-pointer .ensures .1)
 
 pub pointer-of-spec : {M : Type 1} → statement M
 pointer-of-spec =

@@ -1,30 +1,54 @@
 use borrow.Author.Needs.{needs}
 use Rattle.functions.proofs.measure.Statement.{statement}
 use Rattle.functions.proofs.measure.Tie as tie
-use Rattle.admission.proofs.AnswerLaws.{laid-is}
-use Rattle.functions.proofs.AdmitLaws.{admits}
-use Rattle.functions.proofs.JudgeLaws.{image-refused, no-function, is-known, body-asked, body-judged}
+use Rattle.functions.proofs.JudgeLaws.{image-refused, no-function, function-asked, body-asked, body-judged}
 
 returns : tie.Need-returns
-returns c = let a = c .before .before .before .before .before .before .args in image-refused (a .layout) (a .image .now) (a .id) (a .body .now) _ (c .before .before .before .admit .ensures) _ (c .before .enum-told .given .1) _ (c .number-of .ensures)
+returns c =
+    let at-admit = c .before .before .before in
+    let start = at-admit .before .before .before in
+    let a = start .args in
+    image-refused (a .layout) (a .image .now) (a .id) (a .body .now) _ (at-admit .admit .ensures) _ (c .before .enum-told .given .1)
+    _ (c .number-of .ensures)
 
 returns-2 : tie.Need-returns-2
-returns-2 c = let a = c .before .before .before .before .before .before .before .before .args in no-function (a .layout) (a .image .now) (a .id) (a .body .now) _ (c .before .before .before .before .before .admit .ensures) _ (c .before .before .before .admitted .given .1) (c .if1 .taken)
+returns-2 c =
+    let at-admitted = c .before .before .before in
+    let at-admit = at-admitted .before .before in
+    let start = at-admit .before .before .before in
+    let a = start .args in
+    no-function (a .layout) (a .image .now) (a .id) (a .body .now) _ (at-admit .admit .ensures) _ (at-admitted .admitted .given .1)
+    (c .if1 .taken)
 
 function-at-requires : tie.Need-function-at-requires
 function-at-requires c κs =
-    let a = c .before .before .before .before .before .before .before .before .args in
-    let z = laid-is (a .layout) (a .image .now) _ (c .before .before .before .before .before .admit .ensures) _ (c .before .before .before .admitted .given .1) in
-    let ok = admits (a .layout) (a .image .now) (z .0) in
-    ((ok .fits, ok .headers), is-known (a .layout) (a .image .now) (a .id) (a .body .now) _ (c .before .before .before .before .before .admit .ensures) _ (c .before .before .before .admitted .given .1) (c .if1 .left))
+    let at-admitted = c .before .before .before in
+    let at-admit = at-admitted .before .before in
+    let at-bytes = at-admit .before .before in
+    let a = at-bytes .before .args in
+    function-asked (a .layout) (a .image .now) (a .id) (a .body .now) _ (at-admit .admit .ensures) _ (at-admitted .admitted .given .1)
+    (λ i. at-bytes .shared-slice-known .given i .fits) (c .if1 .left)
 
 judge-body-requires : tie.Need-judge-body-requires
-judge-body-requires c κs = let a = c .before .before .before .before .before .before .before .before .before .args in body-asked (a .layout) (a .image .now) (a .id) (a .body .now) _ (c .before .before .before .before .before .before .admit .ensures) _ (c .before .before .before .before .admitted .given .1) (c .before .if1 .left) _ (c .function-at .ensures)
+judge-body-requires c κs =
+    let at-admitted = c .before .before .before .before in
+    let at-admit = at-admitted .before .before in
+    let at-bytes = at-admit .before .before in
+    let a = at-bytes .before .args in
+    body-asked (a .layout) (a .image .now) (a .id) (a .body .now) _ (at-admit .admit .ensures) _ (at-admitted .admitted .given .1)
+    (λ i. at-bytes .shared-slice-known .given i .fits) (c .before .if1 .left) _ (c .function-at .ensures)
 
 returns-3 : tie.Need-returns-3
-returns-3 c = let a = c .before .before .before .before .before .before .before .before .before .before .args in body-judged (a .layout) (a .image .now) (a .id) (a .body .now) _ (c .before .before .before .before .before .before .before .admit .ensures) _ (c .before .before .before .before .before .admitted .given .1) (c .before .before .if1 .left) _ (c .judge-body .ensures)
+returns-3 c =
+    let at-admitted = c .before .before .before .before .before in
+    let at-admit = at-admitted .before .before in
+    let at-bytes = at-admit .before .before in
+    let a = at-bytes .before .args in
+    body-judged (a .layout) (a .image .now) (a .id) (a .body .now) _ (at-admit .admit .ensures) _ (at-admitted .admitted .given .1)
+    (λ i. at-bytes .shared-slice-known .given i .fits) (c .before .before .if1 .left) _ (c .judge-body .ensures)
 
 pub measure-spec : {M : Type 1} → statement M
 measure-spec =
     tie.close
-    (tie.spec (λ c κs. search needs) (λ c. search needs) (λ c. search needs) (λ c κs. search needs) returns returns-2 function-at-requires judge-body-requires returns-3)
+    (tie.spec (λ c κs. search needs) (λ c. search needs) (λ c. search needs) (λ c κs. search needs) returns returns-2
+    function-at-requires judge-body-requires returns-3)

@@ -4,18 +4,41 @@ use Rattle.functions.proofs.patch_function_bytes.Tie as tie
 use Rattle.functions.proofs.WriteLaws.{goes-out, no-room, room-made, written-out}
 
 returns : tie.Need-returns
-returns c = let a = c .before .before .before .before .before .before .args in goes-out (a .layout) (a .image .now) (a .id) (a .body .now) (a .out .now) _ (c .before .before .measure .ensures) _ (c .enum-told .given .1)
+returns c =
+    let start = c .before .before .before .before .before .before in
+    let a = start .args in
+    goes-out (a .layout) (a .image .now) (a .id) (a .body .now) (a .out .now) _ (c .before .before .measure .ensures) _
+    (c .enum-told .given .1)
 
 returns-2 : tie.Need-returns-2
-returns-2 c = let a = c .before .before .before .before .before .before .before .before .args in no-room (a .layout) (a .image .now) (a .id) (a .body .now) (a .out .now) _ (c .before .before .before .before .measure .ensures) _ (c .before .before .measured .given .1) (c .if1 .taken)
+returns-2 c =
+    let at-measure = c .before .before .before .before in
+    let start = at-measure .before .before .before .before in
+    let a = start .args in
+    no-room (a .layout) (a .image .now) (a .id) (a .body .now) (a .out .now) _ (at-measure .measure .ensures) _
+    (c .before .before .measured .given .1) (c .if1 .taken)
 
 put-patched-requires : tie.Need-put-patched-requires
-put-patched-requires c κs = let a = c .before .before .before .before .before .before .before .before .before .args in room-made (a .layout) (a .image .now) (a .id) (a .body .now) (a .out .now) _ (c .before .before .before .before .before .measure .ensures) _ (c .before .before .before .measured .given .1) (c .before .if1 .left)
+put-patched-requires c κs =
+    let at-measured = c .before .before .before in
+    let at-measure = at-measured .before .before in
+    let at-bytes = at-measure .before .before .before in
+    let a = at-bytes .before .args in
+    room-made (a .layout) (a .image .now) (a .id) (a .body .now) (a .out .now) _ (at-measure .measure .ensures) _
+    (at-measured .measured .given .1) (c .before .if1 .left) (λ i. at-bytes .shared-slice-known .given i .fits)
 
 returns-3 : tie.Need-returns-3
-returns-3 c = let a = c .before .before .before .before .before .before .before .before .before .before .before .before .args in written-out (a .layout) (a .image .now) (a .id) (a .body .now) (a .out .now) _ (c .before .before .before .before .before .before .before .before .measure .ensures) _ (c .before .before .before .before .before .before .measured .given .1) (c .before .before .before .before .if1 .left) _ _ (c .before .before .put-patched .ensures)
+returns-3 c =
+    let at-if1 = c .before .before .before .before in
+    let at-measured = at-if1 .before .before in
+    let at-measure = at-measured .before .before in
+    let start = at-measure .before .before .before .before in
+    let a = start .args in
+    written-out (a .layout) (a .image .now) (a .id) (a .body .now) (a .out .now) _ (at-measure .measure .ensures) _
+    (at-measured .measured .given .1) (at-if1 .if1 .left) _ _ (c .before .before .put-patched .ensures)
 
 pub patch-function-bytes-spec : {M : Type 1} → statement M
 patch-function-bytes-spec =
     tie.close
-    (tie.spec (λ c κs. search needs) (λ c. search needs) (λ c. search needs) returns returns-2 (λ c. search needs) (λ c. search needs) (λ c. search needs) put-patched-requires (λ c. search needs) returns-3)
+    (tie.spec (λ c κs. search needs) (λ c. search needs) (λ c. search needs) returns returns-2 (λ c. search needs) (λ c. search needs)
+    (λ c. search needs) put-patched-requires (λ c. search needs) returns-3)

@@ -4,7 +4,12 @@ use Rattle.functions.proofs.put_patched.Tie as tie
 use Rattle.functions.proofs.WriteLaws.{finalized}
 
 returns : tie.Need-returns
-returns c = let a = c .before .before .before .before .before .before .before .before .before .before .before .args in finalized (a .layout) (a .image .now) (a .id) (a .body .now) (a .out .now) (c .before .before .before .before .before .before .before .before .before .before .before .pre) _ _ _ (c .before .before .before .before .before .before .put-body .ensures) (c .before .before .finalize-raw-image .ensures)
+returns c =
+    let at-put-body = c .before .before .before .before .before .before in
+    let start = at-put-body .before .before .before .before .before in
+    let a = start .args in
+    finalized (a .layout) (a .image .now) (a .id) (a .body .now) (a .out .now) (start .pre) _ _ _ (at-put-body .put-body .ensures)
+    (c .before .before .finalize-raw-image .ensures)
 
 pub put-patched-spec : {M : Type 1} → statement M
 put-patched-spec =

@@ -8,7 +8,11 @@ returns : tie.Need-returns
 returns c = no-layout-codes _ _ _ (omega arith)
 
 returns-2 : tie.Need-returns-2
-returns-2 c = layout-codes _ _ _ _ _ _ _ (omega arith) (c .before .before .before .before .before .layout-of .ensures) (c .before .before .before .read-body .ensures) (c .number .ensures)
+returns-2 c =
+    let at-read-body = c .before .before .before in
+    let at-layout-of = at-read-body .before .before in
+    layout-codes _ _ _ _ _ _ _ (omega arith) (at-layout-of .layout-of .ensures) (at-read-body .read-body .ensures)
+    (c .number .ensures)
 
 pub nepuladrim-body-spec : {M : Type 1} → statement M
 nepuladrim-body-spec =

@@ -8,7 +8,10 @@ returns : tie.Need-returns
 returns c = no-layout-codes _ _ _ (omega arith)
 
 returns-2 : tie.Need-returns-2
-returns-2 c = layout-codes _ _ _ _ _ _ _ (omega arith) (c .before .before .before .before .before .layout-of .ensures) (c .before .before .before .list .ensures) (c .number .ensures)
+returns-2 c =
+    let at-list = c .before .before .before in
+    let at-layout-of = at-list .before .before in
+    layout-codes _ _ _ _ _ _ _ (omega arith) (at-layout-of .layout-of .ensures) (at-list .list .ensures) (c .number .ensures)
 
 pub nepuladrim-list-spec : {M : Type 1} → statement M
 nepuladrim-list-spec =

@@ -9,7 +9,10 @@ returns c = no-layout-codes _ _ _ (omega arith)
 
 returns-2 : tie.Need-returns-2
 returns-2 c =
-    layout-codes _ _ _ _ _ _ _ (omega arith) (c .before .before .before .before .before .layout-of .ensures) (c .before .before .before .patch-string-replace .ensures) (c .number .ensures)
+    let at-patch-string-replace = c .before .before .before in
+    let at-layout-of = at-patch-string-replace .before .before in
+    layout-codes _ _ _ _ _ _ _ (omega arith) (at-layout-of .layout-of .ensures)
+    (at-patch-string-replace .patch-string-replace .ensures) (c .number .ensures)
 
 pub nepuladrim-patch-string-replace-spec : {M : Type 1} → statement M
 nepuladrim-patch-string-replace-spec =

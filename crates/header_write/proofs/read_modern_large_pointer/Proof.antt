@@ -11,7 +11,9 @@ returns c = read-short _ _ _ _ (omega arith)
 
 returns-2 : tie.Need-returns-2
 unfolding pointerRead
-returns-2 c = rw (← mod-eq-of-lt (c .modern-pointer .ensures .1), c .modern-pointer .ensures .0) (read-done _ _ _ _ _ (omega arith) (c .before .load12 .ensures))
+returns-2 c =
+    rw (← mod-eq-of-lt (c .modern-pointer .ensures .1), c .modern-pointer .ensures .0)
+    (read-done _ _ _ _ _ (omega arith) (c .before .load12 .ensures))
 
 pub read-modern-large-pointer-spec : {M : Type 1} → statement M
 read-modern-large-pointer-spec =

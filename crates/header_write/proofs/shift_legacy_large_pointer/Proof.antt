@@ -13,10 +13,22 @@ returns c = slot-short (legacyRecord .width) _ _ (omega arith)
 returns-2 : tie.Need-returns-2
 unfolding shiftPointer pointerRead
 returns-2 c =
+    let at-with-legacy-pointer = c .before .before .before in
+    let at-legacy-pointer = at-with-legacy-pointer .before .before in
+    let at-load16 = at-legacy-pointer .before in
+    let at-turn = at-load16 .before .before in
+    let at-fits = at-turn .before .before .before .before in
     slot-done (legacyRecord .width) _ _ _ _ (omega arith) (c .before .before .store16 .ensures)
-    (rw (c .before .before .before .with-legacy-pointer .ensures, c .before .before .before .before .before .legacy-pointer .ensures .0, c .before .before .before .before .before .before .load16 .ensures, c .before .before .before .before .before .before .before .before .turn .ensures .0, toZ-ofZ (c .before .before .before .before .before .before .before .before .before .before .before .before .fits .delta)))
+    (rw (
+      at-with-legacy-pointer .with-legacy-pointer .ensures,
+      at-legacy-pointer .legacy-pointer .ensures .0,
+      at-load16 .load16 .ensures,
+      at-turn .turn .ensures .0,
+      toZ-ofZ (at-fits .fits .delta),
+    ))
 
 pub shift-legacy-large-pointer-spec : {M : Type 1} → statement M
 shift-legacy-large-pointer-spec =
     tie.close
-    (tie.spec (λ c κs. search needs) returns (λ c κs. search needs) (λ c κs. search needs) (λ c κs. search needs) (λ c. search needs) (λ c κs. search needs) (λ c κs. search needs) (λ c. search needs) returns-2)
+    (tie.spec (λ c κs. search needs) returns (λ c κs. search needs) (λ c κs. search needs) (λ c κs. search needs)
+    (λ c. search needs) (λ c κs. search needs) (λ c κs. search needs) (λ c. search needs) returns-2)

@@ -13,9 +13,14 @@ returns-2 c = word-short _ _ _ (omega arith)
 
 returns-3 : tie.Need-returns-3
 returns-3 c =
-    word-done _ _ _ _ _ (omega arith) (c .before .before .put-word .ensures) (rw (c .before .before .before .word .ensures .0, c .before .before .before .before .before .before .turn .ensures .0, toZ-ofZ (c .before .before .before .before .before .before .before .before .before .before .fits .delta)))
+    let at-word = c .before .before .before in
+    let at-turn = at-word .before .before .before in
+    let at-fits = at-turn .before .before .before .before in
+    word-done _ _ _ _ _ (omega arith) (c .before .before .put-word .ensures)
+    (rw (at-word .word .ensures .0, at-turn .turn .ensures .0, toZ-ofZ (at-fits .fits .delta)))
 
 pub shift-u32-at-spec : {M : Type 1} → statement M
 shift-u32-at-spec =
     tie.close
-    (tie.spec returns (λ c. search needs) returns-2 (λ c κs. search needs) (λ c κs. search needs) (λ c. search needs) (λ c κs. search needs) (λ c. search needs) returns-3)
+    (tie.spec returns (λ c. search needs) returns-2 (λ c κs. search needs) (λ c κs. search needs) (λ c. search needs)
+    (λ c κs. search needs) (λ c. search needs) returns-3)

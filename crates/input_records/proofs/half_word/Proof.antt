@@ -5,9 +5,12 @@ use native.Mathlib.Omega.{arith}
 use Rattle.input_records.proofs.HeadLaws.{half-sum}
 
 returns : tie.Need-returns
-returns c = (omega (arith, half-sum (c .before .before .before .before .before .args .s .now) (c .before .before .before .before .before .args .at)), omega arith)
+returns c =
+    let start = c .before .before .before .before .before in
+    (omega (arith, half-sum (start .args .s .now) (start .args .at)), omega arith)
 
 pub half-word-spec : {M : Type 1} → statement M
 half-word-spec =
     tie.close
-    (tie.spec (λ c. search needs) (λ c κs. search needs) (λ c. search needs) (λ c. search needs) (λ c κs. search needs) (λ c. search needs) (λ c. search needs) returns)
+    (tie.spec (λ c. search needs) (λ c κs. search needs) (λ c. search needs) (λ c. search needs) (λ c κs. search needs)
+    (λ c. search needs) (λ c. search needs) returns)

@@ -11,17 +11,52 @@ returns c = rw (lt-leb 8 (length (c .before .before .args .s .now)) (c .if1 .tak
 
 returns-2 : tie.Need-returns-2
 unfolding patchHead
-returns-2 c = rw (le-leb 8 (length (c .before .before .before .before .before .before .args .s .now)) (c .before .before .before .before .if1 .left), ← c .before .has-mark .ensures, c .if2 .taken, c .before .before .before .word .ensures .0, c .before .before .half-word .ensures .0)
+returns-2 c =
+    let at-word = c .before .before .before in
+    let at-if1 = at-word .before in
+    let start = at-if1 .before .before in
+    rw (
+      le-leb 8 (length (start .args .s .now)) (at-if1 .if1 .left),
+      ← c .before .has-mark .ensures,
+      c .if2 .taken,
+      at-word .word .ensures .0,
+      c .before .before .half-word .ensures .0,
+    )
 
 returns-3 : tie.Need-returns-3
 unfolding patchHead
-returns-3 c = rw (le-leb 8 (length (c .before .before .before .before .before .before .before .before .args .s .now)) (c .before .before .before .before .before .before .if1 .left), ← c .before .before .before .has-mark .ensures, c .before .before .if2 .left, ← c .before .has-mark2 .ensures, c .if3 .taken, c .before .before .before .before .before .word .ensures .0, c .before .before .before .before .half-word .ensures .0)
+returns-3 c =
+    let at-has-mark = c .before .before .before in
+    let at-half-word = at-has-mark .before in
+    let at-word = at-half-word .before in
+    let at-if1 = at-word .before in
+    let start = at-if1 .before .before in
+    rw (
+      le-leb 8 (length (start .args .s .now)) (at-if1 .if1 .left),
+      ← at-has-mark .has-mark .ensures,
+      c .before .before .if2 .left,
+      ← c .before .has-mark2 .ensures,
+      c .if3 .taken,
+      at-word .word .ensures .0,
+      at-half-word .half-word .ensures .0,
+    )
 
 returns-4 : tie.Need-returns-4
 unfolding patchHead
-returns-4 c = rw (le-leb 8 (length (c .before .before .before .before .before .before .before .before .args .s .now)) (c .before .before .before .before .before .before .if1 .left), ← c .before .before .before .has-mark .ensures, c .before .before .if2 .left, ← c .before .has-mark2 .ensures, c .if3 .left)
+returns-4 c =
+    let at-has-mark = c .before .before .before in
+    let at-if1 = at-has-mark .before .before .before in
+    let start = at-if1 .before .before in
+    rw (
+      le-leb 8 (length (start .args .s .now)) (at-if1 .if1 .left),
+      ← at-has-mark .has-mark .ensures,
+      c .before .before .if2 .left,
+      ← c .before .has-mark2 .ensures,
+      c .if3 .left,
+    )
 
 pub patch-head-spec : {M : Type 1} → statement M
 patch-head-spec =
     tie.close
-    (tie.spec returns (λ c κs. search needs) (λ c κs. search needs) (λ c κs. search needs) returns-2 (λ c κs. search needs) returns-3 returns-4)
+    (tie.spec returns (λ c κs. search needs) (λ c κs. search needs) (λ c κs. search needs) returns-2 (λ c κs. search needs)
+    returns-3 returns-4)

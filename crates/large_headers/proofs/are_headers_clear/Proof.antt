@@ -1,3 +1,4 @@
+-- The large header of every function before j is clear.
 use Prim.Native.Nat.{_≤_, _-_}
 use mathlib.Core.Path.{_≡_}
 use mathlib.Core.Bool.{true}
@@ -20,16 +21,27 @@ loop-holds : tie.Need-loop-holds Inv-loop μ-loop
 loop-holds c = (omega arith, pass-none _)
 
 is-header-clear-requires : tie.Need-is-header-clear-requires Inv-loop μ-loop
-is-header-clear-requires c κs = (c .before .before .before .pre .0, (c .before .before .before .pre .1, omega arith))
+is-header-clear-requires c κs =
+    let start = c .before .before .before in
+    (start .pre .0, (start .pre .1, omega arith))
 
 returns : tie.Need-returns Inv-loop μ-loop
-returns c = not-all-clear _ _ (c .before .before .before .loop .j) _ _ (c .before .before .before .before .before .pre .1) (omega arith) (c .before .is-header-clear .ensures) (c .if1 .taken)
+returns c =
+    let at-loop = c .before .before .before in
+    let start = at-loop .before .before in
+    not-all-clear _ _ (at-loop .loop .j) _ _ (start .pre .1) (omega arith) (c .before .is-header-clear .ensures) (c .if1 .taken)
 
 loop-again : tie.Need-loop-again Inv-loop μ-loop
-loop-again c = let l = c .before .before .before .loop in (omega arith, pass-next _ (l .j) _ (c .before .is-header-clear .ensures) (c .if1 .left) (l .inv .1))
+loop-again c =
+    let at-loop = c .before .before .before in
+    let l = at-loop .loop in
+    (omega arith, pass-next _ (l .j) _ (c .before .is-header-clear .ensures) (c .if1 .left) (l .inv .1))
 
 returns-2 : tie.Need-returns-2 Inv-loop μ-loop
-returns-2 c = let l = c .before .loop in clear-end _ _ (l .j) _ (c .before .before .before .pre .1) (omega arith) (l .inv .1)
+returns-2 c =
+    let start = c .before .before .before in
+    let l = c .before .loop in
+    clear-end _ _ (l .j) _ (start .pre .1) (omega arith) (l .inv .1)
 
 pub are-headers-clear-spec : {M : Type 1} → statement M
 are-headers-clear-spec =

@@ -1,3 +1,4 @@
+-- The end and the start of the headers before i, and the end of the bodies before i, as far as all stand in order.
 use Prim.Native.Nat.{_≤_, _-_}
 use mathlib.Core.Path.{_≡_}
 use mathlib.Core.Bool.{true}
@@ -6,7 +7,8 @@ use Rattle.bits.specs.Choice.{allBelow}
 use Rattle.bits.proofs.PassLaws.{pass-none}
 use Rattle.image.specs.Functions.{funcOf}
 use Rattle.large_headers.specs.Order.{headersEnd, headersStart, bodiesEnd, ascendsAt}
-use Rattle.large_headers.proofs.OrderLaws.{order-none, end-next, first-next, bodies-next, ascends-next, not-behind, order-end, image-order}
+use Rattle.large_headers.proofs.OrderLaws.{order-none, end-next, first-next, bodies-next, ascends-next, not-behind}
+use Rattle.large_headers.proofs.OrderLaws.{order-end, image-order}
 use borrow.Author.Needs.{needs}
 use Rattle.large_headers.proofs.in_order.Statement.{statement}
 use Rattle.large_headers.proofs.in_order.Tie as tie
@@ -20,38 +22,53 @@ abbrev μ-loop : tie.MeasureT-loop
 μ-loop image layout n width end₀ first₀ bodies₀ i₀ end first bodies i = n - i
 
 loop-holds : tie.Need-loop-holds Inv-loop μ-loop
-loop-holds c = let z = order-none (c .large-width .result) (funcOf (c .before .before .args .layout) (c .before .before .args .image .now)) in (omega arith, z .0, z .1, z .2, pass-none _)
+loop-holds c =
+    let z = order-none (c .large-width .result) (funcOf (c .before .before .args .layout) (c .before .before .args .image .now)) in
+    (omega arith, z .0, z .1, z .2, pass-none _)
 
 function-at-requires : tie.Need-function-at-requires Inv-loop μ-loop
-function-at-requires c κs = (c .before .before .before .before .pre .0, omega arith)
+function-at-requires c κs =
+    let start = c .before .before .before .before in
+    (start .pre .0, omega arith)
 
 returns : tie.Need-returns Inv-loop μ-loop
 returns c =
-    let l = c .before .before .before .before .loop in
-    image-order _ _ _ _ _ (c .before .before .before .before .before .large-width .ensures .0) (c .before .before .before .before .before .before .before .pre .1)
-    (not-behind _ _ (l .i) _ (c .before .before .function-at .ensures .0) (l .end) (l .inv .1) _ (c .before .is-behind .ensures) _ (c .if1 .taken) (omega arith))
+    let at-loop = c .before .before .before .before in
+    let at-large-width = at-loop .before in
+    let start = at-large-width .before .before in
+    let l = at-loop .loop in
+    image-order _ _ _ _ _ (at-large-width .large-width .ensures .0) (start .pre .1)
+    (not-behind _ _ (l .i) _ (c .before .before .function-at .ensures .0) (l .end) (l .inv .1) _ (c .before .is-behind .ensures) _
+    (c .if1 .taken) (omega arith))
 
 end-with-requires : tie.Need-end-with-requires Inv-loop μ-loop
 end-with-requires c κs = (c .before .before .function-at .ensures .1, omega arith)
 
 loop-again : tie.Need-loop-again Inv-loop μ-loop
 loop-again c =
-    let l = c .before .before .before .before .before .before .before .loop in
-    let f = c .before .before .before .before .before .function-at .ensures .0 in (
+    let at-if1 = c .before .before .before in
+    let at-is-behind = at-if1 .before in
+    let at-function-at = at-is-behind .before in
+    let at-loop = at-function-at .before .before in
+    let l = at-loop .loop in
+    let f = at-function-at .function-at .ensures .0 in (
       omega arith,
       end-next _ _ (l .i) _ f (l .end) _ (l .inv .1) (c .before .before .end-with .ensures),
-      first-next _ (l .i) _ f (l .first) _ (l .inv .2) (c .before .first-with .ensures),
+      first-next _ (l .i) _ f (l .first)
+          _ (l .inv .2) (c .before .first-with .ensures),
       bodies-next _ (l .i) _ f (l .bodies) _ (l .inv .3) (c .bodies-with .ensures),
-      ascends-next _ _ (l .i) _ f (l .end) (l .inv .1) _ (c .before .before .before .before .is-behind .ensures) (c .before .before .before .if1 .left) (l .inv .4),
+      ascends-next _ _ (l .i) _ f (l .end) (l .inv .1) _ (at-is-behind .is-behind .ensures) (at-if1 .if1 .left) (l .inv .4),
     )
 
 returns-2 : tie.Need-returns-2 Inv-loop μ-loop
 returns-2 c =
+    let start = c .before .before .before .before in
     let l = c .before .loop in
-    image-order _ _ _ _ _ (c .before .before .large-width .ensures .0) (c .before .before .before .before .pre .1)
+    image-order _ _ _ _ _ (c .before .before .large-width .ensures .0) (start .pre .1)
     (order-end _ _ _ (l .i) (l .bodies) (l .first) (omega arith) (l .inv .3) (l .inv .2) (l .inv .4))
 
 pub in-order-spec : {M : Type 1} → statement M
 in-order-spec =
     tie.close
-    (tie.spec Inv-loop μ-loop (λ c κs. search needs) loop-holds function-at-requires (λ c κs. search needs) returns end-with-requires (λ c κs. search needs) (λ c κs. search needs) (λ c. search needs) (λ c. search needs) loop-again returns-2)
+    (tie.spec Inv-loop μ-loop (λ c κs. search needs) loop-holds function-at-requires (λ c κs. search needs) returns end-with-requires
+    (λ c κs. search needs) (λ c κs. search needs) (λ c. search needs) (λ c. search needs) loop-again returns-2)

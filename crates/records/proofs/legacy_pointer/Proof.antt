@@ -9,7 +9,10 @@ join-requires c κs = rw (c .width .ensures) (omega arith)
 
 returns : tie.Need-returns
 unfolding pointer
-returns c = rw (c .join .ensures, c .before .width .ensures) (rw (← c .before .before .before .value .ensures .0, ← c .before .before .value2 .ensures .0) (omega arith))
+returns c =
+    let at-value = c .before .before .before in
+    rw (c .join .ensures, c .before .width .ensures)
+    (rw (← at-value .value .ensures .0, ← c .before .before .value2 .ensures .0) (omega arith))
 
 pub legacy-pointer-spec : {M : Type 1} → statement M
 legacy-pointer-spec =

@@ -10,4 +10,5 @@ returns c = rw (c .before .before .value .ensures .0, c .before .value2 .ensures
 pub modern-fields-spec : {M : Type 1} → statement M
 modern-fields-spec =
     tie.close
-    (tie.spec (λ c κs. search needs) (λ c. search needs) (λ c κs. search needs) (λ c. search needs) (λ c κs. search needs) (λ c. search needs) returns)
+    (tie.spec (λ c κs. search needs) (λ c. search needs) (λ c κs. search needs) (λ c. search needs) (λ c κs. search needs)
+    (λ c. search needs) returns)

@@ -10,7 +10,8 @@ use Rattle.records.proofs.turn.Statement.{statement}
 use Rattle.records.proofs.turn.Tie as tie
 
 -- on each way, the number that is cast
-down : (c : tie.Then1) → toZ w64 (ofZ w64 (toZ w32 (ofZ w32 (c .before .args .delta)))) +ℤ pos 2199023255552 ≡ pos (turned (c .before .args .delta))
+down : (c : tie.Then1) → toZ w64 (ofZ w64 (toZ w32 (ofZ w32 (c .before .args .delta)))) +ℤ pos 2199023255552 ≡ pos
+    (turned (c .before .args .delta))
 down c = let h = c .before .fits .delta in rw (same _ h) (neg _ h (rw (same _ h) at (c .if1 .taken)))
 
 up : (c : tie.Else1) → toZ w64 (ofZ w64 (toZ w32 (ofZ w32 (c .before .args .delta)))) ≡ pos (turned (c .before .args .delta))

@@ -5,13 +5,26 @@ use Rattle.function_table.specs.Functions.{asFunc}
 use Rattle.relocate.proofs.FunctionLaws.{after-strings, after-other, after-own}
 
 returns : tie.Need-returns
-returns c = let a = c .before .before .before .args in after-strings _ (asFunc (a .f)) _ (a .m .patch) (a .i) (c .before .before .moved-function .ensures) (c .enum-told .given .1)
+returns c =
+    let start = c .before .before .before in
+    let a = start .args in
+    after-strings _ (asFunc (a .f)) _ (a .m .cause) (a .i) (c .before .before .moved-function .ensures) (c .enum-told .given .1)
 
 returns-2 : tie.Need-returns-2
-returns-2 c = let a = c .before .before .before .before .before .args in after-other _ (asFunc (a .f)) _ (a .m .patch) (a .i) (c .before .before .before .before .moved-function .ensures) _ _ (c .before .before .patch .given .1) (c .if1 .taken)
+returns-2 c =
+    let at-moved-function = c .before .before .before .before in
+    let start = at-moved-function .before in
+    let a = start .args in
+    after-other _ (asFunc (a .f)) _ (a .m .cause) (a .i) (at-moved-function .moved-function .ensures) _ _
+    (c .before .before .cause .given .1) (c .if1 .taken)
 
 returns-3 : tie.Need-returns-3
-returns-3 c = let a = c .before .before .before .before .before .args in after-own _ (asFunc (a .f)) _ (a .m .patch) (a .i) (c .before .before .before .before .moved-function .ensures) _ _ (c .before .before .patch .given .1) (c .if1 .left)
+returns-3 c =
+    let at-moved-function = c .before .before .before .before in
+    let start = at-moved-function .before in
+    let a = start .args in
+    after-own _ (asFunc (a .f)) _ (a .m .cause) (a .i) (at-moved-function .moved-function .ensures) _ _
+    (c .before .before .cause .given .1) (c .if1 .left)
 
 pub function-after-spec : {M : Type 1} → statement M
 function-after-spec =

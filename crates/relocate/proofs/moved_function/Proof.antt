@@ -6,7 +6,11 @@ use Rattle.format.specs.Move.{moved}
 use Rattle.relocate.proofs.FunctionLaws.{moved-is}
 
 returns : tie.Need-returns
-returns c = let a = c .before .before .before .args in moved-is (moved (a .from) (a .to)) (asFunc (a .f)) _ _ _ (c .before .before .move-place .ensures .0) (c .before .move-place2 .ensures .0) (c .move-place3 .ensures .0)
+returns c =
+    let start = c .before .before .before in
+    let a = start .args in
+    moved-is (moved (a .from) (a .to)) (asFunc (a .f)) _ _ _ (c .before .before .move-place .ensures .0)
+    (c .before .move-place2 .ensures .0) (c .move-place3 .ensures .0)
 
 pub moved-function-spec : {M : Type 1} → statement M
 moved-function-spec =

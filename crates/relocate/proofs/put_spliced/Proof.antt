@@ -4,7 +4,12 @@ use Rattle.relocate.proofs.put_spliced.Tie as tie
 use Rattle.relocate.proofs.EditLaws.{spliced-is}
 
 returns : tie.Need-returns
-returns c = let a = c .before .before .before .before .before .before .before .before .before .before .before .args in spliced-is (a .a) (a .b) (a .new .now) (a .image .now) (a .out .now) (c .before .before .before .before .before .before .before .before .before .before .before .pre .0) (c .before .before .before .before .before .before .before .before .before .before .before .pre .1) (c .before .before .before .before .before .before .before .before .before .before .before .pre .2) _ _ (c .before .before .before .before .before .before .copy-around .ensures) (c .before .before .put-bytes .ensures)
+returns c =
+    let at-copy-around = c .before .before .before .before .before .before in
+    let start = at-copy-around .before .before .before .before .before in
+    let a = start .args in
+    spliced-is (a .a) (a .b) (a .new .now) (a .image .now) (a .out .now) (start .pre .0) (start .pre .1) (start .pre .2) _ _
+    (at-copy-around .copy-around .ensures) (c .before .before .put-bytes .ensures)
 
 pub put-spliced-spec : {M : Type 1} → statement M
 put-spliced-spec =

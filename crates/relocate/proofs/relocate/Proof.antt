@@ -5,16 +5,32 @@ use native.Mathlib.Omega.{arith}
 use Rattle.relocate.proofs.EditLaws.{header-there, relocated-is}
 
 header-word-requires : tie.Need-header-word-requires
-header-word-requires c κs = let a = c .before .before .args in (search needs, omega (arith, header-there (a .layout) (a .image .now) (a .m) _ (c .before .before .pre) .0))
+header-word-requires c κs =
+    let a = c .before .before .args in
+    (search needs, omega (arith, header-there (a .layout) (a .image .now) (a .m) _ (c .before .before .pre) .0))
 
 put-debug-requires : tie.Need-put-debug-requires
-put-debug-requires c κs = let a = c .before .before .before .before .args in let h = header-there (a .layout) (a .image .now) (a .m) _ (c .before .before .before .before .pre) in (h .0, h .1, c .before .before .before .before .pre .most)
+put-debug-requires c κs =
+    let start = c .before .before .before .before in
+    let a = start .args in
+    let h = header-there (a .layout) (a .image .now) (a .m) _ (start .pre) in
+    (h .0, h .1, start .pre .most)
 
 relocate-functions-requires : tie.Need-relocate-functions-requires
-relocate-functions-requires c κs = (rw (c .before .before .before .put-debug .kept .0) (c .before .before .before .before .before .before .before .before .pre), c .before .before .before .before .before .header-word .ensures .0)
+relocate-functions-requires c κs =
+    let at-put-debug = c .before .before .before in
+    let at-header-word = at-put-debug .before .before in
+    let start = at-header-word .before .before .before in
+    (rw (at-put-debug .put-debug .kept .0) (start .pre), at-header-word .header-word .ensures .0)
 
 returns : tie.Need-returns
-returns c = let a = c .before .before .before .before .before .before .before .before .before .before .before .args in relocated-is (a .layout) (a .image .now) (a .m) _ _ (c .before .before .before .before .before .before .before .before .before .before .before .pre) (c .before .before .before .before .before .before .before .before .header-word .ensures .0) (a .out .now) _ _ (c .before .before .before .before .before .before .put-debug .ensures) (c .before .before .relocate-functions .ensures)
+returns c =
+    let at-put-debug = c .before .before .before .before .before .before in
+    let at-header-word = at-put-debug .before .before in
+    let start = at-header-word .before .before .before in
+    let a = start .args in
+    relocated-is (a .layout) (a .image .now) (a .m) _ _ (start .pre) (at-header-word .header-word .ensures .0) (a .out .now) _ _
+    (at-put-debug .put-debug .ensures) (c .before .before .relocate-functions .ensures)
 
 pub relocate-spec : {M : Type 1} → statement M
 relocate-spec =

@@ -1,3 +1,4 @@
+-- The record by its two ways, with a large header and without; the header behind it.
 use borrow.Author.Needs.{needs}
 use Rattle.relocate.proofs.relocate_function.Statement.{statement}
 use Rattle.relocate.proofs.relocate_function.Tie as tie
@@ -12,44 +13,98 @@ record-of-requires : tie.Need-record-of-requires
 record-of-requires c κs = (c .before .before .pre .0 .fits, c .before .before .pre .1)
 
 function-after-requires : tie.Need-function-after-requires
-function-after-requires c κs = (c .small-function .ensures .1, omega (arith, c .before .before .before .before .before .before .pre .0 .most))
+function-after-requires c κs =
+    let start = c .before .before .before .before .before .before in
+    (c .small-function .ensures .1, omega (arith, start .pre .0 .most))
 
 put-record-requires : tie.Need-put-record-requires
 put-record-requires c κs =
-    let a = c .before .before .before .before .before .before .before .before .before .args in
-    (records-few (a .layout) (a .image .now) (a .i) (c .before .before .before .before .before .before .before .before .before .pre .0 .fits) (c .before .before .before .before .before .before .before .before .before .pre .1), omega (arith, record-in (a .layout) (a .image .now) (a .i) (c .before .before .before .before .before .before .before .before .before .pre .1), c .before .before .before .before .before .before .before .before .before .pre .0 .records))
+    let start = c .before .before .before .before .before .before .before .before .before in
+    let a = start .args in (
+      records-few (a .layout) (a .image .now) (a .i) (start .pre .0 .fits) (start .pre .1),
+      omega
+          (arith, record-in (a .layout) (a .image .now) (a .i) (start .pre .1), start .pre .0 .records),
+    )
 
 returns : tie.Need-returns
 returns c =
-    let a = c .before .before .before .before .before .before .before .before .before .before .before .before .args in
-    small-group (a .layout) (a .image .now) (a .m) (a .i) _ (c .before .before .before .before .before .before .before .before .before .record-of .ensures) _ (c .before .before .before .before .before .before .before .before .is-large .ensures) _ _ (c .before .before .before .before .before .function-after .ensures) _ (a .out .now) _ (c .before .before .put-record .ensures) (c .before .before .before .before .before .before .before .if1 .taken) (c .before .before .before .before .before .before .small-function .ensures .0) (c .before .before .before .small-record .ensures)
+    let at-small-record = c .before .before .before in
+    let at-function-after = at-small-record .before .before in
+    let at-small-function = at-function-after .before in
+    let at-if1 = at-small-function .before in
+    let at-is-large = at-if1 .before in
+    let at-record-of = at-is-large .before in
+    let start = at-record-of .before .before .before in
+    let a = start .args in
+    small-group (a .layout) (a .image .now) (a .m) (a .i) _ (at-record-of .record-of .ensures) _ (at-is-large .is-large .ensures) _
+    _ (at-function-after .function-after .ensures) _ (a .out .now) _ (c .before .before .put-record .ensures)
+    (at-if1 .if1 .taken) (at-small-function .small-function .ensures .0) (at-small-record .small-record .ensures)
 
 large-function-requires : tie.Need-large-function-requires
 large-function-requires c κs =
-    (header-fits _ _ _ _ (c .before .before .before .record-of .ensures) _ (c .before .before .is-large .ensures) (not-false _ (c .before .if1 .left)) _ (c .pointer-of .ensures .0) (c .before .before .before .before .before .before .pre .0 .headers) (c .before .before .before .before .before .before .pre .1), c .before .before .before .before .before .before .pre .0 .fits .most)
+    let at-record-of = c .before .before .before in
+    let start = at-record-of .before .before .before in (
+      header-fits _ _ _ _ (at-record-of .record-of .ensures) _ (c .before .before .is-large .ensures) (not-false _ (c .before .if1 .left)) _
+          (c .pointer-of .ensures .0) (start .pre .0 .headers) (start .pre .1),
+      start .pre .0 .fits .most,
+    )
 
 function-after-requires-2 : tie.Need-function-after-requires-2
-function-after-requires-2 c κs = (c .large-function .ensures .1, omega (arith, c .before .before .before .before .before .before .before .pre .0 .most))
+function-after-requires-2 c κs =
+    let start = c .before .before .before .before .before .before .before in
+    (c .large-function .ensures .1, omega (arith, start .pre .0 .most))
 
 large-record-requires : tie.Need-large-record-requires
-large-record-requires c κs = c .before .before .before .pointer-of .ensures .0
+large-record-requires c κs =
+    let at-pointer-of = c .before .before .before in
+    at-pointer-of .pointer-of .ensures .0
 
 put-record-requires-2 : tie.Need-put-record-requires-2
 put-record-requires-2 c κs =
-    let a = c .before .before .before .before .before .before .before .before .before .before .before .args in
-    (records-few (a .layout) (a .image .now) (a .i) (c .before .before .before .before .before .before .before .before .before .before .before .pre .0 .fits) (c .before .before .before .before .before .before .before .before .before .before .before .pre .1), omega (arith, record-in (a .layout) (a .image .now) (a .i) (c .before .before .before .before .before .before .before .before .before .before .before .pre .1), c .before .before .before .before .before .before .before .before .before .before .before .pre .0 .records))
+    let start = c .before .before .before .before .before .before .before .before .before .before .before in
+    let a = start .args in (
+      records-few (a .layout) (a .image .now) (a .i) (start .pre .0 .fits) (start .pre .1),
+      omega
+          (arith, record-in (a .layout) (a .image .now) (a .i) (start .pre .1), start .pre .0 .records),
+    )
 
 put-header-requires : tie.Need-put-header-requires
 put-header-requires c κs =
-    let a = c .before .before .before .before .before .before .before .before .before .before .before .before .before .before .before .args in
-    rw (c .before .before .before .put-record2 .kept .0) (header-held (a .layout) (a .image .now) (a .m) (a .i) _ (c .before .before .before .before .before .before .before .before .before .before .before .before .record-of .ensures) _ (c .before .before .before .before .before .before .before .before .before .before .before .is-large .ensures) _ _ (c .before .before .before .before .before .before .before .function-after2 .ensures) _ (a .out .now) _ (c .before .before .before .put-record2 .ensures) (c .before .before .before .before .before .before .before .before .before .before .if1 .left) _ (c .before .before .before .before .before .before .before .before .before .pointer-of .ensures .0) (c .before .before .before .before .before .before .before .before .large-function .ensures .0) _ (c .before .before .before .before .before .before .before .before .before .before .before .before .before .before .before .pre .0) (c .before .before .before .before .before .before .before .before .before .before .before .before .before .before .before .pre .1), c .before .before .before .before .before .before .before .before .before .before .before .before .before .before .before .pre .0 .limit)
+    let at-put-record2 = c .before .before .before in
+    let at-function-after2 = at-put-record2 .before .before .before .before in
+    let at-large-function = at-function-after2 .before in
+    let at-pointer-of = at-large-function .before in
+    let at-if1 = at-pointer-of .before in
+    let at-is-large = at-if1 .before in
+    let at-record-of = at-is-large .before in
+    let start = at-record-of .before .before .before in
+    let a = start .args in
+    rw (at-put-record2 .put-record2 .kept .0)
+    (header-held (a .layout) (a .image .now) (a .m) (a .i) _ (at-record-of .record-of .ensures) _ (at-is-large .is-large .ensures) _ _
+    (at-function-after2 .function-after2 .ensures) _ (a .out .now) _ (at-put-record2 .put-record2 .ensures) (at-if1 .if1 .left) _
+    (at-pointer-of .pointer-of .ensures .0) (at-large-function .large-function .ensures .0) _ (start .pre .0) (start .pre .1))
 
 returns-2 : tie.Need-returns-2
 returns-2 c =
-    let a = c .before .before .before .before .before .before .before .before .before .before .before .before .before .before .before .before .before .before .args in
-    large-group (a .layout) (a .image .now) (a .m) (a .i) _ (c .before .before .before .before .before .before .before .before .before .before .before .before .before .before .before .record-of .ensures) _ (c .before .before .before .before .before .before .before .before .before .before .before .before .before .before .is-large .ensures) _ _ (c .before .before .before .before .before .before .before .before .before .before .function-after2 .ensures) _ (a .out .now) _ (c .before .before .before .before .before .before .put-record2 .ensures) (c .before .before .before .before .before .before .before .before .before .before .before .before .before .if1 .left) _ (c .before .before .before .before .before .before .before .before .before .before .before .before .pointer-of .ensures .0) (c .before .before .before .before .before .before .before .before .before .before .before .large-function .ensures .0) _ (c .before .before .before .before .before .before .before .before .before .writes-all .ensures) (c .before .before .before .before .before .before .before .before .large-record .ensures) _ (c .before .before .put-header .ensures)
+    let at-put-record2 = c .before .before .before .before .before .before in
+    let at-large-record = at-put-record2 .before .before in
+    let at-writes-all = at-large-record .before in
+    let at-function-after2 = at-writes-all .before in
+    let at-large-function = at-function-after2 .before in
+    let at-pointer-of = at-large-function .before in
+    let at-if1 = at-pointer-of .before in
+    let at-is-large = at-if1 .before in
+    let at-record-of = at-is-large .before in
+    let start = at-record-of .before .before .before in
+    let a = start .args in
+    large-group (a .layout) (a .image .now) (a .m) (a .i) _ (at-record-of .record-of .ensures) _ (at-is-large .is-large .ensures) _
+    _ (at-function-after2 .function-after2 .ensures) _ (a .out .now) _ (at-put-record2 .put-record2 .ensures)
+    (at-if1 .if1 .left) _ (at-pointer-of .pointer-of .ensures .0) (at-large-function .large-function .ensures .0) _
+    (at-writes-all .writes-all .ensures) (at-large-record .large-record .ensures) _ (c .before .before .put-header .ensures)
 
 pub relocate-function-spec : {M : Type 1} → statement M
 relocate-function-spec =
     tie.close
-    (tie.spec record-of-requires (λ c κs. search needs) (λ c κs. search needs) function-after-requires (λ c κs. search needs) put-record-requires (λ c. search needs) returns (λ c κs. search needs) large-function-requires function-after-requires-2 (λ c κs. search needs) large-record-requires put-record-requires-2 put-header-requires (λ c. search needs) returns-2)
+    (tie.spec record-of-requires (λ c κs. search needs) (λ c κs. search needs) function-after-requires (λ c κs. search needs)
+    put-record-requires (λ c. search needs) returns (λ c κs. search needs) large-function-requires function-after-requires-2
+    (λ c κs. search needs) large-record-requires put-record-requires-2 put-header-requires (λ c. search needs) returns-2)

@@ -1,10 +1,13 @@
+use native.Mathlib.Nat.{zero-add}
 use native.Mathlib.Omega.{arith}
-use borrow.Author.Needs.{needs}
 use Rattle.sections.proofs.header_word.Statement.{statement}
 use Rattle.sections.proofs.header_word.Tie as tie
 
+word-requires : tie.Need-word-requires
+word-requires c κs = (c .before .pre .0, rw zero-add (c .before .pre .1))
+
 returns : tie.Need-returns
-returns c = (rw (c .word .ensures .0, c .before .at .ensures), omega arith)
+returns c = (rw zero-add at (c .word .ensures .0), omega arith)
 
 pub header-word-spec : {M : Type 1} → statement M
-header-word-spec = tie.close (tie.spec (λ c κs. search needs) (λ c κs. search needs) returns)
+header-word-spec = tie.close (tie.spec word-requires returns)

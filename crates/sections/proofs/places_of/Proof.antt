@@ -4,9 +4,25 @@ use Rattle.sections.proofs.places_of.Statement.{statement}
 use Rattle.sections.proofs.places_of.Tie as tie
 
 returns : tie.Need-returns
-returns c = derived _ _ _ _ _ _ _ _ _ _ _ _ _ _ (c .before .before .before .before .before .before .before .before .before .before .before .header-word .ensures .0) (c .before .before .before .before .before .before .before .before .before .before .header-word2 .ensures .0) (c .before .before .before .before .before .before .before .before .before .header-word3 .ensures .0) (c .before .before .before .before .before .before .before .before .header-word4 .ensures .0) (c .before .before .before .before .before .before .before .header-word5 .ensures .0) (c .before .before .before .before .before .before .header-word6 .ensures .0) (c .before .before .before .before .before .record-at .ensures .0) (c .before .before .before .before .entry-at .ensures) (c .before .before .before .entry-at2 .ensures) (c .before .before .entry-at3 .ensures) (c .before .entry-at4 .ensures) (c .round-up .ensures)
+returns c =
+    let at-entry-at2 = c .before .before .before in
+    let at-entry-at = at-entry-at2 .before in
+    let at-record-at = at-entry-at .before in
+    let at-header-word6 = at-record-at .before in
+    let at-header-word5 = at-header-word6 .before in
+    let at-header-word4 = at-header-word5 .before in
+    let at-header-word3 = at-header-word4 .before in
+    let at-header-word2 = at-header-word3 .before in
+    let at-header-word = at-header-word2 .before in
+    derived _ _ _ _ _ _ _ _ _ _ _ _ _ _ (at-header-word .header-word .ensures .0) (at-header-word2 .header-word2 .ensures .0)
+    (at-header-word3 .header-word3 .ensures .0) (at-header-word4 .header-word4 .ensures .0)
+    (at-header-word5 .header-word5 .ensures .0) (at-header-word6 .header-word6 .ensures .0)
+    (at-record-at .record-at .ensures .0) (at-entry-at .entry-at .ensures) (at-entry-at2 .entry-at2 .ensures)
+    (c .before .before .entry-at3 .ensures) (c .before .entry-at4 .ensures) (c .up4 .ensures)
 
 pub places-of-spec : {M : Type 1} → statement M
 places-of-spec =
     tie.close
-    (tie.spec (λ c κs. search needs) (λ c κs. search needs) (λ c κs. search needs) (λ c κs. search needs) (λ c κs. search needs) (λ c κs. search needs) (λ c κs. search needs) (λ c κs. search needs) (λ c κs. search needs) (λ c κs. search needs) (λ c κs. search needs) (λ c. search needs) (λ c κs. search needs) (λ c. search needs) returns)
+    (tie.spec (λ c κs. search needs) (λ c κs. search needs) (λ c κs. search needs) (λ c κs. search needs) (λ c κs. search needs)
+    (λ c κs. search needs) (λ c κs. search needs) (λ c κs. search needs) (λ c κs. search needs) (λ c κs. search needs)
+    (λ c κs. search needs) (λ c. search needs) (λ c κs. search needs) (λ c. search needs) returns)

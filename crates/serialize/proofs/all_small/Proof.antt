@@ -1,3 +1,4 @@
+-- No string before i is long or far.
 use Prim.Native.Nat.{_≤_, _-_}
 use mathlib.Core.Path.{_≡_, refl}
 use mathlib.Core.Bool.{true}
@@ -19,18 +20,38 @@ loop-holds : tie.Need-loop-holds Inv-loop μ-loop
 loop-holds c = (omega arith, all-none (small (c .before .args .ends .now)))
 
 returns : tie.Need-returns Inv-loop μ-loop
-returns c = far (c .before .before .before .before .before .args .ends .now) (c .before .before .before .loop .i) _ _ (c .before .start-of .ensures .0) refl (c .before .before .loop-test .taken) (c .if1 .taken)
+returns c =
+    let at-loop = c .before .before .before in
+    let start = at-loop .before .before in
+    far (start .args .ends .now) (at-loop .loop .i) _ _ (c .before .start-of .ensures .0) refl (c .before .before .loop-test .taken)
+    (c .if1 .taken)
 
 returns-2 : tie.Need-returns-2 Inv-loop μ-loop
-returns-2 c = long (c .before .before .before .before .before .before .before .args .ends .now) (c .before .before .before .before .before .loop .i) _ _ (c .before .before .before .start-of .ensures .0) (c .before .start-of2 .ensures .0) (c .before .before .before .before .loop-test .taken) (c .before .before .if1 .left) (c .if2 .taken)
+returns-2 c =
+    let at-start-of = c .before .before .before in
+    let at-loop-test = at-start-of .before in
+    let at-loop = at-loop-test .before in
+    let start = at-loop .before .before in
+    long (start .args .ends .now) (at-loop .loop .i) _ _ (at-start-of .start-of .ensures .0) (c .before .start-of2 .ensures .0)
+    (at-loop-test .loop-test .taken) (c .before .before .if1 .left) (c .if2 .taken)
 
 loop-again : tie.Need-loop-again Inv-loop μ-loop
-loop-again c = (omega arith, fits (c .before .before .before .before .before .before .before .args .ends .now) (c .before .before .before .before .before .loop .i) _ _ (c .before .before .before .start-of .ensures .0) (c .before .start-of2 .ensures .0) (c .before .before .if1 .left) (c .if2 .left) (c .before .before .before .before .before .loop .inv .1))
+loop-again c =
+    let at-start-of = c .before .before .before in
+    let at-loop = at-start-of .before .before in
+    let start = at-loop .before .before in (
+      omega arith,
+      fits (start .args .ends .now) (at-loop .loop .i) _ _ (at-start-of .start-of .ensures .0)
+          (c .before .start-of2 .ensures .0) (c .before .before .if1 .left) (c .if2 .left) (at-loop .loop .inv .1),
+    )
 
 returns-3 : tie.Need-returns-3 Inv-loop μ-loop
-returns-3 c = all-fit (c .before .before .before .args .ends .now) (c .before .loop .i) (omega arith) (c .before .loop .inv .1)
+returns-3 c =
+    let start = c .before .before .before in
+    all-fit (start .args .ends .now) (c .before .loop .i) (omega arith) (c .before .loop .inv .1)
 
 pub all-small-spec : {M : Type 1} → statement M
 all-small-spec =
     tie.close
-    (tie.spec Inv-loop μ-loop loop-holds (λ c κs. omega arith) returns (λ c. omega arith) (λ c. omega arith) (λ c κs. omega arith) returns-2 (λ c. omega arith) (λ c. omega arith) loop-again returns-3)
+    (tie.spec Inv-loop μ-loop loop-holds (λ c κs. omega arith) returns (λ c. omega arith) (λ c. omega arith) (λ c κs. omega arith)
+    returns-2 (λ c. omega arith) (λ c. omega arith) loop-again returns-3)

@@ -1,3 +1,4 @@
+-- No end before i is below the one before it.
 use Prim.Native.Nat.{_≤_, _-_}
 use mathlib.Core.Path.{_≡_}
 use mathlib.Core.Bool.{true}
@@ -19,15 +20,29 @@ loop-holds : tie.Need-loop-holds Inv-loop μ-loop
 loop-holds c = (omega arith, all-none (ascending (c .before .args .ends .now)))
 
 returns : tie.Need-returns Inv-loop μ-loop
-returns c = falls (c .before .before .before .before .before .before .args .ends .now) (c .before .before .before .before .loop .i) _ _ (c .before .start-of2 .ensures .0) (c .before .before .start-of .ensures .0) (c .before .before .before .loop-test .taken) (c .if1 .taken)
+returns c =
+    let at-loop-test = c .before .before .before in
+    let at-loop = at-loop-test .before in
+    let start = at-loop .before .before in
+    falls (start .args .ends .now) (at-loop .loop .i) _ _ (c .before .start-of2 .ensures .0)
+    (c .before .before .start-of .ensures .0) (at-loop-test .loop-test .taken) (c .if1 .taken)
 
 loop-again : tie.Need-loop-again Inv-loop μ-loop
-loop-again c = (omega arith, rises (c .before .before .before .before .before .before .args .ends .now) (c .before .before .before .before .loop .i) _ _ (c .before .start-of2 .ensures .0) (c .before .before .start-of .ensures .0) (c .if1 .left) (c .before .before .before .before .loop .inv .1))
+loop-again c =
+    let at-loop = c .before .before .before .before in
+    let start = at-loop .before .before in (
+      omega arith,
+      rises (start .args .ends .now) (at-loop .loop .i) _ _ (c .before .start-of2 .ensures .0)
+          (c .before .before .start-of .ensures .0) (c .if1 .left) (at-loop .loop .inv .1),
+    )
 
 returns-2 : tie.Need-returns-2 Inv-loop μ-loop
-returns-2 c = all-ascend (c .before .before .before .args .ends .now) (c .before .loop .i) (omega arith) (c .before .loop .inv .1)
+returns-2 c =
+    let start = c .before .before .before in
+    all-ascend (start .args .ends .now) (c .before .loop .i) (omega arith) (c .before .loop .inv .1)
 
 pub ends-ascend-spec : {M : Type 1} → statement M
 ends-ascend-spec =
     tie.close
-    (tie.spec Inv-loop μ-loop loop-holds (λ c. omega arith) (λ c κs. omega arith) (λ c κs. omega arith) returns (λ c. omega arith) (λ c. omega arith) loop-again returns-2)
+    (tie.spec Inv-loop μ-loop loop-holds (λ c. omega arith) (λ c κs. omega arith) (λ c κs. omega arith) returns (λ c. omega arith)
+    (λ c. omega arith) loop-again returns-2)

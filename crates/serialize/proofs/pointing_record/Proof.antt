@@ -5,9 +5,19 @@ use Rattle.serialize.proofs.pointing_record.Tie as tie
 
 returns : tie.Need-returns
 unfolding recordOf
-returns c = rw (c .with-modern-pointer .ensures, c .before .with-value .ensures, c .before .before .with-field .ensures, c .before .before .before .width .ensures, c .before .before .before .before .at .ensures)
+returns c =
+    let at-width = c .before .before .before in
+    let at-at = at-width .before in
+    rw (
+      c .with-modern-pointer .ensures,
+      c .before .with-value .ensures,
+      c .before .before .with-field .ensures,
+      at-width .width .ensures,
+      at-at .at .ensures,
+    )
 
 pub pointing-record-spec : {M : Type 1} → statement M
 pointing-record-spec =
     tie.close
-    (tie.spec (λ c κs. search needs) (λ c κs. search needs) (λ c κs. search needs) (λ c κs. search needs) (λ c κs. search needs) returns)
+    (tie.spec (λ c κs. search needs) (λ c κs. search needs) (λ c κs. search needs) (λ c κs. search needs) (λ c κs. search needs)
+    returns)

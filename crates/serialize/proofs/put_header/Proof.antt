@@ -4,7 +4,9 @@ use Rattle.serialize.proofs.put_header.Statement.{statement}
 use Rattle.serialize.proofs.put_header.Tie as tie
 
 returns : tie.Need-returns
-returns c = rw (c .before .before .put-bytes .ensures, header-is _ _ _ _ _ (c .before .before .before .before .before .before .write-modern-header .ensures))
+returns c =
+    let at-write-modern-header = c .before .before .before .before .before .before in
+    rw (c .before .before .put-bytes .ensures, header-is _ _ _ _ _ (at-write-modern-header .write-modern-header .ensures))
 
 pub put-header-spec : {M : Type 1} → statement M
 put-header-spec =

@@ -5,12 +5,19 @@ use Rattle.serialize.proofs.put_image.Tie as tie
 
 returns : tie.Need-returns
 returns c =
-    let s = c .before .before .before .before .before .before .before .before .before .before .before .before .before .before .before .before .before .before in
+    let at-put-tail = c .before .before .before .before .before .before in
+    let at-put-sections = at-put-tail .before .before .before .before in
+    let at-up4 = at-put-sections .before .before in
+    let at-body-at = at-up4 .before in
+    let before-18 = at-body-at .before .before .before .before .before in
+    let s = before-18 in
     let a = s .args in
     image-made (a .version) (a .storage .now) (a .ends .now) (a .body .now) (a .image .now) _ _ _ _ (s .pre .0) (s .pre .1 .0)
-    (rw (c .before .before .before .before .before .before .before .before .before .before .before .before .up4 .ensures, c .before .before .before .before .before .before .before .before .before .before .before .before .before .body-at .ensures) at (c .before .before .before .before .before .before .before .before .before .before .put-sections .ensures)) (rw (c .before .before .before .before .before .before .before .before .before .before .before .before .before .body-at .ensures) at (c .before .before .before .before .before .before .put-tail .ensures)) (c .before .before .finalize-raw-image .ensures)
+    (rw (at-up4 .up4 .ensures, at-body-at .body-at .ensures) at (at-put-sections .put-sections .ensures))
+    (rw (at-body-at .body-at .ensures) at (at-put-tail .put-tail .ensures)) (c .before .before .finalize-raw-image .ensures)
 
 pub put-image-spec : {M : Type 1} → statement M
 put-image-spec =
     tie.close
-    (tie.spec (λ c κs. search needs) (λ c. search needs) (λ c κs. search needs) (λ c κs. search needs) (λ c κs. search needs) (λ c κs. search needs) (λ c. search needs) returns)
+    (tie.spec (λ c κs. search needs) (λ c. search needs) (λ c κs. search needs) (λ c κs. search needs) (λ c κs. search needs)
+    (λ c κs. search needs) (λ c. search needs) returns)

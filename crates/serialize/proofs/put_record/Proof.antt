@@ -4,9 +4,16 @@ use Rattle.serialize.proofs.put_record.Statement.{statement}
 use Rattle.serialize.proofs.put_record.Tie as tie
 
 returns : tie.Need-returns
-returns c = record-laid (c .before .before .before .before .before .before .before .before .args .image .now) _ _ _ _ (c .before .before .before .before .before .before .before .before .args .large-at) (c .before .before .before .before .before .before .at .ensures) (c .before .before .before .before .before .kinds-at .ensures) (c .before .before .before .before .before .before .before .before .pre) (c .before .before .store12 .ensures) (c .before .before .before .pointing-record .ensures)
+returns c =
+    let at-pointing-record = c .before .before .before in
+    let at-kinds-at = at-pointing-record .before .before in
+    let at-at = at-kinds-at .before in
+    let start = at-at .before .before in
+    record-laid (start .args .image .now) _ _ _ _ (start .args .large-at) (at-at .at .ensures) (at-kinds-at .kinds-at .ensures)
+    (start .pre) (c .before .before .store12 .ensures) (at-pointing-record .pointing-record .ensures)
 
 pub put-record-spec : {M : Type 1} → statement M
 put-record-spec =
     tie.close
-    (tie.spec (λ c κs. search needs) (λ c κs. search needs) (λ c. search needs) (λ c. search needs) (λ c. search needs) (λ c κs. search needs) (λ c κs. search needs) (λ c. search needs) returns)
+    (tie.spec (λ c κs. search needs) (λ c κs. search needs) (λ c. search needs) (λ c. search needs) (λ c. search needs)
+    (λ c κs. search needs) (λ c κs. search needs) (λ c. search needs) returns)

@@ -6,10 +6,14 @@ use Rattle.serialize.proofs.storage_at.Statement.{statement}
 use Rattle.serialize.proofs.storage_at.Tie as tie
 
 mul-result : tie.Need-mul-result
-mul-result c = let h : c .width .result ≤ 4 = omega (arith, c .width .ensures) in omega (arith, mul-le-mul-left (c .before .before .args .strings) h)
+mul-result c =
+    let h : c .width .result ≤ 4 = omega (arith, c .width .ensures) in
+    omega (arith, mul-le-mul-left (c .before .before .args .strings) h)
 
 add-result : tie.Need-add-result
-add-result c = let h : c .width .result ≤ 4 = omega (arith, c .width .ensures) in omega (arith, mul-le-mul-left (c .before .before .args .strings) h)
+add-result c =
+    let h : c .width .result ≤ 4 = omega (arith, c .width .ensures) in
+    omega (arith, mul-le-mul-left (c .before .before .args .strings) h)
 
 returns : tie.Need-returns
 returns c = rw (c .before .small-at .ensures, c .width .ensures)

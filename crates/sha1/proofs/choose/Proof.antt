@@ -7,7 +7,8 @@ use Rattle.sha1.proofs.choose.Tie as tie
 returns : tie.Need-returns
 unfolding ch
 returns c =
-    let a = c .before .before .before .args in
+    let start = c .before .before .before in
+    let a = start .args in
     rw (c .xor2 .ensures, c .before .and .ensures, c .before .before .xor .ensures) (choice 32 (a .x) (a .y) (a .z))
 
 pub choose-spec : {M : Type 1} → statement M

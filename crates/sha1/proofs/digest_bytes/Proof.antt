@@ -6,9 +6,17 @@ use Rattle.sha1.proofs.digest_bytes.Statement.{statement}
 use Rattle.sha1.proofs.digest_bytes.Tie as tie
 
 returns : tie.Need-returns
-returns c = five-words (replicate 20 0) _ _ _ _ _ _ refl (c .before .before .before .before .before .before .before .before .before .before .before .before .before .put-big-word .ensures) (c .before .before .before .before .before .before .before .before .before .before .put-big-word2 .ensures) (c .before .before .before .before .before .before .before .put-big-word3 .ensures) (c .before .before .before .before .put-big-word4 .ensures) (c .before .put-big-word5 .ensures)
+returns c =
+    let at-put-big-word4 = c .before .before .before .before in
+    let at-put-big-word3 = at-put-big-word4 .before .before .before in
+    let at-put-big-word2 = at-put-big-word3 .before .before .before in
+    let at-put-big-word = at-put-big-word2 .before .before .before in
+    five-words (replicate 20 0) _ _ _ _ _ _ refl (at-put-big-word .put-big-word .ensures) (at-put-big-word2 .put-big-word2 .ensures)
+    (at-put-big-word3 .put-big-word3 .ensures) (at-put-big-word4 .put-big-word4 .ensures) (c .before .put-big-word5 .ensures)
 
 pub digest-bytes-spec : {M : Type 1} → statement M
 digest-bytes-spec =
     tie.close
-    (tie.spec (λ c. search needs) (λ c. search needs) (λ c κs. search needs) (λ c. search needs) (λ c. search needs) (λ c κs. search needs) (λ c. search needs) (λ c. search needs) (λ c κs. search needs) (λ c. search needs) (λ c. search needs) (λ c κs. search needs) (λ c. search needs) (λ c. search needs) (λ c κs. search needs) returns)
+    (tie.spec (λ c. search needs) (λ c. search needs) (λ c κs. search needs) (λ c. search needs) (λ c. search needs)
+    (λ c κs. search needs) (λ c. search needs) (λ c. search needs) (λ c κs. search needs) (λ c. search needs)
+    (λ c. search needs) (λ c κs. search needs) (λ c. search needs) (λ c. search needs) (λ c κs. search needs) returns)

@@ -5,7 +5,9 @@ use Rattle.sha1.proofs.hash_block.Tie as tie
 
 returns : tie.Need-returns
 unfolding hashed schedule
-returns c = rw (c .sum .ensures, c .before .all-rounds .ensures, c .before .before .extend .ensures, c .before .before .before .load .ensures)
+returns c =
+    let at-load = c .before .before .before in
+    rw (c .sum .ensures, c .before .all-rounds .ensures, c .before .before .extend .ensures, at-load .load .ensures)
 
 pub hash-block-spec : {M : Type 1} → statement M
 hash-block-spec =

@@ -1,3 +1,4 @@
+-- The state is that of the standard behind the first i blocks.
 use Prim.Native.Nat.{_≤_, _-_}
 use mathlib.Core.Path.{_≡_, refl}
 use native.Mathlib.Omega.{arith}
@@ -22,16 +23,19 @@ hash-block-requires c κs = simp (length-take, length-drop) (omega arith)
 
 loop-again : tie.Need-loop-again Inv-loop μ-loop
 loop-again c =
-    let l = c .before .before .before .loop in
+    let at-loop = c .before .before .before in
+    let l = at-loop .loop in
     (omega arith, hashed-more _ _ (l .g) _ (l .i) (l .inv .1) (c .hash-block .ensures))
 
 returns : tie.Need-returns Inv-loop μ-loop
 returns c =
+    let start = c .before .before .before in
     let l = c .before .loop in
-    let e : l .i ≡ c .before .before .before .args .n = omega arith in
+    let e : l .i ≡ start .args .n = omega arith in
     rw e at (l .inv .1)
 
 pub hash-blocks-spec : {M : Type 1} → statement M
 hash-blocks-spec =
     tie.close
-    (tie.spec Inv-loop μ-loop loop-holds (λ c. omega arith) (λ c. omega arith) (λ c. omega arith) (λ c. omega arith) (λ c. omega arith) hash-block-requires (λ c. omega arith) (λ c. omega arith) loop-again returns)
+    (tie.spec Inv-loop μ-loop loop-holds (λ c. omega arith) (λ c. omega arith) (λ c. omega arith) (λ c. omega arith)
+    (λ c. omega arith) hash-block-requires (λ c. omega arith) (λ c. omega arith) loop-again returns)

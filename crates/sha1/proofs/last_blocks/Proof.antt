@@ -11,11 +11,16 @@ put-big-word-requires c κs = simp length-set (omega (arith, c .before .before .
 
 returns : tie.Need-returns
 returns c =
-    let a = c .before .before .before .before .before .before .before in
+    let at-put-big-word = c .before .before .before .before in
+    let before-7 = at-put-big-word .before .before .before in
+    let a = before-7 in
     let s = a .before .before .before .before in
-    padded-rest (s .args .rest .now) (s .args .n) (s .pre) (replicate 128 0) _ _ _ _ refl (a .before .before .last-count .ensures) (a .put-bytes .ensures) (c .before .before .before .before .put-big-word .ensures) (c .before .put-big-word2 .ensures)
+    padded-rest (s .args .rest .now) (s .args .n) (s .pre) (replicate 128 0) _ _ _ _ refl (a .before .before .last-count .ensures)
+    (a .put-bytes .ensures) (at-put-big-word .put-big-word .ensures) (c .before .put-big-word2 .ensures)
 
 pub last-blocks-spec : {M : Type 1} → statement M
 last-blocks-spec =
     tie.close
-    (tie.spec (λ c κs. search needs) (λ c. search needs) (λ c. search needs) (λ c κs. search needs) (λ c. search needs) (λ c. search needs) (λ c. search needs) (λ c. search needs) put-big-word-requires (λ c. search needs) (λ c. search needs) (λ c. search needs) (λ c. search needs) (λ c κs. search needs) returns)
+    (tie.spec (λ c κs. search needs) (λ c. search needs) (λ c. search needs) (λ c κs. search needs) (λ c. search needs)
+    (λ c. search needs) (λ c. search needs) (λ c. search needs) put-big-word-requires (λ c. search needs) (λ c. search needs)
+    (λ c. search needs) (λ c. search needs) (λ c κs. search needs) returns)

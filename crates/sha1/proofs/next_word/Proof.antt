@@ -3,7 +3,9 @@ use Rattle.sha1.proofs.next_word.Statement.{statement}
 use Rattle.sha1.proofs.next_word.Tie as tie
 
 returns : tie.Need-returns
-returns c = rw (c .rotl .ensures, c .before .xor3 .ensures, c .before .before .xor2 .ensures, c .before .before .before .xor .ensures)
+returns c =
+    let at-xor = c .before .before .before in
+    rw (c .rotl .ensures, c .before .xor3 .ensures, c .before .before .xor2 .ensures, at-xor .xor .ensures)
 
 pub next-word-spec : {M : Type 1} → statement M
 next-word-spec =

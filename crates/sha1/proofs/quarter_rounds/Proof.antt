@@ -1,3 +1,4 @@
+-- The state is that of the standard behind the first i rounds of this quarter.
 use Prim.Native.Nat.{_≤_, _-_, _*_}
 use mathlib.Core.Path.{_≡_, refl}
 use native.Mathlib.Omega.{arith}
@@ -18,9 +19,14 @@ loop-holds c = (omega arith, refl)
 
 loop-again : tie.Need-loop-again Inv-loop μ-loop
 loop-again c =
-    let l = c .before .before .before .before .loop in
-    let a = c .before .before .before .before .before .args in
-    (omega arith, turned-more (a .quarter) (l .i) _ _ (l .v) _ (omega arith) (l .inv .1) (rw (c .turn .ensures, c .before .constant .ensures, c .before .before .mixed .ensures)))
+    let at-loop = c .before .before .before .before in
+    let start = at-loop .before in
+    let l = at-loop .loop in
+    let a = start .args in (
+      omega arith,
+      turned-more (a .quarter) (l .i) _ _ (l .v) _ (omega arith) (l .inv .1)
+          (rw (c .turn .ensures, c .before .constant .ensures, c .before .before .mixed .ensures)),
+    )
 
 returns : tie.Need-returns Inv-loop μ-loop
 returns c =
@@ -31,4 +37,6 @@ returns c =
 pub quarter-rounds-spec : {M : Type 1} → statement M
 quarter-rounds-spec =
     tie.close
-    (tie.spec Inv-loop μ-loop loop-holds (λ c. omega arith) (λ c. omega arith) (λ c. omega arith) (λ c κs. tt) (λ c κs. omega arith) (λ c. omega arith) (λ c. omega arith) (λ c. omega arith) (λ c. omega arith) (λ c κs. tt) (λ c. omega arith) (λ c. omega arith) loop-again returns)
+    (tie.spec Inv-loop μ-loop loop-holds (λ c. omega arith) (λ c. omega arith) (λ c. omega arith) (λ c κs. tt) (λ c κs. omega arith)
+    (λ c. omega arith) (λ c. omega arith) (λ c. omega arith) (λ c. omega arith) (λ c κs. tt) (λ c. omega arith)
+    (λ c. omega arith) loop-again returns)

@@ -5,9 +5,22 @@ use Rattle.sha1.proofs.turn.Tie as tie
 
 returns : tie.Need-returns
 unfolding turned
-returns c = rw (c .rotl2 .ensures, c .before .add4 .ensures, c .before .before .add3 .ensures, c .before .before .before .add2 .ensures, c .before .before .before .before .add .ensures, c .before .before .before .before .before .rotl .ensures)
+returns c =
+    let at-add2 = c .before .before .before in
+    let at-add = at-add2 .before in
+    let at-rotl = at-add .before in
+    rw (
+      c .rotl2 .ensures,
+      c .before .add4 .ensures,
+      c .before .before .add3 .ensures,
+      at-add2 .add2 .ensures,
+      at-add .add .ensures,
+      at-rotl .rotl .ensures,
+    )
 
 pub turn-spec : {M : Type 1} → statement M
 turn-spec =
     tie.close
-    (tie.spec (λ c. search needs) (λ c κs. search needs) (λ c κs. search needs) (λ c. search needs) (λ c κs. search needs) (λ c κs. search needs) (λ c κs. search needs) (λ c. search needs) (λ c. search needs) (λ c κs. search needs) (λ c. search needs) (λ c. search needs) returns)
+    (tie.spec (λ c. search needs) (λ c κs. search needs) (λ c κs. search needs) (λ c. search needs) (λ c κs. search needs)
+    (λ c κs. search needs) (λ c κs. search needs) (λ c. search needs) (λ c. search needs) (λ c κs. search needs)
+    (λ c. search needs) (λ c. search needs) returns)

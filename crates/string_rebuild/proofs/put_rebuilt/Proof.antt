@@ -1,3 +1,4 @@
+-- What is around the strings, their region, the two counts, every place that moves, and the end: each step keeps the length.
 use borrow.Author.Needs.{needs}
 use Rattle.string_rebuild.proofs.put_rebuilt.Statement.{statement}
 use Rattle.string_rebuild.proofs.put_rebuilt.Tie as tie
@@ -5,22 +6,81 @@ use mathlib.Core.Path.{refl, _∙_}
 use Rattle.string_rebuild.proofs.RebuildLaws.{around-room, region-room, header-room, finish-room, movable, patch-put}
 
 copy-around-requires : tie.Need-copy-around-requires
-copy-around-requires c κs = let a = c .before .before .before .before .args in let q = c .before .before .before .before .pre in around-room (a .p) (a .image .now) (a .value .now) (a .id) (a .new) (a .sizes) (a .tail) _ q
+copy-around-requires c κs =
+    let start = c .before .before .before .before in
+    let a = start .args in
+    let q = start .pre in
+    around-room (a .p) (a .image .now) (a .value .now) (a .id) (a .new) (a .sizes) (a .tail) _ q
 
 put-region-requires : tie.Need-put-region-requires
-put-region-requires c κs = let a = c .before .before .before .before .before .before .before .before .args in let q = c .before .before .before .before .before .before .before .before .pre in ((q .asked .placed, q .asked .admitted), ((q .small, q .shaped), (q .measured, rw (c .before .before .before .copy-around .kept .0) (region-room (a .p) (a .image .now) (a .value .now) (a .id) (a .new) (a .sizes) (a .tail) _ q))))
+put-region-requires c κs =
+    let at-copy-around = c .before .before .before in
+    let start = at-copy-around .before .before .before .before .before in
+    let a = start .args in
+    let q = start .pre in
+    let r = region-room (a .p) (a .image .now) (a .value .now) (a .id) (a .new) (a .sizes) (a .tail) _ q in
+    record {
+      laid = q .asked .laid;
+      small = q .small;
+      shaped = q .shaped;
+      measured = q .measured;
+      room = rw (at-copy-around .copy-around .kept .0) (r .0);
+      limit = r .1;
+    }
 
 put-counts-requires : tie.Need-put-counts-requires
-put-counts-requires c κs = let a = c .before .before .before .before .before .before .before .before .before .before .before .before .args in let q = c .before .before .before .before .before .before .before .before .before .before .before .before .pre in rw (c .before .before .before .put-region .kept .0, c .before .before .before .before .before .before .before .copy-around .kept .0) (header-room (a .p) (a .image .now) (a .value .now) (a .id) (a .new) (a .sizes) (a .tail) _ q)
+put-counts-requires c κs =
+    let at-put-region = c .before .before .before in
+    let at-copy-around = at-put-region .before .before .before .before in
+    let start = at-copy-around .before .before .before .before .before in
+    let a = start .args in
+    let q = start .pre in
+    rw (at-put-region .put-region .kept .0, at-copy-around .copy-around .kept .0)
+    (header-room (a .p) (a .image .now) (a .value .now) (a .id) (a .new) (a .sizes) (a .tail) _ q)
 
 relocate-requires : tie.Need-relocate-requires
-relocate-requires c κs = let a = c .before .before .before .before .before .before .before .before .before .before .before .before .before .before .before .before .args in let q = c .before .before .before .before .before .before .before .before .before .before .before .before .before .before .before .before .pre in rw (c .before .before .before .put-counts .kept .0, c .before .before .before .before .before .before .before .put-region .kept .0, c .before .before .before .before .before .before .before .before .before .before .before .copy-around .kept .0) (movable (a .p) (a .image .now) (a .value .now) (a .id) (a .new) (a .sizes) (a .tail) _ q)
+relocate-requires c κs =
+    let at-put-counts = c .before .before .before in
+    let at-put-region = at-put-counts .before .before .before .before in
+    let at-copy-around = at-put-region .before .before .before .before in
+    let start = at-copy-around .before .before .before .before .before in
+    let a = start .args in
+    let q = start .pre in
+    rw (at-put-counts .put-counts .kept .0, at-put-region .put-region .kept .0, at-copy-around .copy-around .kept .0)
+    (movable (a .p) (a .image .now) (a .value .now) (a .id) (a .new) (a .sizes) (a .tail) _ q)
 
 finish-requires : tie.Need-finish-requires
-finish-requires c κs = let a = c .before .before .before .before .before .before .before .before .before .before .before .before .before .before .before .before .before .before .before .before .args in let q = c .before .before .before .before .before .before .before .before .before .before .before .before .before .before .before .before .before .before .before .before .pre in ((q .asked .placed, q .asked .admitted, q .asked .known), rw (c .before .before .before .relocate .kept .0, c .before .before .before .before .before .before .before .put-counts .kept .0, c .before .before .before .before .before .before .before .before .before .before .before .put-region .kept .0, c .before .before .before .before .before .before .before .before .before .before .before .before .before .before .before .copy-around .kept .0) (finish-room (a .p) (a .image .now) (a .value .now) (a .id) (a .new) (a .sizes) (a .tail) _ q))
+finish-requires c κs =
+    let at-relocate = c .before .before .before in
+    let at-put-counts = at-relocate .before .before .before .before in
+    let at-put-region = at-put-counts .before .before .before .before in
+    let at-copy-around = at-put-region .before .before .before .before in
+    let start = at-copy-around .before .before .before .before .before in
+    let a = start .args in
+    let q = start .pre in
+    rw (
+      at-relocate .relocate .kept .0,
+      at-put-counts .put-counts .kept .0,
+      at-put-region .put-region .kept .0,
+      at-copy-around .copy-around .kept .0,
+    )
+    (finish-room (a .p) (a .image .now) (a .value .now) (a .id) (a .new) (a .sizes) (a .tail) _ q)
 
 returns : tie.Need-returns
-returns c = let a = c .before .before .before .before .before .before .before .before .before .before .before .before .before .before .before .before .before .before .before .before .before .before .before .args in let q = c .before .before .before .before .before .before .before .before .before .before .before .before .before .before .before .before .before .before .before .before .before .before .before .pre in patch-put (a .p) (a .image .now) (a .value .now) (a .id) (a .new) (a .sizes) (a .tail) _ q (a .out .now) _ _ _ _ refl (c .before .before .before .before .before .before .before .before .before .before .before .before .before .before .before .before .before .before .copy-around .ensures) (c .before .before .before .before .before .before .before .before .before .before .before .before .before .before .put-region .ensures) (c .before .before .before .before .before .before .before .before .before .before .put-counts .ensures) (c .before .before .before .before .before .before .relocate .ensures) _ _ (c .before .before .before .before .before .before .relocate .kept .0 ∙ c .before .before .before .before .before .before .before .before .before .before .put-counts .kept .0 ∙ c .before .before .before .before .before .before .before .before .before .before .before .before .before .before .put-region .kept .0 ∙ c .before .before .before .before .before .before .before .before .before .before .before .before .before .before .before .before .before .before .copy-around .kept .0) (c .before .before .finish .ensures)
+returns c =
+    let at-relocate = c .before .before .before .before .before .before in
+    let at-put-counts = at-relocate .before .before .before .before in
+    let at-put-region = at-put-counts .before .before .before .before in
+    let at-copy-around = at-put-region .before .before .before .before in
+    let start = at-copy-around .before .before .before .before .before in
+    let a = start .args in
+    let q = start .pre in
+    patch-put (a .p) (a .image .now) (a .value .now) (a .id) (a .new) (a .sizes) (a .tail) _ q (a .out .now) _ _ _ _ refl
+    (at-copy-around .copy-around .ensures) (at-put-region .put-region .ensures) (at-put-counts .put-counts .ensures)
+    (at-relocate .relocate .ensures) _ _
+    (at-relocate .relocate .kept .0 ∙ at-put-counts .put-counts .kept .0 ∙ at-put-region .put-region .kept .0
+    ∙ at-copy-around .copy-around .kept .0)
+    (c .before .before .finish .ensures)
 
 pub put-rebuilt-spec : {M : Type 1} → statement M
 put-rebuilt-spec =

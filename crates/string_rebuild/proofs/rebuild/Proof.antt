@@ -1,48 +1,135 @@
+-- Refusals in 01's order, each by its law; what passes them all is written.
 use borrow.Author.Needs.{needs}
 use Rattle.string_rebuild.proofs.rebuild.Statement.{statement}
 use Rattle.string_rebuild.proofs.rebuild.Tie as tie
 use Prim.Native.Nat.{_+_, _-_}
 use native.Mathlib.Omega.{arith}
 use lib.ListN.{length}
-use Rattle.image.proofs.CheckLaws.{headers-in}
 use Rattle.sections.proofs.SectionLaws.{sectioned}
-use Rattle.string_patch.proofs.FinishLaws.{part-length}
+use Rattle.string_in_place.proofs.FinishLaws.{part-length}
 use Rattle.string_rebuild.proofs.JudgeLaws.{huge, refuses, low, over-limit, no-field, no-room, written}
 
 returns : tie.Need-returns
-returns c = let a = c .before .before .before .before .before .before .args in let q = c .before .before .before .before .before .before .pre in refuses _ 11 (a .out .now) (huge (a .p) (a .image .now) (a .value .now) (a .id) q _ (c .before .before .shape-of .ensures) (c .if1 .taken))
+returns c =
+    let start = c .before .before .before .before .before .before in
+    let a = start .args in
+    let q = start .pre in
+    refuses _ 11 (a .out .now)
+    (huge (a .p) (a .image .now) (a .value .now) (a .id) q _ (c .before .before .shape-of .ensures) (c .if1 .taken))
 
 measure-requires : tie.Need-measure-requires
-measure-requires c κs = let q = c .before .before .before .before .before .before .pre in ((q .placed, q .admitted), omega arith)
+measure-requires c κs =
+    let start = c .before .before .before .before .before .before in
+    let q = start .pre in
+    (q .laid, omega arith)
 
 new-tail-requires : tie.Need-new-tail-requires
-new-tail-requires c κs = let a = c .before .before .before .before .before .before .before .args in let q = c .before .before .before .before .before .before .before .pre in low (a .p) (a .image .now) (a .value .now) (a .id) q _ _ (c .measure .ensures)
+new-tail-requires c κs =
+    let start = c .before .before .before .before .before .before .before in
+    let a = start .args in
+    let q = start .pre in
+    low (a .p) (a .image .now) (a .value .now) (a .id) q _ _ (c .measure .ensures)
 
 sub-n : tie.Need-sub-n
-sub-n c = let a = c .before .before .before .before .before .before .before .before .before .args in let q = c .before .before .before .before .before .before .before .before .before .pre in let z = sectioned (a .p) (a .image .now) (q .placed) in omega arith
+sub-n c =
+    let start = c .before .before .before .before .before .before .before .before .before in
+    let a = start .args in
+    let q = start .pre in
+    let z = sectioned (a .p) (a .image .now) (q .laid .placed) in
+    omega arith
 
 add-n : tie.Need-add-n
-add-n c = let a = c .before .before .before .before .before .before .before .before .before .args in let q = c .before .before .before .before .before .before .before .before .before .pre in let z = sectioned (a .p) (a .image .now) (q .placed) in omega (arith, c .before .new-tail .ensures, low (a .p) (a .image .now) (a .value .now) (a .id) q _ _ (c .before .before .measure .ensures))
+add-n c =
+    let start = c .before .before .before .before .before .before .before .before .before in
+    let a = start .args in
+    let q = start .pre in
+    let z = sectioned (a .p) (a .image .now) (q .laid .placed) in
+    omega
+    (arith, c .before .new-tail .ensures, low (a .p) (a .image .now) (a .value .now) (a .id) q _ _ (c .before .before .measure .ensures))
 
 returns-2 : tie.Need-returns-2
-returns-2 c = let a = c .before .before .before .before .before .before .before .before .before .before .args in let q = c .before .before .before .before .before .before .before .before .before .before .pre in over-limit (a .p) (a .image .now) (a .value .now) (a .id) q _ _ _ (c .before .before .before .before .before .before .shape-of .ensures) (c .before .before .before .measure .ensures) (c .before .before .new-tail .ensures) (a .out .now) (c .if2 .taken)
+returns-2 c =
+    let at-measure = c .before .before .before in
+    let at-shape-of = at-measure .before .before .before in
+    let start = at-shape-of .before .before .before .before in
+    let a = start .args in
+    let q = start .pre in
+    over-limit (a .p) (a .image .now) (a .value .now) (a .id) q _ _ _ (at-shape-of .shape-of .ensures)
+    (at-measure .measure .ensures) (c .before .before .new-tail .ensures) (a .out .now) (c .if2 .taken)
 
 fields-fit-requires : tie.Need-fields-fit-requires
-fields-fit-requires c κs = let a = c .before .before .before .before .before .before .before .before .before .before .args in let q = c .before .before .before .before .before .before .before .before .before .before .pre in let z = sectioned (a .p) (a .image .now) (q .placed) in ((q .placed, headers-in (a .p .layout) (a .image .now) .passed (q .admitted .header)), omega (arith, c .if2 .left))
+fields-fit-requires c κs =
+    let start = c .before .before .before .before .before .before .before .before .before .before in
+    let a = start .args in
+    let q = start .pre in
+    let z = sectioned (a .p) (a .image .now) (q .laid .placed) in
+    (q .laid, omega (arith, c .if2 .left))
 
 returns-3 : tie.Need-returns-3
-returns-3 c = let a = c .before .before .before .before .before .before .before .before .before .before .before .before .args in let q = c .before .before .before .before .before .before .before .before .before .before .before .before .pre in no-field (a .p) (a .image .now) (a .value .now) (a .id) q _ _ _ (c .before .before .before .before .before .before .before .before .shape-of .ensures) (c .before .before .before .before .before .measure .ensures) (c .before .before .before .before .new-tail .ensures) (a .out .now) (omega (arith, c .before .before .if2 .left)) _ (c .before .fields-fit .ensures) (c .if3 .taken)
+returns-3 c =
+    let at-new-tail = c .before .before .before .before in
+    let at-measure = at-new-tail .before in
+    let at-shape-of = at-measure .before .before .before in
+    let start = at-shape-of .before .before .before .before in
+    let a = start .args in
+    let q = start .pre in
+    no-field (a .p) (a .image .now) (a .value .now) (a .id) q _ _ _ (at-shape-of .shape-of .ensures) (at-measure .measure .ensures)
+    (at-new-tail .new-tail .ensures) (a .out .now) (omega (arith, c .before .before .if2 .left)) _
+    (c .before .fields-fit .ensures) (c .if3 .taken)
 
 returns-4 : tie.Need-returns-4
-returns-4 c = let a = c .before .before .before .before .before .before .before .before .before .before .before .before .before .args in let q = c .before .before .before .before .before .before .before .before .before .before .before .before .before .pre in no-room (a .p) (a .image .now) (a .value .now) (a .id) q _ _ _ (c .before .before .before .before .before .before .before .before .before .shape-of .ensures) (c .before .before .before .before .before .before .measure .ensures) (c .before .before .before .before .before .new-tail .ensures) (a .out .now) (omega (arith, c .before .before .before .if2 .left)) _ (c .before .before .fields-fit .ensures) (c .before .if3 .left) (c .if4 .taken)
+returns-4 c =
+    let at-if2 = c .before .before .before in
+    let at-new-tail = at-if2 .before .before in
+    let at-measure = at-new-tail .before in
+    let at-shape-of = at-measure .before .before .before in
+    let start = at-shape-of .before .before .before .before in
+    let a = start .args in
+    let q = start .pre in
+    no-room (a .p) (a .image .now) (a .value .now) (a .id) q _ _ _ (at-shape-of .shape-of .ensures) (at-measure .measure .ensures)
+    (at-new-tail .new-tail .ensures) (a .out .now) (omega (arith, at-if2 .if2 .left)) _ (c .before .before .fields-fit .ensures)
+    (c .before .if3 .left) (c .if4 .taken)
 
 put-rebuilt-requires : tie.Need-put-rebuilt-requires
-put-rebuilt-requires c κs = let a = c .before .before .before .before .before .before .before .before .before .before .before .before .before .before .args in let q = c .before .before .before .before .before .before .before .before .before .before .before .before .before .before .pre in record { asked = q; small = omega (arith, c .before .before .before .before .before .before .before .before .if1 .left); shaped = c .before .before .before .before .before .before .before .before .before .before .shape-of .ensures; measured = c .before .before .before .before .before .before .before .measure .ensures; tail = c .before .before .before .before .before .before .new-tail .ensures; long = part-length (a .out .now) _ (omega (arith, c .before .if4 .left)); limit = rw (part-length (a .out .now) (length (a .image .now) - a .p .tail + c .before .before .before .before .before .before .new-tail .result) (omega (arith, c .before .if4 .left))) (omega (arith, c .before .before .before .before .if2 .left)) }
+put-rebuilt-requires c κs =
+    let at-if2 = c .before .before .before .before in
+    let at-new-tail = at-if2 .before .before in
+    let at-measure = at-new-tail .before in
+    let at-if1 = at-measure .before in
+    let at-shape-of = at-if1 .before .before in
+    let start = at-shape-of .before .before .before .before in
+    let a = start .args in
+    let q = start .pre in
+    record {
+      asked = q;
+      small = omega (arith, at-if1 .if1 .left);
+      shaped = at-shape-of .shape-of .ensures;
+      measured = at-measure .measure .ensures;
+      tail = at-new-tail .new-tail .ensures;
+      long = part-length (a .out .now) _ (omega (arith, c .before .if4 .left));
+      limit = rw
+          (part-length (a .out .now) (length (a .image .now) - a .p .tail + at-new-tail .new-tail .result)
+          (omega (arith, c .before .if4 .left))) (omega (arith, at-if2 .if2 .left));
+    }
 
 returns-5 : tie.Need-returns-5
-returns-5 c = let a = c .before .before .before .before .before .before .before .before .before .before .before .before .before .before .before .before .before .args in let q = c .before .before .before .before .before .before .before .before .before .before .before .before .before .before .before .before .before .pre in written (a .p) (a .image .now) (a .value .now) (a .id) q _ _ _ (c .before .before .before .before .before .before .before .before .before .before .before .before .before .shape-of .ensures) (c .before .before .before .before .before .before .before .before .before .before .measure .ensures) (c .before .before .before .before .before .before .before .before .before .new-tail .ensures) (a .out .now) (omega (arith, c .before .before .before .before .before .before .before .if2 .left)) _ (c .before .before .before .before .before .before .fields-fit .ensures) (c .before .before .before .before .before .if3 .left) (omega (arith, c .before .before .before .before .if4 .left)) _ _ (c .before .before .put-rebuilt .ensures)
+returns-5 c =
+    let at-if4 = c .before .before .before .before in
+    let at-if3 = at-if4 .before in
+    let at-fields-fit = at-if3 .before in
+    let at-if2 = at-fields-fit .before in
+    let at-new-tail = at-if2 .before .before in
+    let at-measure = at-new-tail .before in
+    let at-shape-of = at-measure .before .before .before in
+    let start = at-shape-of .before .before .before .before in
+    let a = start .args in
+    let q = start .pre in
+    written (a .p) (a .image .now) (a .value .now) (a .id) q _ _ _ (at-shape-of .shape-of .ensures) (at-measure .measure .ensures)
+    (at-new-tail .new-tail .ensures) (a .out .now) (omega (arith, at-if2 .if2 .left)) _ (at-fields-fit .fields-fit .ensures)
+    (at-if3 .if3 .left) (omega (arith, at-if4 .if4 .left)) _ _ (c .before .before .put-rebuilt .ensures)
 
 pub rebuild-spec : {M : Type 1} → statement M
 rebuild-spec =
     tie.close
-    (tie.spec (λ c κs. search needs) returns measure-requires new-tail-requires sub-n add-n returns-2 fields-fit-requires returns-3 returns-4 (λ c. search needs) (λ c. search needs) (λ c. search needs) put-rebuilt-requires (λ c. search needs) returns-5)
+    (tie.spec (λ c κs. search needs) returns measure-requires new-tail-requires sub-n add-n returns-2 fields-fit-requires returns-3
+    returns-4 (λ c. search needs) (λ c. search needs) (λ c. search needs) put-rebuilt-requires (λ c. search needs) returns-5)

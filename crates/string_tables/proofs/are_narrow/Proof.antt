@@ -1,3 +1,4 @@
+-- The bytes before i, gathered by "or", exceed 0x7F exactly where one of them does.
 use Prim.Native.Nat.{_≤_, _-_}
 use mathlib.Core.Path.{_≡_}
 use native.Mathlib.Omega.{arith}
@@ -26,4 +27,5 @@ returns c = let l = c .before .loop in let e : l .i ≡ c .before .before .args 
 pub are-narrow-spec : {M : Type 1} → statement M
 are-narrow-spec =
     tie.close
-    (tie.spec Inv-loop μ-loop loop-holds (λ c. search needs) (λ c. search needs) (λ c. search needs) (λ c. search needs) loop-again returns)
+    (tie.spec Inv-loop μ-loop loop-holds (λ c. search needs) (λ c. search needs) (λ c. search needs) (λ c. search needs) loop-again
+    returns)

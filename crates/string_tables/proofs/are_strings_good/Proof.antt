@@ -1,3 +1,4 @@
+-- Every entry before i is good, and k of them overflow.
 use Prim.Native.Nat.{_≤_, _-_}
 use mathlib.Core.Path.{_≡_}
 use mathlib.Core.Bool.{true}
@@ -14,7 +15,8 @@ use Rattle.string_tables.proofs.are_strings_good.Tie as tie
 
 abbrev Inv-loop : tie.InvT-loop
 Inv-loop image p k₀ i₀ k i =
-    (i ≤ p .strings) × (k ≤ i) × (k ≡ overBefore (smallIn (p .layout) image) i) × (allBelow i (entryGoodAt (p .layout) image) ≡ true)
+    (i ≤ p .strings) × (k ≤ i) × (k ≡ overBefore (smallIn (p .layout) image) i)
+    × (allBelow i (entryGoodAt (p .layout) image) ≡ true)
 
 abbrev μ-loop : tie.MeasureT-loop
 μ-loop image p k₀ i₀ k i = p .strings - i
@@ -23,37 +25,66 @@ loop-holds : tie.Need-loop-holds Inv-loop μ-loop
 loop-holds c = (omega arith, omega arith, count-none _, pass-none _)
 
 entry-at-requires : tie.Need-entry-at-requires Inv-loop μ-loop
-entry-at-requires c κs = let h = sectioned (c .before .before .before .before .args .p) (c .before .before .before .before .args .image .now) (c .before .before .before .before .pre) in ((omega arith, omega arith), (omega arith, omega arith))
+entry-at-requires c κs =
+    let start = c .before .before .before .before in
+    let h = sectioned (start .args .p) (start .args .image .now) (start .pre) in
+    ((omega arith, omega arith), (omega arith, omega arith))
 
 word-requires : tie.Need-word-requires Inv-loop μ-loop
-word-requires c κs = let h = sectioned (c .before .before .before .before .before .args .p) (c .before .before .before .before .before .args .image .now) (c .before .before .before .before .before .pre) in omega arith
+word-requires c κs =
+    let start = c .before .before .before .before .before in
+    let h = sectioned (start .args .p) (start .args .image .now) (start .pre) in
+    omega arith
 
 is-entry-good-requires : tie.Need-is-entry-good-requires Inv-loop μ-loop
-is-entry-good-requires c κs = let h = sectioned (c .before .before .before .before .before .before .args .p) (c .before .before .before .before .before .before .args .image .now) (c .before .before .before .before .before .before .pre) in (c .before .before .before .before .before .before .pre, omega arith)
+is-entry-good-requires c κs =
+    let start = c .before .before .before .before .before .before in
+    let h = sectioned (start .args .p) (start .args .image .now) (start .pre) in
+    (start .pre, omega arith)
 
 returns : tie.Need-returns Inv-loop μ-loop
 returns c =
-    let l = c .before .before .before .before .before .before .loop in
-    entry-fails _ _ (c .before .before .before .before .before .before .before .before .pre) (l .i) (l .k) _ _ (c .before .before .word .ensures .0) (c .before .before .before .entry-at .ensures) (l .inv .2) _ (c .before .is-entry-good .ensures) (c .if2 .taken) (c .before .before .before .before .if1 .taken)
+    let at-entry-at = c .before .before .before in
+    let at-if1 = at-entry-at .before in
+    let at-loop = at-if1 .before .before in
+    let start = at-loop .before .before in
+    let l = at-loop .loop in
+    entry-fails _ _ (start .pre) (l .i) (l .k) _ _ (c .before .before .word .ensures .0) (at-entry-at .entry-at .ensures)
+    (l .inv .2) _ (c .before .is-entry-good .ensures) (c .if2 .taken) (at-if1 .if1 .taken)
 
 add-k : tie.Need-add-k Inv-loop μ-loop
-add-k c = let h = sectioned (c .before .before .before .before .before .before .before .before .before .before .args .p) (c .before .before .before .before .before .before .before .before .before .before .args .image .now) (c .before .before .before .before .before .before .before .before .before .before .pre) in omega arith
+add-k c =
+    let start = c .before .before .before .before .before .before .before .before .before .before in
+    let h = sectioned (start .args .p) (start .args .image .now) (start .pre) in
+    omega arith
 
 loop-again : tie.Need-loop-again Inv-loop μ-loop
 loop-again c =
-    let l = c .before .before .before .before .before .before .before .before .loop in
-    let x = c .before .before .before .before .word .ensures .0 in
-    let a = c .before .before .before .before .before .entry-at .ensures in (
+    let at-is-entry-good = c .before .before .before in
+    let at-word = at-is-entry-good .before in
+    let at-entry-at = at-word .before in
+    let at-loop = at-entry-at .before .before .before in
+    let start = at-loop .before .before in
+    let l = at-loop .loop in
+    let x = at-word .word .ensures .0 in
+    let a = at-entry-at .entry-at .ensures in (
       omega arith,
       omega arith,
-      count-next _ _ (c .before .before .before .before .before .before .before .before .before .before .pre) (l .i) (l .k) _ _ x a (l .inv .2) _ _ (c .before .is-full .ensures) (c .if-set .ensures .0),
-      entries-next _ _ (c .before .before .before .before .before .before .before .before .before .before .pre) (l .i) (l .k) _ _ x a (l .inv .2) _ (c .before .before .before .is-entry-good .ensures) (c .before .before .if2 .left) (l .inv .3),
+      count-next _ _ (start .pre) (l .i) (l .k) _ _ x a (l .inv .2) _ _ (c .before .is-full .ensures)
+          (c .if-set .ensures .0),
+      entries-next _ _ (start .pre) (l .i) (l .k) _ _ x a (l .inv .2) _
+          (at-is-entry-good .is-entry-good .ensures) (c .before .before .if2 .left) (l .inv .3),
     )
 
 returns-2 : tie.Need-returns-2 Inv-loop μ-loop
-returns-2 c = let l = c .before .before .before .loop in entries-end _ _ (c .before .before .before .before .before .pre) (l .i) (l .k) (omega arith) (l .inv .2) (l .inv .3)
+returns-2 c =
+    let at-loop = c .before .before .before in
+    let start = at-loop .before .before in
+    let l = at-loop .loop in
+    entries-end _ _ (start .pre) (l .i) (l .k) (omega arith) (l .inv .2) (l .inv .3)
 
 pub are-strings-good-spec : {M : Type 1} → statement M
 are-strings-good-spec =
     tie.close
-    (tie.spec Inv-loop μ-loop loop-holds entry-at-requires word-requires is-entry-good-requires returns (λ c κs. search needs) (λ c κs. search needs) add-k (λ c. search needs) (λ c. search needs) loop-again returns-2)
+    (tie.spec Inv-loop μ-loop loop-holds entry-at-requires word-requires is-entry-good-requires returns (λ c κs. search needs)
+    (λ c κs. search needs) add-k (λ c. search needs) (λ c. search needs) loop-again returns-2)

@@ -6,15 +6,22 @@ use Rattle.string_tables.proofs.is_entry_good.Statement.{statement}
 use Rattle.string_tables.proofs.is_entry_good.Tie as tie
 
 returns : tie.Need-returns
-returns c = entry-misnumbered _ _ (c .before .before .before .pre .0) _ _ _ (c .before .is-numbered .ensures) (c .if1 .taken)
+returns c =
+    let start = c .before .before .before in
+    entry-misnumbered _ _ (start .pre .0) _ _ _ (c .before .is-numbered .ensures) (c .if1 .taken)
 
 place-of-entry-requires : tie.Need-place-of-entry-requires
 place-of-entry-requires c κs =
-    let h = sectioned (c .before .before .before .args .p) (c .before .before .before .args .image .now) (c .before .before .before .pre .0) in
-    ((omega arith, omega arith), has-pair _ _ (c .before .before .before .pre .0) _ _ _ (c .before .is-numbered .ensures) (c .if1 .left))
+    let start = c .before .before .before in
+    let h = sectioned (start .args .p) (start .args .image .now) (start .pre .0) in
+    ((omega arith, omega arith), has-pair _ _ (start .pre .0) _ _ _ (c .before .is-numbered .ensures) (c .if1 .left))
 
 returns-2 : tie.Need-returns-2
-returns-2 c = entry-numbered _ _ (c .before .before .before .before .before .pre .0) _ _ _ (c .before .before .before .is-numbered .ensures) (c .before .before .if1 .left) _ _ (c .before .place-of-entry .ensures .0) (c .is-stored .ensures)
+returns-2 c =
+    let at-is-numbered = c .before .before .before in
+    let start = at-is-numbered .before .before in
+    entry-numbered _ _ (start .pre .0) _ _ _ (at-is-numbered .is-numbered .ensures) (c .before .before .if1 .left) _ _
+    (c .before .place-of-entry .ensures .0) (c .is-stored .ensures)
 
 pub is-entry-good-spec : {M : Type 1} → statement M
 is-entry-good-spec =

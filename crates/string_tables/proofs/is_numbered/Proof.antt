@@ -10,7 +10,9 @@ returns-2 : tie.Need-returns-2
 returns-2 c = past-pairs _ _ _ _ (c .before .before .is-full .ensures) (c .before .if1 .left) (c .if2 .taken)
 
 returns-3 : tie.Need-returns-3
-returns-3 c = own-number _ _ _ _ (c .before .before .before .is-full .ensures) (c .before .before .if1 .left) (c .before .if2 .left) _ (c .value .ensures .0)
+returns-3 c =
+    let at-is-full = c .before .before .before in
+    own-number _ _ _ _ (at-is-full .is-full .ensures) (c .before .before .if1 .left) (c .before .if2 .left) _ (c .value .ensures .0)
 
 pub is-numbered-spec : {M : Type 1} → statement M
 is-numbered-spec = tie.close (tie.spec (λ c κs. search needs) returns returns-2 (λ c κs. search needs) returns-3)

@@ -7,19 +7,38 @@ use Rattle.string_tables.proofs.is_stored.Statement.{statement}
 use Rattle.string_tables.proofs.is_stored.Tie as tie
 
 returns : tie.Need-returns
-returns c = leaves-storage _ _ (c .before .before .before .before .before .pre .0) (asPlace (c .before .before .before .before .before .args .place)) _ (c .before .before .before .size-of .ensures .0) (c .if1 .taken)
+returns c =
+    let at-size-of = c .before .before .before in
+    let start = at-size-of .before .before in
+    leaves-storage _ _ (start .pre .0) (asPlace (start .args .place)) _ (at-size-of .size-of .ensures .0) (c .if1 .taken)
 
 returns-2 : tie.Need-returns-2
-returns-2 c = wide-stored _ _ (c .before .before .before .before .before .before .pre .0) (asPlace (c .before .before .before .before .before .before .args .place)) _ (c .before .before .before .before .size-of .ensures .0) (c .before .if1 .left) (c .if2 .taken)
+returns-2 c =
+    let at-size-of = c .before .before .before .before in
+    let start = at-size-of .before .before in
+    wide-stored _ _ (start .pre .0) (asPlace (start .args .place)) _ (at-size-of .size-of .ensures .0) (c .before .if1 .left)
+    (c .if2 .taken)
 
 add-are-narrow : tie.Need-add-are-narrow
-add-are-narrow c = let h = sectioned (c .before .before .before .before .before .before .before .before .args .p) (c .before .before .before .before .before .before .before .before .args .image .now) (c .before .before .before .before .before .before .before .before .pre .0) in omega arith
+add-are-narrow c =
+    let start = c .before .before .before .before .before .before .before .before in
+    let h = sectioned (start .args .p) (start .args .image .now) (start .pre .0) in
+    omega arith
 
 are-narrow-requires : tie.Need-are-narrow-requires
-are-narrow-requires c κs = let h = sectioned (c .before .before .before .before .before .before .before .before .args .p) (c .before .before .before .before .before .before .before .before .args .image .now) (c .before .before .before .before .before .before .before .before .pre .0) in omega arith
+are-narrow-requires c κs =
+    let start = c .before .before .before .before .before .before .before .before in
+    let h = sectioned (start .args .p) (start .args .image .now) (start .pre .0) in
+    omega arith
 
 returns-3 : tie.Need-returns-3
-returns-3 c = narrow-stored _ _ (c .before .before .before .before .before .before .before .before .before .pre .0) (asPlace (c .before .before .before .before .before .before .before .before .before .args .place)) _ (c .before .before .before .before .before .before .before .size-of .ensures .0) (c .before .before .before .before .if1 .left) (c .before .before .before .if2 .left) _ (c .are-narrow .ensures)
+returns-3 c =
+    let at-if2 = c .before .before .before in
+    let at-if1 = at-if2 .before in
+    let at-size-of = at-if1 .before .before .before in
+    let start = at-size-of .before .before in
+    narrow-stored _ _ (start .pre .0) (asPlace (start .args .place)) _ (at-size-of .size-of .ensures .0) (at-if1 .if1 .left)
+    (at-if2 .if2 .left) _ (c .are-narrow .ensures)
 
 pub is-stored-spec : {M : Type 1} → statement M
 is-stored-spec =

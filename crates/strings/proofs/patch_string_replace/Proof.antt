@@ -1,42 +1,88 @@
+-- Refusals in 01's order, each by its law; the string that was found is patched.
 use borrow.Author.Needs.{needs}
 use Rattle.strings.proofs.patch_string_replace.Statement.{statement}
 use Rattle.strings.proofs.patch_string_replace.Tie as tie
 use Prim.Native.Nat.{ℕ, _<_}
-use native.Mathlib.Omega.{arith}
 use lib.ListN.{getD}
-use Rattle.admission.proofs.AnswerLaws.{laid-placed, laid-admitted}
+use Rattle.admission.proofs.AnswerLaws.{is-laid}
+use Rattle.string_walk.proofs.WalkLaws.{located-self}
 use Rattle.strings.proofs.PatchLaws.{value-refused, old-value, new-value, value-absent, value-known}
 
 returns : tie.Need-returns
-returns c = let a = c .before .before .before .before .before .before .before .before .args in value-refused _ _ _ (c .before .before .before .admit .ensures) (a .old .now) (a .new .now) (a .out .now) _ _ (c .before .enum-told .given .1) (c .number-of .ensures)
+returns c =
+    let at-admit = c .before .before .before in
+    let a = at-admit .before .before .before .before .before .args in
+    value-refused _ _ _ (at-admit .admit .ensures) (a .old .now) (a .new .now) (a .out .now) _ _ (c .before .enum-told .given .1)
+    (c .number-of .ensures)
 
 returns-2 : tie.Need-returns-2
-returns-2 c = let a = c .before .before .before .before .before .before .before .before .before .before .args in old-value _ _ _ (c .before .before .before .before .before .admit .ensures) _ (c .before .before .before .admitted .given .1) (a .old .now) (a .new .now) (a .out .now) _ (c .before .is-utf8 .ensures) (c .if1 .taken)
+returns-2 c =
+    let at-admitted = c .before .before .before in
+    let at-admit = at-admitted .before .before in
+    let a = at-admit .before .before .before .before .before .args in
+    old-value _ _ _ (at-admit .admit .ensures) _ (at-admitted .admitted .given .1) (a .old .now) (a .new .now) (a .out .now) _
+    (c .before .is-utf8 .ensures) (c .if1 .taken)
 
 returns-3 : tie.Need-returns-3
-returns-3 c = let a = c .before .before .before .before .before .before .before .before .before .before .before .before .args in new-value _ _ _ (c .before .before .before .before .before .before .before .admit .ensures) _ (c .before .before .before .before .before .admitted .given .1) (a .old .now) (a .new .now) (a .out .now) _ (c .before .before .before .is-utf8 .ensures) (c .before .before .if1 .left) _ (c .before .is-utf82 .ensures) (c .if2 .taken)
+returns-3 c =
+    let at-old = c .before .before .before in
+    let at-admitted = at-old .before .before in
+    let at-admit = at-admitted .before .before in
+    let a = at-admit .before .before .before .before .before .args in
+    new-value _ _ _ (at-admit .admit .ensures) _ (at-admitted .admitted .given .1) (a .old .now) (a .new .now) (a .out .now) _
+    (at-old .is-utf8 .ensures) (c .before .before .if1 .left) _ (c .before .is-utf82 .ensures) (c .if2 .taken)
 
 find-requires : tie.Need-find-requires
 find-requires c κs =
-    let e = c .before .before .before .before .before .before .before .admit .ensures in
-    let f = c .before .before .before .before .before .admitted .given .1 in
-    let b : (i : ℕ) → getD (c .before .before .before .before .before .before .before .before .before .before .before .before .args .image .now) i 0 < 256 = λ i. c .before .before .before .before .before .before .before .before .before .before .before .shared-slice-known .given i .fits in
-    (laid-placed _ _ _ e _ f b, laid-admitted _ _ _ e _ f b)
+    let at-admitted = c .before .before .before .before .before in
+    let at-admit = at-admitted .before .before in
+    let at-bytes = at-admit .before .before .before .before in
+    let b : (i : ℕ) → getD (at-bytes .before .args .image .now) i 0 < 256 = λ i. at-bytes .shared-slice-known .given i .fits in
+    is-laid _ _ _ (at-admit .admit .ensures) _ (at-admitted .admitted .given .1) b
 
 returns-4 : tie.Need-returns-4
-returns-4 c = let a = c .before .before .before .before .before .before .before .before .before .before .before .before .before .before .before .args in value-absent _ _ _ (c .before .before .before .before .before .before .before .before .before .before .admit .ensures) _ (c .before .before .before .before .before .before .before .before .admitted .given .1) (a .old .now) (a .new .now) (a .out .now) _ (c .before .before .before .before .before .before .is-utf8 .ensures) (c .before .before .before .before .before .if1 .left) _ (c .before .before .before .before .is-utf82 .ensures) (c .before .before .before .if2 .left) _ (c .before .before .find .ensures .0) (c .if3 .taken)
+returns-4 c =
+    let at-find = c .before .before .before in
+    let at-new = at-find .before .before in
+    let at-old = at-new .before .before in
+    let at-admitted = at-old .before .before in
+    let at-admit = at-admitted .before .before in
+    let a = at-admit .before .before .before .before .before .args in
+    value-absent _ _ _ (at-admit .admit .ensures) _ (at-admitted .admitted .given .1) (a .old .now) (a .new .now) (a .out .now) _
+    (at-old .is-utf8 .ensures) (at-new .before .if1 .left) _ (at-new .is-utf82 .ensures) (at-find .before .if2 .left) _
+    (at-find .find .ensures) _
+    (c .before .enum-told2 .given .1) _ (c .number-of2 .ensures)
 
 patch-known-requires : tie.Need-patch-known-requires
 patch-known-requires c κs =
-    let e = c .before .before .before .before .before .before .before .before .before .before .before .admit .ensures in
-    let f = c .before .before .before .before .before .before .before .before .before .admitted .given .1 in
-    let b : (i : ℕ) → getD (c .before .before .before .before .before .before .before .before .before .before .before .before .before .before .before .before .args .image .now) i 0 < 256 = λ i. c .before .before .before .before .before .before .before .before .before .before .before .before .before .before .before .shared-slice-known .given i .fits in
-    (laid-placed _ _ _ e _ f b, laid-admitted _ _ _ e _ f b, omega (arith, c .before .if3 .left))
+    let at-location = c .before .before in
+    let at-find = at-location .before .before in
+    let at-admitted = at-find .before .before .before .before .before .before in
+    let at-admit = at-admitted .before .before in
+    let at-bytes = at-admit .before .before .before .before in
+    let b : (i : ℕ) → getD (at-bytes .before .args .image .now) i 0 < 256 = λ i. at-bytes .shared-slice-known .given i .fits in
+    let found = located-self _ _ _ _ _ (at-find .find .ensures) _ _ (at-location .location .given .1) in
+    ((is-laid _ _ _ (at-admit .admit .ensures) _ (at-admitted .admitted .given .1) b, found .0), found .1)
 
 returns-5 : tie.Need-returns-5
-returns-5 c = let a = c .before .before .before .before .before .before .before .before .before .before .before .before .before .before .before .before .before .before .before .args in value-known _ _ _ (c .before .before .before .before .before .before .before .before .before .before .before .before .before .before .admit .ensures) _ (c .before .before .before .before .before .before .before .before .before .before .before .before .admitted .given .1) (a .old .now) (a .new .now) (a .out .now) _ (c .before .before .before .before .before .before .before .before .before .before .is-utf8 .ensures) (c .before .before .before .before .before .before .before .before .before .if1 .left) _ (c .before .before .before .before .before .before .before .before .is-utf82 .ensures) (c .before .before .before .before .before .before .before .if2 .left) _ (c .before .before .before .before .before .before .find .ensures .0) (omega (arith, c .before .before .before .before .if3 .left)) _ _ (c .before .before .patch-known .ensures)
+returns-5 c =
+    let at-location = c .before .before .before .before .before in
+    let at-find = at-location .before .before in
+    let at-new = at-find .before .before in
+    let at-old = at-new .before .before in
+    let at-admitted = at-old .before .before in
+    let at-admit = at-admitted .before .before in
+    let a = at-admit .before .before .before .before .before .args in
+    value-known _ _ _ (at-admit .admit .ensures) _ (at-admitted .admitted .given .1) (a .old .now) (a .new .now) (a .out .now) _
+    (at-old .is-utf8 .ensures) (at-new .before .if1 .left) _ (at-new .is-utf82 .ensures) (at-find .before .if2 .left) _
+    (at-find .find .ensures) _ _
+    (at-location .location .given .1) _ _ (c .before .before .patch-known .ensures)
 
 pub patch-string-replace-spec : {M : Type 1} → statement M
 patch-string-replace-spec =
     tie.close
-    (tie.spec (λ c κs. search needs) (λ c. search needs) (λ c. search needs) (λ c κs. search needs) returns (λ c κs. search needs) returns-2 (λ c κs. search needs) returns-3 find-requires returns-4 patch-known-requires (λ c. search needs) returns-5)
+    (tie.spec (λ c κs. search needs) (λ c. search needs) (λ c. search needs) (λ c κs. search needs) returns (λ c κs. search needs)
+    returns-2
+    (λ c κs. search needs) returns-3 find-requires (λ c. search needs) (λ c. search needs) (λ c κs. search needs) returns-4
+    patch-known-requires
+    (λ c. search needs) returns-5)

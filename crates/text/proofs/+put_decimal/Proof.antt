@@ -1,3 +1,4 @@
+-- The digits are written from the last to the first; what is left of the number has as many digits as there is room before them.
 use Prim.Native.Nat.{ℕ, _<_}
 use mathlib.Core.Path.{_∙_}
 use native.Mathlib.Omega.{arith}
@@ -37,7 +38,8 @@ put-decimal-slice-write-out : (t : ℕ) → put-decimal-lts.Need-slice-write-out
   put-decimal-below t,
   put-decimal.Post,
 ) (put-decimal-at t) put-decimal.Post
-put-decimal-slice-write-out t c = omega (arith, c .before .before .before .pre .1, one-length (c .before .before .before .args .x) (c .before .if1 .taken))
+put-decimal-slice-write-out t c =
+    omega (arith, c .before .before .before .pre .1, one-length (c .before .before .before .args .x) (c .before .if1 .taken))
 
 put-decimal-add-result : (t : ℕ) → put-decimal-lts.Need-add-result (
   digit-reads.Asked,
@@ -45,7 +47,8 @@ put-decimal-add-result : (t : ℕ) → put-decimal-lts.Need-add-result (
   put-decimal-below t,
   put-decimal.Post,
 ) (put-decimal-at t) put-decimal.Post
-put-decimal-add-result t c = omega (arith, c .before .before .before .pre .1, one-length (c .before .before .before .args .x) (c .before .if1 .taken))
+put-decimal-add-result t c =
+    omega (arith, c .before .before .before .pre .1, one-length (c .before .before .before .args .x) (c .before .if1 .taken))
 
 put-decimal-same-length : (t : ℕ) → put-decimal-lts.Need-same-length (
   digit-reads.Asked,
@@ -53,7 +56,8 @@ put-decimal-same-length : (t : ℕ) → put-decimal-lts.Need-same-length (
   put-decimal-below t,
   put-decimal.Post,
 ) (put-decimal-at t) put-decimal.Post
-put-decimal-same-length t c = length-set (c .before .before .before .args .out .now) (c .before .before .before .args .at) (c .digit .result)
+put-decimal-same-length t c =
+    length-set (c .before .before .before .args .out .now) (c .before .before .before .args .at) (c .digit .result)
 
 put-decimal-returns : (t : ℕ) → put-decimal-lts.Need-returns (
   digit-reads.Asked,
@@ -61,7 +65,9 @@ put-decimal-returns : (t : ℕ) → put-decimal-lts.Need-returns (
   put-decimal-below t,
   put-decimal.Post,
 ) (put-decimal-at t) put-decimal.Post
-put-decimal-returns t c = put-one (c .before .before .before .args .x) (c .before .before .before .args .at) _ (c .before .before .before .args .out .now) (c .before .if1 .taken) (c .digit .ensures)
+put-decimal-returns t c =
+    put-one (c .before .before .before .args .x) (c .before .before .before .args .at) _ (c .before .before .before .args .out .now)
+    (c .before .if1 .taken) (c .digit .ensures)
 
 put-decimal-put-decimal-requires : (t : ℕ) → put-decimal-lts.Need-put-decimal-requires (
   digit-reads.Asked,
@@ -70,8 +76,11 @@ put-decimal-put-decimal-requires : (t : ℕ) → put-decimal-lts.Need-put-decima
   put-decimal.Post,
 ) (put-decimal-at t) put-decimal.Post
 put-decimal-put-decimal-requires t c κs =
-    let x = c .before .before .before .args .x in
-    (omega (arith, c .before .before .before .pre .0, c .before .if1 .left), omega (arith, c .before .before .before .pre .1, more-length x (c .before .if1 .left)))
+    let x = c .before .before .before .args .x in (
+      omega (arith, c .before .before .before .pre .0, c .before .if1 .left),
+      omega
+          (arith, c .before .before .before .pre .1, more-length x (c .before .if1 .left)),
+    )
 
 put-decimal-digit-requires-2 : (t : ℕ) → put-decimal-lts.Need-digit-requires-2 (
   digit-reads.Asked,
@@ -89,7 +98,14 @@ put-decimal-slice-write-out-2 : (t : ℕ) → put-decimal-lts.Need-slice-write-o
 ) (put-decimal-at t) put-decimal.Post
 put-decimal-slice-write-out-2 t c =
     let p = c .before .before .before .put-decimal in
-    omega (arith, p .kept .0, p .ensures .0, c .before .before .before .before .before .before .before .pre .1, more-length (c .before .before .before .before .before .before .before .args .x) (c .before .before .before .before .before .if1 .left))
+    omega (
+      arith,
+      p .kept .0,
+      p .ensures .0,
+      c .before .before .before .before .before .before .before .pre .1,
+      more-length
+          (c .before .before .before .before .before .before .before .args .x) (c .before .before .before .before .before .if1 .left),
+    )
 
 put-decimal-add-result-2 : (t : ℕ) → put-decimal-lts.Need-add-result-2 (
   digit-reads.Asked,
@@ -99,7 +115,13 @@ put-decimal-add-result-2 : (t : ℕ) → put-decimal-lts.Need-add-result-2 (
 ) (put-decimal-at t) put-decimal.Post
 put-decimal-add-result-2 t c =
     let p = c .before .before .before .put-decimal in
-    omega (arith, p .ensures .0, c .before .before .before .before .before .before .before .pre .1, more-length (c .before .before .before .before .before .before .before .args .x) (c .before .before .before .before .before .if1 .left))
+    omega (
+      arith,
+      p .ensures .0,
+      c .before .before .before .before .before .before .before .pre .1,
+      more-length
+          (c .before .before .before .before .before .before .before .args .x) (c .before .before .before .before .before .if1 .left),
+    )
 
 put-decimal-same-length-2 : (t : ℕ) → put-decimal-lts.Need-same-length-2 (
   digit-reads.Asked,
@@ -119,7 +141,10 @@ put-decimal-returns-2 : (t : ℕ) → put-decimal-lts.Need-returns-2 (
 ) (put-decimal-at t) put-decimal.Post
 put-decimal-returns-2 t c =
     let p = c .before .before .before .put-decimal in
-    put-more (c .before .before .before .before .before .before .before .args .x) (c .before .before .before .before .before .before .before .args .at) (p .result) _ (c .before .before .before .before .before .before .before .args .out .now) (p .last .0) (c .before .before .before .before .before .if1 .left) (p .ensures .0) (p .ensures .1) (c .digit2 .ensures)
+    put-more (c .before .before .before .before .before .before .before .args .x)
+    (c .before .before .before .before .before .before .before .args .at) (p .result) _
+    (c .before .before .before .before .before .before .before .args .out .now) (p .last .0)
+    (c .before .before .before .before .before .if1 .left) (p .ensures .0) (p .ensures .1) (c .digit2 .ensures)
 
 pub +put-decimal-spec : {M : Type 1} → statement M
 +put-decimal-spec = close μ-put-decimal λ t. put-decimal-lts.spec (

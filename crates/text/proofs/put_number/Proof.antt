@@ -6,18 +6,29 @@ use Rattle.text.specs.Text.{decimal}
 use Rattle.text.proofs.TextLaws.{decimal-20, wrote-byte}
 
 put-decimal-requires : tie.Need-put-decimal-requires
-put-decimal-requires c κs = omega (arith, c .before .before .pre, decimal-20 (c .before .before .args .x) (c .before .before .fits .x .fits))
+put-decimal-requires c κs =
+    omega (arith, c .before .before .pre, decimal-20 (c .before .before .args .x) (c .before .before .fits .x .fits))
 
 slice-write-out : tie.Need-slice-write-out
-slice-write-out c = let p = c .before .before .put-decimal in omega (arith, c .before .before .before .before .before .pre, decimal-20 (c .before .before .before .before .before .args .x) (c .before .before .before .before .before .fits .x .fits), p .ensures .0, p .kept .0)
+slice-write-out c =
+    let start = c .before .before .before .before .before in
+    let p = c .before .before .put-decimal in
+    omega (arith, start .pre, decimal-20 (start .args .x) (start .fits .x .fits), p .ensures .0, p .kept .0)
 
 add-result : tie.Need-add-result
-add-result c = let p = c .before .before .put-decimal in omega (arith, c .before .before .before .before .before .pre, decimal-20 (c .before .before .before .before .before .args .x) (c .before .before .before .before .before .fits .x .fits), p .ensures .0)
+add-result c =
+    let start = c .before .before .before .before .before in
+    let p = c .before .before .put-decimal in
+    omega (arith, start .pre, decimal-20 (start .args .x) (start .fits .x .fits), p .ensures .0)
 
 returns : tie.Need-returns
 returns c =
-    let p = c .before .before .put-decimal in
-    (wrote-byte (c .before .before .before .before .before .args .out .now) (p .last .0) (decimal (c .before .before .before .before .before .args .x)) (c .before .before .before .before .before .args .at) (p .result) (c .before .before .before .before .before .args .behind) (p .ensures), omega (arith, decimal-20 (c .before .before .before .before .before .args .x) (c .before .before .before .before .before .fits .x .fits), p .ensures .0))
+    let start = c .before .before .before .before .before in
+    let p = c .before .before .put-decimal in (
+      wrote-byte (start .args .out .now) (p .last .0) (decimal (start .args .x)) (start .args .at) (p .result) (start .args .behind)
+          (p .ensures),
+      omega (arith, decimal-20 (start .args .x) (start .fits .x .fits), p .ensures .0),
+    )
 
 pub put-number-spec : {M : Type 1} → statement M
 put-number-spec =

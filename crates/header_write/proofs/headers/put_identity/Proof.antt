@@ -5,9 +5,21 @@ use Rattle.header_write.proofs.headers.put_identity.Tie as tie
 
 returns : tie.Need-returns
 unfolding identity putAll
-returns c = rw (c .before .before .put-bytes .ensures, c .before .before .before .before .at3 .ensures, c .before .before .before .before .before .before .before .before .put-word .ensures, c .before .before .before .before .before .before .before .before .before .at2 .ensures, c .before .before .before .before .before .before .before .before .before .before .before .before .before .put-word64 .ensures, c .before .before .before .before .before .before .before .before .before .before .before .before .before .before .at .ensures)
+returns c =
+    let at-at2 = c .before .before .before .before in
+    let at-put-word = at-at2 .before .before .before .before in
+    let at-put-word64 = at-put-word .before .before .before .before in
+    let at-at = at-put-word64 .before in
+    rw (
+      c .before .before .put-bytes .ensures,
+      at-at2 .at2 .ensures,
+      at-put-word .put-word .ensures,
+      at-put-word64 .put-word64 .ensures,
+      at-at .at .ensures,
+    )
 
 pub put-identity-spec : {M : Type 1} → statement M
 put-identity-spec =
     tie.close
-    (tie.spec (λ c κs. search needs) (λ c κs. search needs) (λ c κs. search needs) (λ c κs. search needs) (λ c κs. search needs) (λ c. search needs) (λ c κs. search needs) (λ c. search needs) returns)
+    (tie.spec (λ c κs. search needs) (λ c κs. search needs) (λ c κs. search needs) (λ c κs. search needs) (λ c. search needs)
+    (λ c κs. search needs) (λ c. search needs) returns)

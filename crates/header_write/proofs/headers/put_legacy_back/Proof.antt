@@ -7,9 +7,16 @@ use Rattle.header_write.proofs.HeaderLaws.{four-parts}
 returns : tie.Need-returns
 unfolding legacyBack run
 returns c =
-    four-parts (c .before .before .before .before .before .before .before .before .before .before .before .before .before .before .before .before .before .before .before .before .before .args .layout) _ _ _ _ _ _ _ _ _ (rw (c .before .before .before .before .before .before .before .before .before .before .before .before .before .before .before .before .before .before .before .segment .ensures) at (c .before .before .before .before .before .before .before .before .before .before .before .before .before .before .before .before .put-rows .ensures)) (c .before .before .before .before .before .before .before .before .before .before .before .put-rows-if .ensures) (c .before .before .before .before .before .before .put-rows2 .ensures) (c .before .before .put-options .ensures)
+    let at-put-rows2 = c .before .before .before .before .before .before in
+    let at-put-rows-if = at-put-rows2 .before .before .before .before .before in
+    let at-put-rows = at-put-rows-if .before .before .before .before .before in
+    let at-segment = at-put-rows .before .before .before in
+    let start = at-segment .before .before in
+    four-parts (start .args .layout) _ _ _ _ _ _ _ _ _ (rw (at-segment .segment .ensures) at (at-put-rows .put-rows .ensures))
+    (at-put-rows-if .put-rows-if .ensures) (at-put-rows2 .put-rows2 .ensures) (c .before .before .put-options .ensures)
 
 pub put-legacy-back-spec : {M : Type 1} → statement M
 put-legacy-back-spec =
     tie.close
-    (tie.spec (λ c κs. search needs) (λ c. search needs) (λ c κs. search needs) (λ c. search needs) (λ c κs. search needs) (λ c. search needs) (λ c κs. search needs) (λ c κs. search needs) (λ c. search needs) returns)
+    (tie.spec (λ c κs. search needs) (λ c. search needs) (λ c κs. search needs) (λ c. search needs) (λ c κs. search needs)
+    (λ c. search needs) (λ c κs. search needs) (λ c κs. search needs) (λ c. search needs) returns)

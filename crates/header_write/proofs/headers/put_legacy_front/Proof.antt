@@ -7,7 +7,9 @@ use Rattle.header_write.proofs.HeaderLaws.{parts}
 returns : tie.Need-returns
 unfolding legacyFront run
 returns c =
-    parts (c .before .before .before .before .before .before .before .before .before .before .before .args .layout) _ _ _ _ _ (c .before .before .before .before .before .before .before .put-rows .ensures) (c .before .before .put-rows-if .ensures)
+    let at-put-rows = c .before .before .before .before .before .before .before in
+    let start = at-put-rows .before .before .before .before in
+    parts (start .args .layout) _ _ _ _ _ (at-put-rows .put-rows .ensures) (c .before .before .put-rows-if .ensures)
 
 pub put-legacy-front-spec : {M : Type 1} → statement M
 put-legacy-front-spec =

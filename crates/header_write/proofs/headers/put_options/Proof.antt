@@ -8,10 +8,14 @@ place-requires : tie.Need-place-requires
 place-requires c κs = options-fit (c .before .before .args .layout) (c .get .result) (c .get .ensures) .0
 
 slice-write-buf : tie.Need-slice-write-buf
-slice-write-buf c = omega (arith, c .place .ensures, options-fit (c .before .before .before .args .layout) (c .before .get .result) (c .before .get .ensures) .1)
+slice-write-buf c =
+    let start = c .before .before .before in
+    omega (arith, c .place .ensures, options-fit (start .args .layout) (c .before .get .result) (c .before .get .ensures) .1)
 
 returns : tie.Need-returns
-returns c = options-put (c .before .before .before .args .layout) (c .before .get .result) _ _ _ (c .place .ensures) (c .before .get .ensures) (omega arith)
+returns c =
+    let start = c .before .before .before in
+    options-put (start .args .layout) (c .before .get .result) _ _ _ (c .place .ensures) (c .before .get .ensures) (omega arith)
 
 pub put-options-spec : {M : Type 1} → statement M
 put-options-spec =

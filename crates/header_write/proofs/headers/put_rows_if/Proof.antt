@@ -4,7 +4,9 @@ use Rattle.header_write.proofs.headers.put_rows_if.Statement.{statement
 use Rattle.header_write.proofs.headers.put_rows_if.Tie as tie
 
 returns : tie.Need-returns
-returns c = rw (c .before .before .before .before .if1 .taken) (c .before .before .put-rows .ensures)
+returns c =
+    let at-if1 = c .before .before .before .before in
+    rw (at-if1 .if1 .taken) (c .before .before .put-rows .ensures)
 
 returns-2 : tie.Need-returns-2
 unfolding putAll

@@ -12,10 +12,15 @@ returns c = header-short _ _ (omega arith)
 returns-2 : tie.Need-returns-2
 unfolding modernHeader run
 returns-2 c =
-    header-done _ _ _ (omega arith) (c .before .before .put-rows2 .kept .0 ∙ c .before .before .before .before .before .before .before .put-rows .kept .0 ∙ c .before .before .before .before .before .before .before .before .before .before .before .before .put-identity .kept .0)
-    (parts _ _ _ _ _ _ (rw (c .before .before .before .before .before .before .before .before .before .before .before .before .put-identity .ensures) at (c .before .before .before .before .before .before .before .put-rows .ensures)) (c .before .before .put-rows2 .ensures))
+    let at-put-rows = c .before .before .before .before .before .before .before in
+    let at-put-identity = at-put-rows .before .before .before .before .before in
+    header-done _ _ _ (omega arith)
+    (c .before .before .put-rows2 .kept .0 ∙ at-put-rows .put-rows .kept .0 ∙ at-put-identity .put-identity .kept .0)
+    (parts _ _ _ _ _ _ (rw (at-put-identity .put-identity .ensures) at (at-put-rows .put-rows .ensures))
+    (c .before .before .put-rows2 .ensures))
 
 pub write-modern-header-spec : {M : Type 1} → statement M
 write-modern-header-spec =
     tie.close
-    (tie.spec (λ c κs. search needs) returns (λ c κs. search needs) (λ c. search needs) (λ c κs. search needs) (λ c. search needs) (λ c κs. search needs) (λ c. search needs) returns-2)
+    (tie.spec (λ c κs. search needs) returns (λ c κs. search needs) (λ c. search needs) (λ c κs. search needs) (λ c. search needs)
+    (λ c κs. search needs) (λ c. search needs) returns-2)

@@ -1,0 +1,14 @@
+pub mod WriteLaws
+pub mod TableLaws
+pub mod PackLaws
+pub mod SlotLaws
+pub mod EditLaws
+pub mod ReadLaws
+pub mod BodyLaws
+pub mod RebuildLaws
+pub mod RegionLaws
+pub mod StringLaws
+pub mod KeepLaws
+pub mod ResizeLaws
+pub mod FitLaws
+pub mod InPlaceLaws

@@ -1,0 +1,4 @@
+pub mod Edit
+pub mod Packing
+pub mod Rebuild
+pub mod Fit

@@ -1,0 +1,56 @@
+-- What is known of an image, and of a string of it, as numbers: for callers that tell people about them.
+-- docs/FORMAT.md: Exports.
+use mathlib.Core.Bool.{Bool}
+use mathlib.Core.List.{List, [], _∷_}
+use Prim.Native.Nat.{ℕ, _-_}
+use lib.Dec.{eqb}
+use lib.ListN.{length}
+use Rattle.bits.specs.Bytes.{wordAt}
+use Rattle.bits.specs.Choice.{pick}
+use Rattle.bits.specs.Outcome.{Outcome, outcomeFor}
+use Rattle.format.specs.declared.Layout.{Layout}
+use Rattle.format.specs.Table as table
+use Rattle.footer.specs.Footer.{footerLength, verified}
+use Rattle.image.specs.Sections.{functionsIn, kindsIn, identifiersIn, stringsIn, overflowsIn, storageIn, recordAt, kindsAt}
+use Rattle.image.specs.Sections.{hashesAt, smallAt, overAt, storageAt, tailAt}
+use Rattle.image.specs.Admission.{refusal}
+use Rattle.reader.specs.declared.StringPlace.{StringPlace}
+use Rattle.reader.specs.Reading.{idRefusal, stringPlace}
+
+-- a fact that holds or not
+abbrev pub flag : Bool → ℕ
+flag b = pick b 1 0
+
+-- its length, the file length that it states, whether that is right and whether the footer is; its counts; where each section
+-- starts, the tail and the footer too
+unfoldable pub factsOf : Layout → List ℕ → List ℕ
+factsOf l s =
+    length s
+    ∷ wordAt s (table.fileLength .at)
+    ∷ flag (eqb (wordAt s (table.fileLength .at)) (length s))
+    ∷ flag (verified s)
+    ∷ functionsIn s
+    ∷ kindsIn s
+    ∷ identifiersIn s
+    ∷ stringsIn s
+    ∷ overflowsIn s
+    ∷ storageIn s
+    ∷ recordAt l 0
+    ∷ kindsAt l s
+    ∷ hashesAt l s
+    ∷ smallAt l s
+    ∷ overAt l s
+    ∷ storageAt l s
+    ∷ tailAt l s
+    ∷ (length s - footerLength)
+    ∷ []
+
+unfoldable pub imageFacts : Layout → List ℕ → Outcome
+imageFacts l s = outcomeFor (refusal l s) (factsOf l s)
+
+-- of a string: where its bytes start, how many there are, how many units, whether it is wide, whether it is an identifier
+abbrev pub factsOfPlace : StringPlace → List ℕ
+factsOfPlace p = p .start ∷ p .size ∷ p .count ∷ flag (p .wide) ∷ flag (p .identifier) ∷ []
+
+unfoldable pub stringFacts : Layout → List ℕ → ℕ → Outcome
+stringFacts l s id = outcomeFor (idRefusal l s (stringsIn s) id) (factsOfPlace (stringPlace l s id))

@@ -1,0 +1,23 @@
+use borrow.Author.Needs.{needs}
+use Rattle.listing_lines.proofs.put_closing.Statement.{statement}
+use Rattle.listing_lines.proofs.put_closing.Tie as tie
+use native.Mathlib.Omega.{arith}
+use Rattle.listing_lines.proofs.UnitLaws.{closing-none, closing-some}
+
+returns : tie.Need-returns
+returns c =
+    let at-if1 = c .before .before .before .before .before in
+    let start = at-if1 .before .before in
+    rw (closing-none (start .args .count) (at-if1 .if1 .taken)) (c .before .before .put-text .ensures, omega arith)
+
+returns-2 : tie.Need-returns-2
+returns-2 c =
+    let at-if1 = c .before .before .before .before .before in
+    let start = at-if1 .before .before in
+    rw (closing-some (start .args .count) (at-if1 .if1 .left)) (c .before .before .put-text2 .ensures, omega arith)
+
+pub put-closing-spec : {M : Type 1} → statement M
+put-closing-spec =
+    tie.close
+    (tie.spec (λ c. search needs) (λ c κs. search needs) (λ c. search needs) returns (λ c. search needs) (λ c κs. search needs)
+    (λ c. search needs) returns-2)

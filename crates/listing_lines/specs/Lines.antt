@@ -1,0 +1,52 @@
+-- The lines that the listing program prints. 01, Programs.
+-- docs/FORMAT.md: Listing.
+use mathlib.Core.Bool.{Bool}
+use mathlib.Core.List.{List, [], _∷_}
+use Prim.Native.Nat.{ℕ, zero, suc}
+use lib.ListN.{length}
+use Rattle.bits.specs.Choice.{pick}
+use Rattle.string_walk.specs.Units.{unitAt}
+use Rattle.text.specs.Text.{lineFeed, decimal, hexes, line}
+
+-- a word of one letter
+abbrev pub letter : ℕ → List ℕ
+letter a = a ∷ []
+
+-- "A refusal prints `refused N`"
+unfoldable pub refusedLine : ℕ → List ℕ
+refusedLine n = line ((0x72 ∷ 0x65 ∷ 0x66 ∷ 0x75 ∷ 0x73 ∷ 0x65 ∷ 0x64 ∷ []) ∷ []) (decimal n)
+
+-- "Line 1: length, strings, functions", after `image`
+unfoldable pub countsLine : ℕ → ℕ → ℕ → List ℕ
+countsLine len strings functions =
+    line ((0x69 ∷ 0x6D ∷ 0x61 ∷ 0x67 ∷ 0x65 ∷ []) ∷ decimal len ∷ decimal strings ∷ []) (decimal functions)
+
+-- "`s`: id, n or w, s or i (identifier), unit count", then the units
+abbrev pub stringWords : ℕ → Bool → Bool → ℕ → List (List ℕ)
+stringWords id wide identifier count =
+    letter 0x73 ∷ decimal id ∷ letter (pick wide 0x77 0x6E) ∷ letter (pick identifier 0x69 0x73) ∷ decimal count ∷ []
+
+-- "units as four lower-case hex digits each, joined, `-` if none"
+abbrev pub unitsWord : List ℕ → List ℕ
+unitsWord [] = letter 0x2D
+unitsWord (u ∷ us) = hexes (u ∷ us)
+
+-- what stands behind so many units, with the dash in place of none
+abbrev pub closing : ℕ → List ℕ
+closing zero = 0x2D ∷ lineFeed ∷ []
+closing (suc n) = lineFeed ∷ []
+
+-- the line of a string by its units
+unfoldable pub stringLine : ℕ → Bool → Bool → List ℕ → List ℕ
+stringLine id wide identifier units = line (stringWords id wide identifier (length units)) (unitsWord units)
+
+-- "`f`: id, o overflowed or p plain, body start, size"
+unfoldable pub functionLine : ℕ → Bool → ℕ → ℕ → List ℕ
+functionLine id large start size =
+    line (letter 0x66 ∷ decimal id ∷ letter (pick large 0x6F 0x70) ∷ decimal start ∷ []) (decimal size)
+
+-- ---- n units from unit i on of a string whose bytes start at a place
+
+unfoldable pub unitsShown : List ℕ → ℕ → Bool → ℕ → ℕ → List ℕ
+unitsShown s start wide i zero = []
+unitsShown s start wide i (suc n) = unitAt s start wide i ∷ unitsShown s start wide (suc i) n

@@ -1,0 +1,239 @@
+-- Each maker of a piece gives the piece at its point.
+use mathlib.Core.Path.{_≡_, refl, ap, sym, _∙_, subst}
+use mathlib.Core.Bool.{Bool, true, false, not}
+use mathlib.Core.Logic.{_⊎_, inl, inr}
+use mathlib.Core.List.{List, _++_}
+use Prim.Native.Nat.{ℕ, zero, suc, _+_, _-_, _*_, _≤_, _<_}
+use native.Mathlib.Omega.{arith}
+use borrow.Author.Tests.{not-true, lt-ltb, le-ltb}
+use lib.Dec.{ltb}
+use lib.ListN.{length, take, drop, length-drop, length-append}
+use lib.Seq.{drop-cons, take-all, sets}
+use Rattle.bits.specs.Choice.{pick}
+use Rattle.bits.proofs.TestLaws.{below-or}
+use Rattle.bits.proofs.WriteLaws.{sets-append}
+use Rattle.image.specs.Sections.{functionsIn, stringsIn}
+use Rattle.image.specs.Strings.{Str, stringOf, unitSize}
+use Rattle.image.specs.Functions.{Func, funcOf}
+use Rattle.sections.specs.declared.Places.{Places}
+use Rattle.sections.specs.Places.{Placed}
+use Rattle.sections.proofs.SectionLaws.{sectioned}
+use Rattle.function_table.specs.declared.Function.{Function}
+use Rattle.function_table.specs.Functions.{asFunc}
+use Rattle.string_walk.specs.declared.Cursor.{Cursor}
+use Rattle.string_walk.specs.Places.{CursorOf}
+use Rattle.reader.specs.declared.StringPlace.{StringPlace}
+use Rattle.reader.specs.Reading.{ReadAs}
+use Rattle.reader.proofs.StringLaws.{read-string, read-flag, read-size, read-count, read-unit}
+use Rattle.text.specs.Text.{hexes, spaced, Wrote}
+use Rattle.listing_lines.specs.Lines.{countsLine, stringWords, functionLine, closing, unitsShown}
+use Rattle.listing_pieces.specs.declared.Point.{Point}
+use Rattle.listing_pieces.specs.declared.Point.the-variants.{Counts, Strings, Units, Functions, End}
+use Rattle.listing_pieces.specs.declared.Piece.{Piece}
+use Rattle.listing_pieces.specs.Listing.{functionLineIn}
+use Rattle.listing_pieces.specs.Pieces.{strings, units, functions, unitsIn, chunk, stringStart, pieceAt, isEnd, pieces}
+use Rattle.listing_pieces.specs.Pieces.{after, steps, spotOf, Good, Gives, batch, GivesAll}
+use Rattle.listing_pieces.proofs.PieceLaws.{after-falls}
+
+-- a piece that ends somewhere, and a point to go on from
+abbrev pub piece : ℕ → Point → Piece
+piece n x = record { end = n; next = x }
+
+same-start : (i : ℕ) (w w′ b b′ : Bool) (n n′ : ℕ) → w ≡ w′ → b ≡ b′ → n ≡ n′
+    → spaced (stringWords i w b n) ≡ spaced (stringWords i w′ b′ n′)
+same-start i w w′ b b′ n n′ e f g = rw (e, f, g)
+
+module _ (p : Places) (s : List ℕ) (h : Placed p s) (old new : List ℕ) (at end : ℕ) where
+  -- ---- line 1
+
+  pub gives-counts : Wrote old at (countsLine (length s) (p .strings) (p .functions)) end new → end ≤ at + 69 → (c : Cursor)
+      → CursorOf p s c → c .id ≡ 0
+      → Gives p s old at Counts (piece end (Strings c)) new
+  gives-counts w m c g e =
+      let z = sectioned p s h in
+      record {
+        wrote = subst (λ (n : ℕ). Wrote old at (countsLine (length s) (stringsIn s) n) end new) (z .functions)
+            (subst (λ (n : ℕ). Wrote old at (countsLine (length s) n (p .functions)) end new) (z .strings) w);
+        next = ap strings e;
+        good = g;
+        most = omega arith;
+      }
+
+  -- ---- a string before its units
+
+  pub no-string : (c : Cursor) → p .strings ≤ c .id → Gives p s old at (Strings c) (piece at (Functions 0)) old
+  no-string c k =
+      let e : ltb (c .id) (stringsIn s) ≡ false = le-ltb (c .id) (stringsIn s) (omega (arith, sectioned p s h .strings)) in
+      record { wrote = rw e (omega arith, refl); next = rw e; good = tt; most = omega arith }
+
+  pub gives-string : (c next : Cursor) (q : StringPlace) → c .id < p .strings → ReadAs (p .layout) s (c .id) q → CursorOf p s next
+      → next .id ≡ c .id + 1
+      → Wrote old at (spaced (stringWords (c .id) (q .wide) (q .identifier) (q .count))) end new → end ≤ at + 48
+      → Gives p s old at (Strings c) (piece end (Units q 0 next)) new
+  unfolding stringStart
+  gives-string c next q k r g n w m =
+      let e : ltb (c .id) (stringsIn s) ≡ true = lt-ltb (c .id) (stringsIn s) (omega (arith, sectioned p s h .strings)) in
+      let i : c .id ≡ next .id - 1 = omega arith in
+      let wd : q .wide ≡ stringOf (p .layout) s (c .id) .wide = ap (λ (t : Str). t .wide) (read-string (p .layout) s (c .id) q r) in
+      record {
+        wrote = rw e (subst (λ (x : List ℕ). Wrote old at x end new)
+            (same-start (c .id) _ _ _ _ _ _ wd (read-flag (p .layout) s (c .id) q r) (read-count (p .layout) s (c .id) q r)) w);
+        next = rw e (ap (λ (j : ℕ). units j 0) (sym i));
+        good = (subst (λ (j : ℕ). ReadAs (p .layout) s j q) i r, g, omega arith);
+        most = omega arith;
+      }
+
+  -- ---- the units of a string
+
+  module _ (q : StringPlace) (j : ℕ) (next : Cursor) (g : Good p s (Units q j next)) where
+    abbrev us : List ℕ
+    us = unitsIn (p .layout) s (next .id - 1)
+
+    count-is : q .count ≡ length us
+    count-is = read-count (p .layout) s (next .id - 1) q (g .0)
+
+    pub gives-closing : q .count ≤ j → Wrote old at (closing (q .count)) end new → end ≤ at + 2
+        → Gives p s old at (Units q j next) (piece end (Strings next)) new
+    gives-closing k w m =
+        let e : ltb j (length us) ≡ false = le-ltb j (length us) (omega (arith, count-is)) in
+        record {
+          wrote = rw (e, ← count-is) w;
+          next = rw e (ap strings (let i : next .id ≡ next .id - 1 + 1 = omega (arith, g .2) in i));
+          good = g .1;
+          most = omega arith;
+        }
+
+    -- units one by one are those of the string
+    listed-units : (n i : ℕ) → i + n ≤ q .count → unitsShown s (q .start) (q .wide) i n ≡ take n (drop i us)
+    unfolding unitsShown
+    listed-units zero i k = refl
+    listed-units (suc n) i k =
+        rw (
+          drop-cons us i 0 (omega (arith, count-is)),
+          ← read-unit (p .layout) s (next .id - 1) q (g .0) i (omega arith),
+          listed-units n
+              (suc i) (omega arith),
+        )
+
+    left-length : length (drop j us) ≡ q .count - j
+    left-length = length-drop j us ∙ ap (λ (n : ℕ). n - j) (sym count-is)
+
+    -- at most a chunk of them
+    pub least-units : (n : ℕ) → j < q .count → n ≡ pick (ltb (q .count - j) chunk) (q .count - j) chunk
+        → (n ≤ chunk) × (j + n ≤ q .count) × (unitsShown s (q .start) (q .wide) j n ≡ take chunk (drop j us))
+    least-units n k e = go (below-or (q .count - j) chunk)
+      where
+        go : (q .count - j < chunk) ⊎ (chunk ≤ q .count - j) → (n ≤ chunk) × (j + n ≤ q .count)
+            × (unitsShown s (q .start) (q .wide) j n ≡ take chunk (drop j us))
+        go (inl b) =
+            let m : n ≡ q .count - j = e ∙ rw (lt-ltb (q .count - j) chunk b) in (
+              omega arith,
+              omega arith,
+              listed-units n j (omega arith) ∙ take-all n (drop j us) (omega (arith, left-length))
+                  ∙ sym (take-all chunk (drop j us) (omega (arith, left-length))),
+            )
+        go (inr b) =
+            let m : n ≡ chunk = e ∙ rw (le-ltb (q .count - j) chunk b) in
+            (omega arith, omega arith, listed-units n j (omega arith) ∙ ap (λ (a : ℕ). take a (drop j us)) m)
+
+    -- there is room for them, and they lie in the image
+    pub units-in : (n : ℕ) → j + n ≤ q .count → q .start + (j + n) * unitSize (q .wide) ≤ length s
+    units-in n k = go (q .wide) (read-size (p .layout) s (next .id - 1) q (g .0))
+      where
+        go : (w : Bool) → q .size ≡ q .count * unitSize w → q .start + (j + n) * unitSize w ≤ length s
+        go true e = omega (arith, g .0 .inside)
+        go false e = omega (arith, g .0 .inside)
+
+    pub gives-units : (n : ℕ) → j < q .count → n ≡ pick (ltb (q .count - j) chunk) (q .count - j) chunk
+        → Wrote old at (hexes (unitsShown s (q .start) (q .wide) j n)) end new → end ≡ at + n * 4
+        → Gives p s old at (Units q j next) (piece end (Units q (j + 64) next)) new
+    gives-units n k m w v =
+        let e : ltb j (length us) ≡ true = lt-ltb j (length us) (omega (arith, count-is)) in
+        let u = least-units n k m in
+        record {
+          wrote = rw (e, ← u .2) w;
+          next = rw e;
+          good = g;
+          most = omega (arith, u .0);
+        }
+
+  -- ---- functions
+
+  pub no-function : (i : ℕ) → p .functions ≤ i → Gives p s old at (Functions i) (piece at End) old
+  no-function i k =
+      let e : ltb i (functionsIn s) ≡ false = le-ltb i (functionsIn s) (omega (arith, sectioned p s h .functions)) in
+      record { wrote = rw e (omega arith, refl); next = rw e; good = tt; most = omega arith }
+
+  pub gives-function : (i : ℕ) (f : Function) → i < p .functions → asFunc f ≡ funcOf (p .layout) s i
+      → Wrote old at (functionLine i (f .large) (f .begin) (f .size)) end new
+      → end ≤ at + 67 → Gives p s old at (Functions i) (piece end (Functions (i + 1))) new
+  unfolding functionLineIn
+  gives-function i f k r w m =
+      let e : ltb i (functionsIn s) ≡ true = lt-ltb i (functionsIn s) (omega (arith, sectioned p s h .functions)) in
+      record {
+        wrote = rw e (subst (λ (g : Func). Wrote old at (functionLine i (g .large) (g .begin) (g .size)) end new) r w);
+        next = rw e;
+        good = tt;
+        most = omega arith;
+      }
+
+pub gives-end : (p : Places) (s old : List ℕ) (at : ℕ) → Gives p s old at End (piece at End) old
+gives-end p s old at = record { wrote = (omega arith, refl); next = refl; good = tt; most = omega arith }
+
+-- ---- the loop over pieces: after i of them, what is left to make
+
+pub record Going (p : Places) (s out₀ : List ℕ) (x₀ : Point) (out : List ℕ) (x : Point) (at i : ℕ) : Type 0 where
+  pub few : i ≤ batch
+  pub same : length out ≡ length out₀
+  pub room : at + (batch - i) * 256 ≤ length out
+  pub good : Good p s x
+  pub text : sets out at (pieces (p .layout) s (batch - i) (spotOf x)) ≡ sets out₀ 0 (pieces (p .layout) s batch (spotOf x₀))
+  pub size : at + length (pieces (p .layout) s (batch - i) (spotOf x)) ≡ length (pieces (p .layout) s batch (spotOf x₀))
+  pub to : after (p .layout) s (batch - i) (spotOf x) ≡ after (p .layout) s batch (spotOf x₀)
+
+module _ (p : Places) (s out₀ : List ℕ) (x₀ : Point) where
+  pub going-first : 65_536 ≤ length out₀ → Good p s x₀ → Going p s out₀ x₀ out₀ x₀ 0 0
+  going-first h g = record { few = omega arith; same = refl; room = omega arith; good = g; text = refl; size = omega arith; to = refl }
+
+  pub going-next : (out : List ℕ) (x : Point) (at i : ℕ) → Going p s out₀ x₀ out x at i → i < batch
+      → (out′ : List ℕ) (r : Piece) → length out′ ≡ length out
+      → Gives p s out at x r out′ → Going p s out₀ x₀ out′ (r .next) (r .end) (i + 1)
+  unfolding pieces after
+  going-next out x at i g h out′ r k v =
+      let m : ℕ = batch - (i + 1) in
+      let e : batch - i ≡ suc m = omega arith in
+      let a : List ℕ = pieceAt (p .layout) s (spotOf x) in
+      let b : List ℕ = pieces (p .layout) s m (spotOf (r .next)) in
+      let ab : pieces (p .layout) s (batch - i) (spotOf x) ≡ a ++ b = rw (e, v .next) in
+      let n : length (a ++ b) ≡ length a + length b = length-append a b in
+      record {
+        few = omega arith;
+        same = k ∙ g .same;
+        room = omega (arith, k, v .most, g .room);
+        good = v .good;
+        text = rw (v .wrote .1, v .wrote .0) (sym (sets-append a b out at) ∙ ap (sets out at) (sym ab) ∙ g .text);
+        size = omega (arith, v .wrote .0, n, ap length ab, g .size);
+        to = rw (v .next) (rw e at (g .to));
+      }
+
+  pub going-last : (out : List ℕ) (x : Point) (at i : ℕ) → Going p s out₀ x₀ out x at i → batch ≤ i
+      → GivesAll p s out₀ x₀ (piece at x) out
+  unfolding pieces after
+  going-last out x at i g h =
+      let e : batch - i ≡ 0 = omega arith in
+      record {
+        wrote = (
+          let k : at + length (pieces (p .layout) s 0 (spotOf x)) ≡ length (pieces (p .layout) s batch (spotOf x₀)) = rw e
+              at (g .size) in omega arith,
+          rw e at (g .text),
+        );
+        next = rw e at (g .to);
+        good = g .good;
+        most = omega (arith, g .room, g .same);
+      }
+
+-- fewer steps are left behind a batch of pieces, so that a loop over batches ends
+pub batch-falls : (p : Places) (s old new : List ℕ) (x : Point) (r : Piece) → GivesAll p s old x r new → (b : Bool)
+    → b ≡ isEnd (spotOf x) → not b ≡ true
+    → steps (p .layout) s (spotOf (r .next)) < steps (p .layout) s (spotOf x)
+batch-falls p s old new x r g b e h = rw (g .next) (after-falls (p .layout) s batch (spotOf x) (omega arith) (sym e ∙ not-true b h))

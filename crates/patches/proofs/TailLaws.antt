@@ -1,0 +1,87 @@
+-- Places under one accepted step: 0 stays 0, and a tail byte outside the words of the large headers is outside them still.
+use mathlib.Core.Path.{_≡_}
+use mathlib.Core.Bool.{true}
+use mathlib.Core.Logic.{inl, inr}
+use mathlib.Core.List.{List}
+use Prim.Native.Nat.{ℕ, _+_, _-_, _≤_, _<_}
+use native.Mathlib.Omega.{arith}
+use lib.ListN.{length}
+use Rattle.bits.proofs.TestLaws.{below-or}
+use Rattle.format.specs.declared.Layout.{Layout}
+use Rattle.format.specs.Table as table
+use Rattle.format.specs.Move.{moved}
+use Rattle.format.proofs.MoveLaws.{moved-low, moved-high}
+use Rattle.image.specs.Sections.{functionsIn, tailAt}
+use Rattle.image.specs.Functions.{funcOf}
+use Rattle.image.specs.Admitted.{Disjoint, Admitted}
+use Rattle.image.proofs.PlaceLaws.{ordered}
+use Rattle.functions.specs.Patch.{threshold}
+use Rattle.patches.specs.Patches.{Patch, byId, byValue, toBody, Target, aString, aBody, targetOf}
+use Rattle.patches.specs.Promise.{movesFrom, movesTo, placeAfter, OutsideBody, OutsideHeaders, Kept}
+use Rattle.patches.specs.Faults.{PatchFault}
+use Rattle.patches.specs.Faults.PatchFault.{noFunction}
+
+-- the body that is set is there
+abbrev pub Known : Layout → List ℕ → Target → Type 0
+Known l s (aString id value) = Unit {0}
+Known l s (aBody id body) = id < functionsIn s
+
+pub known : (l : Layout) (s : List ℕ) (room : ℕ) (p : Patch) → ((n : ℕ) → PatchFault l s room p n → ⊥)
+    → Known l s (targetOf l s p)
+unfolding targetOf
+known l s room (byId id value) f = tt
+known l s room (byValue old new) f = tt
+known l s room (toBody id body) f = elim (below-or id (functionsIn s)) [ inl h ↦ h | inr h ↦ absurd (f 7 (noFunction id body h)) ]
+
+-- z bytes from a are replaced by n: w bytes from x that share none with them do not come to share one with the byte p
+moved-clear : (a z n x w p : ℕ) → (0 < z → Disjoint x w a z) → (p < a + z → p < a) → Disjoint x w p 1
+    → Disjoint (moved (a + z) (a + n) x) w (moved (a + z) (a + n) p) 1
+moved-clear a z n x w p clear out d g =
+    elim (below-or x (a + z)) [
+      | inl h ↦ elim (below-or p (a + z)) [
+        | inl k ↦ rw (low x h, low p k) (d (rw (low x h, low p k) at g))
+        | inr k ↦ rw (low x h, high p k)
+            (elim (below-or 0 z) [ inl q ↦ omega (arith, clear q h) | inr q ↦ omega (arith, d (omega arith)) ])
+      ]
+      | inr h ↦ elim (below-or p (a + z)) [
+        | inl k ↦ absurd (omega (arith, high x h, low p k, out k))
+        | inr k ↦ rw (high x h, high p k) (omega (arith, d (omega (arith, high x h, high p k))))
+      ]
+    ]
+  where
+    low : (q : ℕ) → q < a + z → moved (a + z) (a + n) q ≡ q
+    low = moved-low (a + z) (a + n)
+
+    high : (q : ℕ) → a + z ≤ q → moved (a + z) (a + n) q ≡ q - (a + z) + (a + n)
+    high = moved-high (a + z) (a + n)
+
+module _ (l : Layout) (s : List ℕ) (ad : Admitted l s) where
+  pub zero-stays : (c : Target) → Known l s c → placeAfter l s c 0 ≡ 0
+  zero-stays c k = moved-low (movesFrom l s c) (movesTo l s c) 0 (past c k)
+    where
+      past : (c : Target) → Known l s c → 0 < movesFrom l s c
+      past (aString id value) k = let o = ordered l s in omega (arith, o .kinds, o .hashes, o .small, o .over, o .storage, o .tail)
+      past (aBody id body) k =
+          let o = ordered l s in omega (arith, o .kinds, o .hashes, o .small, o .over, o .storage, o .tail, ad .body id k .0)
+
+  header-clear : (c : Target) → Known l s c → (j : ℕ) → j < functionsIn s → funcOf l s j .large ≡ true → (p : ℕ)
+      → tailAt l s ≤ p → OutsideBody l s c p
+      → Disjoint (funcOf l s j .ptr) (table.largeRow l .width) p 1
+      → Disjoint (placeAfter l s c (funcOf l s j .ptr)) (table.largeRow l .width) (placeAfter l s c p) 1
+  header-clear (aString id value) k j h t p q o d =
+      let from = tailAt l s in
+      let to = movesTo l s (aString id value) in
+      let x : ℕ = funcOf l s j .ptr in
+      let a = moved-high from to x (ad .header j h t .0) in
+      let b = moved-high from to p q in
+      λ g. rw (a, b) (omega (arith, ad .header j h t .0, d (omega (arith, a, b))))
+  header-clear (aBody id body) k j h t p q o d =
+      let f = funcOf l s id in
+      moved-clear (f .begin) (f .size) (length body) (funcOf l s j .ptr) (table.largeRow l .width) p (λ z. ad .clear id j k h z t) o d
+
+  pub headers-after : (t : List ℕ) (c : Target) → Kept l s t c → Known l s c → (p : ℕ) → tailAt l s ≤ p
+      → OutsideBody l s c p → OutsideHeaders l s p → OutsideHeaders l t (placeAfter l s c p)
+  headers-after t c k known p q b o j h g =
+      let i : j < functionsIn s = rw (k .functions) at h in
+      let e = k .function j i in
+      rw e (header-clear c known j i (rw e at g) p q b (o j i (rw e at g)))

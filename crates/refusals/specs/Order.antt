@@ -1,0 +1,41 @@
+-- The order in which numbers are due, for each kind of entry. 01, Refusal numbers, "Order".
+-- docs/FORMAT.md: Order.
+use mathlib.Core.Bool.{Bool, true, false}
+use mathlib.Core.List.{List, [], _∷_, _++_}
+use Prim.Native.Nat.{ℕ, suc}
+use lib.Dec.{eqb}
+use Rattle.refusals.specs.Numbers as refusals
+
+-- "1 to 6 as numbered"
+abbrev pub ofImage : List ℕ
+ofImage = refusals.size ∷ refusals.magic ∷ refusals.sections ∷ refusals.kinds ∷ refusals.string ∷ refusals.function ∷ []
+
+-- "then 11, 12, 13"
+abbrev pub ofResult : List ℕ
+ofResult = refusals.limit ∷ refusals.field ∷ refusals.room ∷ []
+
+-- "by id 7, 8"
+abbrev pub ofStringById : List ℕ
+ofStringById = ofImage ++ (refusals.id ∷ refusals.value ∷ ofResult)
+
+-- "by value 8 (old, new), 14"
+abbrev pub ofStringByValue : List ℕ
+ofStringByValue = ofImage ++ (refusals.value ∷ refusals.absent ∷ ofResult)
+
+-- "bodies 7, 9, 10"
+abbrev pub ofBody : List ℕ
+ofBody = ofImage ++ (refusals.id ∷ refusals.inside ∷ refusals.empty ∷ ofResult)
+
+-- "Builder: 15, 8, 12, 11, 13"
+abbrev pub ofBuilder : List ℕ
+ofBuilder = refusals.job ∷ refusals.value ∷ refusals.field ∷ refusals.limit ∷ refusals.room ∷ []
+
+-- ---- the turn of a number: how many come before it in an order
+
+abbrev pub oneMore : Bool → ℕ → ℕ
+oneMore true n = 0
+oneMore false n = suc n
+
+unfoldable pub turnIn : List ℕ → ℕ → ℕ
+turnIn [] n = 0
+turnIn (k ∷ ks) n = oneMore (eqb k n) (turnIn ks n)

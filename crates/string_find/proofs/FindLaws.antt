@@ -1,0 +1,275 @@
+-- Units compared where they stand, and the pass that finds a string.
+use mathlib.Core.Path.{_≡_, refl, ap, sym, _∙_, subst}
+use mathlib.Core.Bool.{Bool, true, false, not}
+use mathlib.Core.List.{List, [], _∷_, _++_}
+use Prim.Native.Nat.{ℕ, zero, suc, _+_, _-_, _*_, _≤_, _<_}
+use native.Mathlib.Nat.{not-suc-le-zero, add-zero, zero-add, suc-add, add-suc}
+use native.Mathlib.Numerals.{add-one}
+use native.Mathlib.Omega.{arith}
+use borrow.Author.Tests.{eq-eqb, ne-eqb}
+use lib.Dec.{eqb}
+use lib.ListN.{length, getD, drop, length-append}
+use lib.Seq.{ext-getD}
+use Rattle.refusals.specs.Numbers as refusals
+use Rattle.bits.specs.Choice.{pick, both}
+use Rattle.bits.specs.Bytes.{bytesAt}
+use Rattle.bits.proofs.TestLaws.{both-1}
+use Rattle.footer.specs.Footer.{same}
+use Rattle.format.specs.Entry as entry
+use Rattle.image.specs.Sections.{stringsIn, storageAt}
+use Rattle.image.specs.Strings.{unitSize, sizeOf, stringOf, unitsOf}
+use Rattle.unicode.specs.declared.Reading.{Reading}
+use Rattle.unicode.specs.Utf8.{between, nextByte, completes, unitsFrom, utf16}
+use Rattle.unicode.proofs.UnitLaws.{rest, units-end}
+use Rattle.sections.specs.declared.Places.{Places}
+use Rattle.sections.specs.Places.{Placed}
+use Rattle.sections.proofs.SectionLaws.{Sectioned, sectioned}
+use Rattle.string_tables.specs.declared.Place.{Place}
+use Rattle.string_tables.specs.Strings.{asPlace}
+use Rattle.string_walk.specs.declared.Location.the-variants.{At, Refused}
+use Rattle.string_walk.specs.Places.{Stands, Locates}
+use Rattle.string_walk.specs.Units.{unitAt}
+use Rattle.string_walk.proofs.UnitLaws.{units-count, units-at}
+use Rattle.string_find.specs.Find.{findFrom, findId, unitsAt}
+
+-- ---- lists that are the same
+
+same-length : (a b : List ℕ) → same a b ≡ true → length a ≡ length b
+unfolding same
+same-length [] [] h = refl
+same-length [] (y ∷ b) h = absurd (never h)
+  where
+    never : false ≡ true → ⊥
+    never e = let z : _≡_ {A = ℕ} 0 1 = cc in omega arith
+same-length (x ∷ a) [] h = absurd (never h)
+  where
+    never : false ≡ true → ⊥
+    never e = let z : _≡_ {A = ℕ} 0 1 = cc in omega arith
+same-length (x ∷ a) (y ∷ b) h = ap suc (same-length a b (both-1 (eqb x y) (same a b) h))
+
+longer-differs : (a b : List ℕ) → (length a ≡ length b → ⊥) → false ≡ same a b
+longer-differs a b h = go (same a b) refl
+  where
+    go : (r : Bool) → same a b ≡ r → false ≡ r
+    go true e = absurd (h (same-length a b e))
+    go false e = refl
+
+same-append : (a b c d : List ℕ) → length a ≡ length b → same (a ++ c) (b ++ d) ≡ both (same a b) (same c d)
+unfolding same
+same-append [] [] c d h = refl
+same-append [] (y ∷ b) c d h = absurd (omega (arith, h))
+same-append (x ∷ a) [] c d h = absurd (omega (arith, h))
+same-append (x ∷ a) (y ∷ b) c d h = go (eqb x y) (same-append a b c d (omega (arith, h)))
+  where
+    go : (r : Bool) → same (a ++ c) (b ++ d) ≡ both (same a b) (same c d)
+        → both r (same (a ++ c) (b ++ d)) ≡ both (both r (same a b)) (same c d)
+    go true e = e
+    go false e = refl
+
+-- ---- units where they stand
+
+length-at : (s : List ℕ) (start : ℕ) (wide : Bool) (j n : ℕ) → length (unitsAt s start wide j n) ≡ n
+unfolding unitsAt
+length-at s start wide j zero = refl
+length-at s start wide j (suc n) = ap suc (length-at s start wide (suc j) n)
+
+at-append : (s : List ℕ) (start : ℕ) (wide : Bool) (j m n : ℕ) → unitsAt s start wide j (m + n) ≡ unitsAt s start wide j m
+    ++ unitsAt s start wide (j + m) n
+unfolding unitsAt
+at-append s start wide j zero n = rw (zero-add n, add-zero j)
+at-append s start wide j (suc m) n =
+    rw (suc-add m n, add-suc j m, ← suc-add j m)
+    (ap (λ (l : List ℕ). unitAt s start wide j ∷ l) (at-append s start wide (suc j) m n))
+
+unit-of : (s : List ℕ) (start : ℕ) (wide : Bool) (n j i : ℕ) → i < n
+    → getD (unitsAt s start wide j n) i 0 ≡ unitAt s start wide (j + i)
+unfolding unitsAt
+unit-of s start wide zero j i h = absurd (not-suc-le-zero h)
+unit-of s start wide (suc n) j zero h = rw (add-zero j)
+unit-of s start wide (suc n) j (suc i) h = rw (add-suc j i, ← suc-add j i) (unit-of s start wide n (suc j) i (omega arith))
+
+-- they are those of the string
+string-units : (s : List ℕ) (start n : ℕ) (wide : Bool)
+    → unitsOf (record { wide = wide; bytes = bytesAt s start (n * unitSize wide) }) ≡ unitsAt s start wide 0 n
+string-units s start n wide =
+    ext-getD 0 _ (unitsAt s start wide 0 n) (units-count s start n wide ∙ sym (length-at s start wide 0 n))
+    (λ i h.
+    let k : i < n = omega (arith, units-count s start n wide) in
+    units-at s start n wide i k ∙ sym (unit-of s start wide n 0 i k ∙ rw (zero-add i)))
+
+-- ---- what one byte completes
+
+module _ (s : List ℕ) (start j : ℕ) (wide : Bool) where
+  pub none-next : true ≡ same (unitsAt s start wide j 0) []
+  unfolding unitsAt same
+  none-next = refl
+
+  module _ (x u : ℕ) (e : x ≡ unitAt s start wide j) where
+    pub one-next : eqb x u ≡ same (unitsAt s start wide j 1) (u ∷ [])
+    unfolding unitsAt same
+    one-next = rw (← e) (go (eqb x u))
+      where
+        go : (b : Bool) → b ≡ both b true
+        go true = refl
+        go false = refl
+
+    pub two-differ : (v : ℕ) → (x ≡ u → ⊥) → false ≡ same (unitsAt s start wide j 2) (u ∷ v ∷ [])
+    unfolding unitsAt same
+    two-differ v h = rw (← e, ne-eqb x u h)
+
+    pub two-next : (v y : ℕ) → x ≡ u → y ≡ unitAt s start wide (j + 1)
+        → eqb y v ≡ same (unitsAt s start wide j 2) (u ∷ v ∷ [])
+    unfolding unitsAt same
+    two-next v y h f = rw (← e, eq-eqb x u h, ← add-one, ← f) (go (eqb y v))
+      where
+        go : (b : Bool) → b ≡ both b true
+        go true = refl
+        go false = refl
+
+-- room for units
+pub room-one : (w : Bool) (start j m : ℕ) → start + (j + 1) * unitSize w ≤ m → start + j * unitSize w + unitSize w ≤ m
+room-one true start j m h = omega arith
+room-one false start j m h = omega arith
+
+pub room-first : (w : Bool) (start j m : ℕ) → start + (j + 2) * unitSize w ≤ m → start + j * unitSize w + unitSize w ≤ m
+room-first true start j m h = omega arith
+room-first false start j m h = omega arith
+
+pub room-second : (w : Bool) (start j m : ℕ) → start + (j + 2) * unitSize w ≤ m → start + (j + 1) * unitSize w + unitSize w ≤ m
+room-second true start j m h = omega arith
+room-second false start j m h = omega arith
+
+pub room-less : (w : Bool) (start k n m : ℕ) → k ≤ n → start + n * unitSize w ≤ m → start + k * unitSize w ≤ m
+room-less true start k n m h r = omega arith
+room-less false start k n m h r = omega arith
+
+pub room-low : (w : Bool) (start n m : ℕ) → start + n * unitSize w ≤ m → n ≤ m
+room-low true start n m h = omega arith
+room-low false start n m h = omega arith
+
+-- ---- a turn of the comparison; `q` is the reading after byte i, `us` the units that it completes
+
+module _ (s value us : List ℕ) (start j i : ℕ) (wide : Bool) (r q : Reading) (h : i < length value)
+    (n : q ≡ nextByte r (getD value i 0)) (u : us ≡ completes q) (x : Bool)
+    (e : same (unitsAt s start wide j (length (unitsFrom r (drop i value)))) (unitsFrom r (drop i value)) ≡ x) where
+  pub count-left : (all : ℕ) → j + length (unitsFrom r (drop i value)) ≡ all
+      → j + length us + length (unitsFrom q (drop (i + 1) value)) ≡ all
+  count-left all f = omega (arith, f, ap length (rest r q value us i h n u), length-append us (unitsFrom q (drop (i + 1) value)))
+
+  parted : both (same (unitsAt s start wide j (length us)) us)
+      (same (unitsAt s start wide (j + length us) (length (unitsFrom q (drop (i + 1) value)))) (unitsFrom q (drop (i + 1) value)))
+      ≡ x
+  parted =
+      let v : List ℕ = unitsFrom q (drop (i + 1) value) in
+      sym (same-append (unitsAt s start wide j (length us)) us (unitsAt s start wide (j + length us) (length v)) v
+      (length-at s start wide j (length us)))
+      ∙ ap (λ (l : List ℕ). same l (us ++ v)) (sym (at-append s start wide j (length us) (length v)))
+      ∙ ap (λ (m : ℕ). same (unitsAt s start wide j m) (us ++ v)) (sym (length-append us v))
+      ∙ ap (λ (l : List ℕ). same (unitsAt s start wide j (length l)) l) (sym (rest r q value us i h n u))
+      ∙ e
+
+  module _ (t : Bool) (f : t ≡ same (unitsAt s start wide j (length us)) us) where
+    pub differs : not t ≡ true → false ≡ x
+    differs g =
+        go t g (ap (λ (b : Bool). both b
+        (same (unitsAt s start wide (j + length us) (length (unitsFrom q (drop (i + 1) value)))) (unitsFrom q (drop (i + 1) value)))) f
+        ∙ parted)
+      where
+        go : (t : Bool) → not t ≡ true
+            → both t (same (unitsAt s start wide (j + length us) (length (unitsFrom q (drop (i + 1) value))))
+            (unitsFrom q (drop (i + 1) value))) ≡ x → false ≡ x
+        go true g k = absurd (let z : _≡_ {A = ℕ} 0 1 = cc in omega arith)
+        go false g k = k
+
+    pub agrees : not t ≡ false → same (unitsAt s start wide (j + length us) (length (unitsFrom q (drop (i + 1) value))))
+        (unitsFrom q (drop (i + 1) value)) ≡ x
+    agrees g =
+        go t g (ap (λ (b : Bool). both b
+        (same (unitsAt s start wide (j + length us) (length (unitsFrom q (drop (i + 1) value)))) (unitsFrom q (drop (i + 1) value)))) f
+        ∙ parted)
+      where
+        go : (t : Bool) → not t ≡ false
+            → both t (same (unitsAt s start wide (j + length us) (length (unitsFrom q (drop (i + 1) value))))
+            (unitsFrom q (drop (i + 1) value))) ≡ x
+            → same (unitsAt s start wide (j + length us) (length (unitsFrom q (drop (i + 1) value))))
+            (unitsFrom q (drop (i + 1) value)) ≡ x
+        go true g k = k
+        go false g k = absurd (let z : _≡_ {A = ℕ} 0 1 = cc in omega arith)
+
+-- at the start, and behind the last byte
+pub from-start : (s value : List ℕ) (start : ℕ) (wide : Bool) (r : Reading) → r ≡ between
+    → (0 + length (unitsFrom r (drop 0 value)) ≡ length (utf16 value))
+    × (same (unitsAt s start wide 0 (length (unitsFrom r (drop 0 value)))) (unitsFrom r (drop 0 value)) ≡ same
+    (unitsAt s start wide 0 (length (utf16 value))) (utf16 value))
+unfolding utf16
+from-start s value start wide r e = rw e (zero-add (length (unitsFrom between value)), refl)
+
+pub all-agree : (s value : List ℕ) (start j i : ℕ) (wide : Bool) (r : Reading) → length value ≤ i → (x : Bool)
+    → same (unitsAt s start wide j (length (unitsFrom r (drop i value)))) (unitsFrom r (drop i value)) ≡ x → true ≡ x
+unfolding unitsAt same
+all-agree s value start j i wide r h x e = rw (units-end r value i h) at e
+
+-- ---- string i
+
+module _ (p : Places) (s units : List ℕ) (pl : Placed p s) (i : ℕ) (r : Place) (st : Stands p s i r) where
+  found-units : unitsOf (stringOf (p .layout) s i) ≡ unitsAt s (p .«storage_at» + r .at) (r .wide) 0 (r .count)
+  unfolding stringOf
+  found-units =
+      sym (ap (λ (a : ℕ). unitsOf (record { wide = r .wide; bytes = bytesAt s (a + r .at) (sizeOf (asPlace r)) }))
+      (sectioned p s pl .storageFrom)
+      ∙ ap (λ (q : entry.Place). unitsOf (record { wide = q .wide; bytes = bytesAt s (storageAt (p .layout) s + q .at) (sizeOf q) }))
+      (st .is))
+      ∙ string-units s (p .«storage_at» + r .at) (r .count) (r .wide)
+
+  pub other-count : (n : ℕ) → n ≡ length units → (r .count ≡ n → ⊥)
+      → false ≡ same (unitsOf (stringOf (p .layout) s i)) units
+  other-count n e h =
+      longer-differs (unitsOf (stringOf (p .layout) s i)) units
+      (λ g. h (sym (length-at s (p .«storage_at» + r .at) (r .wide) 0 (r .count)) ∙ ap length (sym found-units) ∙ g ∙ sym e))
+
+  pub same-count : (n : ℕ) → n ≡ length units → r .count ≡ n
+      → same (unitsAt s (p .«storage_at» + r .at) (r .wide) 0 (length units)) units ≡ same (unitsOf (stringOf (p .layout) s i)) units
+  same-count n e h = rw (found-units, h, e)
+
+  pub units-in : (n : ℕ) → n ≡ length units → r .count ≡ n
+      → p .«storage_at» + r .at + length units * unitSize (r .wide) ≤ length s
+  units-in n e h = rw (← e, ← h) (let z : Sectioned p s = sectioned p s pl in omega (arith, st .before))
+
+-- ---- the pass
+
+module _ (p : Places) (s units : List ℕ) (pl : Placed p s) where
+  pub find-none : findFrom (p .layout) s units 0 (p .strings - 0) ≡ findId (p .layout) s units
+  unfolding findId
+  find-none = let e : p .strings - 0 ≡ stringsIn s = omega (arith, sectioned p s pl .strings) in rw e
+
+  module _ (i : ℕ) (t : Bool) (x : ℕ) (b : i < p .strings) (f : t ≡ same (unitsOf (stringOf (p .layout) s i)) units)
+      (e : findFrom (p .layout) s units i (p .strings - i) ≡ x) where
+    left-is : p .strings - i ≡ suc (p .strings - suc i)
+    left-is = omega arith
+
+    found-or : pick t i (findFrom (p .layout) s units (suc i) (p .strings - suc i)) ≡ x
+    unfolding findFrom
+    found-or = ap (λ (c : Bool). pick c i (findFrom (p .layout) s units (suc i) (p .strings - suc i))) f ∙ rw left-is at e
+
+    found : t ≡ true → i ≡ x
+    found g = rw g at found-or
+
+    pub find-next : t ≡ false → findFrom (p .layout) s units (i + 1) (p .strings - (i + 1)) ≡ x
+    find-next g = rw add-one (rw g at found-or)
+
+  find-end : (i x : ℕ) → p .strings ≤ i → findFrom (p .layout) s units i (p .strings - i) ≡ x → i ≡ x
+  unfolding findFrom
+  find-end i x h e = let z : p .strings - i ≡ 0 = omega arith in rw z at e
+
+  -- ---- what is answered
+
+  pub found-at : (i : ℕ) (t : Bool) → i < p .strings → t ≡ same (unitsOf (stringOf (p .layout) s i)) units
+      → findFrom (p .layout) s units i (p .strings - i) ≡ findId (p .layout) s units → t ≡ true → (q : Place) → Stands p s i q
+      → Locates p s (findId (p .layout) s units) refusals.absent (At i q)
+  found-at i t b f e g q st =
+      let x : i ≡ findId (p .layout) s units = found i t (findId (p .layout) s units) b f e g in
+      (x, rw x at b, subst (λ (j : ℕ). Stands p s j q) x st)
+
+  pub found-none : (i : ℕ) → p .strings ≤ i → findFrom (p .layout) s units i (p .strings - i) ≡ findId (p .layout) s units
+      → Locates p s (findId (p .layout) s units) refusals.absent (Refused refusals.absent)
+  found-none i h e = (refl, rw (find-end i (findId (p .layout) s units) h e) at h)

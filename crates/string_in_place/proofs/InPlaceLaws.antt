@@ -1,0 +1,123 @@
+-- The value over the bytes of its string.
+use mathlib.Core.Path.{_≡_, ap, sym, _∙_}
+use mathlib.Core.Bool.{Bool, true, false, not}
+use mathlib.Core.List.{List}
+use Prim.Native.Nat.{ℕ, _+_, _-_, _≤_, _<_}
+use native.Mathlib.Omega.{arith}
+use borrow.Author.Tests.{not-true, not-false, eq-eqb, ne-eqb, eqb-true, le-ltb}
+use lib.Dec.{eqb}
+use lib.ListN.{length, take, drop}
+use borrow.Rule.Slice.PartMut.{putMid}
+use lib.Seq.{sets, length-sets}
+use Rattle.bits.specs.Choice.{both, judge}
+use Rattle.bits.specs.Bytes.{ascii}
+use Rattle.bits.specs.Outcome.{Answers, made, roomed}
+use Rattle.bits.specs.declared.Answer.{Answer}
+use Rattle.bits.specs.declared.Answer.the-variants.{Refused}
+use Rattle.bits.proofs.TestLaws.{both-0, both-1}
+use Rattle.bits.proofs.WriteLaws.{sets-all}
+use Rattle.format.specs.Entry as entry
+use Rattle.footer.specs.Finalize.{leastLength, sizeLimit}
+use Rattle.image.specs.Sections.{storageAt}
+use Rattle.image.specs.Strings.{sizeOf, placeAt}
+use Rattle.sections.specs.declared.Places.{Places}
+use Rattle.sections.specs.Places.{Placed}
+use Rattle.sections.proofs.SectionLaws.{Sectioned, sectioned}
+use Rattle.string_overlap.specs.Overlap.{isAlone}
+use Rattle.string_tables.specs.declared.Place.{Place}
+use Rattle.string_tables.specs.Strings.{asPlace}
+use Rattle.string_walk.specs.Places.{Stands}
+use Rattle.string_in_place.specs.Known.{Overwritten}
+use Rattle.string_in_place.specs.Patch.{fitsInPlace, inPlace, changed, finished, patchedString, newLength, patchFits, patchKnown}
+use Rattle.string_in_place.proofs.FinishLaws.{answers-over, length-finished, room-short, room-written}
+
+-- ---- the test
+
+module _ (p : Places) (s value : List ℕ) (id : ℕ) (own : Place) (st : Stands p s id own) where
+  tested : both (not (own .wide))
+      (both (ascii value) (both (eqb (length value) (sizeOf (asPlace own))) (isAlone (p .layout) s id))) ≡ fitsInPlace (p .layout) s id
+      value
+  unfolding fitsInPlace
+  tested =
+      ap (λ (q : entry.Place). both (not (q .wide)) (both (ascii value) (both (eqb (length value) (sizeOf q)) (isAlone (p .layout) s id))))
+      (st .is)
+
+  pub is-wide : own .wide ≡ true → false ≡ fitsInPlace (p .layout) s id value
+  is-wide t = rw t at tested
+
+  module _ (t : own .wide ≡ false) (a : Bool) (e : a ≡ ascii value) where
+    pub not-ascii : not a ≡ true → false ≡ fitsInPlace (p .layout) s id value
+    not-ascii f = rw (t, ← e, not-true a f) at tested
+
+    module _ (f : not a ≡ false) (n : ℕ) (g : n ≡ sizeOf (asPlace own)) where
+      pub other-size : (length value ≡ n → ⊥) → false ≡ fitsInPlace (p .layout) s id value
+      other-size h = rw (← g, ne-eqb (length value) n h, t, ← e, not-false a f) at tested
+
+      pub same-size : length value ≡ n → (b : Bool) → b ≡ isAlone (p .layout) s id → b ≡ fitsInPlace (p .layout) s id value
+      same-size h b c = c ∙ rw (← g, eq-eqb (length value) n h, t, ← e, not-false a f) at tested
+
+-- ---- the bytes
+
+module _ (p : Places) (s value : List ℕ) (id : ℕ) (own : Place) (ov : Overwritten p s value id own) where
+  value-size : length value ≡ sizeOf (asPlace own)
+  unfolding fitsInPlace
+  value-size =
+      eqb-true (length value) (sizeOf (placeAt (p .layout) s id))
+      (both-0 _ (isAlone (p .layout) s id) (both-1 (ascii value) _ (both-1 (not (placeAt (p .layout) s id .wide)) _ (ov .fits))))
+      ∙ ap sizeOf (sym (ov .stands .is))
+
+  pub value-in : p .«storage_at» + own .at + length value ≤ length s
+  value-in = let z : Sectioned p s = sectioned p s (ov .laid .placed) in omega (arith, value-size, ov .stands .before)
+
+  bytes-are : (out o₁ o₂ : List ℕ) → length out ≡ length s → o₁ ≡ sets out 0 s
+      → o₂ ≡ sets o₁ (p .«storage_at» + own .at) value → o₂ ≡ changed (p .layout) s id value
+  unfolding changed inPlace
+  bytes-are out o₁ o₂ n e f =
+      f ∙ rw (e, sets-all s out (sym n), ov .fits)
+      (rw (sectioned p s (ov .laid .placed) .storageFrom)
+      (ap (λ (q : entry.Place). sets s (storageAt (p .layout) s + q .at) value) (ov .stands .is)))
+
+  length-changed : length (changed (p .layout) s id value) ≡ length s
+  unfolding changed inPlace
+  length-changed = rw (ov .fits) (length-sets s (storageAt (p .layout) s + placeAt (p .layout) s id .at) value)
+
+  module _ (least : leastLength ≤ length s) where
+    pub length-patched : length (patchedString (p .layout) s id value) ≡ length s
+    unfolding patchedString
+    length-patched = length-finished (p .layout) s value (changed (p .layout) s id value) id (rw length-changed least) ∙ length-changed
+
+    pub in-place : (out o₁ o₂ o₃ : List ℕ) (r : Answer) → length out ≡ length s → o₁ ≡ sets out 0 s
+        → o₂ ≡ sets o₁ (p .«storage_at» + own .at) value
+        → Answers (made (finished (p .layout) s id value o₂)) r o₂ o₃
+        → Answers (made (patchedString (p .layout) s id value)) r out o₃
+    unfolding patchedString
+    in-place out o₁ o₂ o₃ r n e f a =
+        let c : o₂ ≡ changed (p .layout) s id value = bytes-are out o₁ o₂ n e f in
+        let m : length o₂ ≡ length s = ap length c ∙ length-changed in
+        let k : length (finished (p .layout) s id value o₂) ≡ length o₂ = length-finished (p .layout) s value o₂ id (omega arith) in
+        rw (← c) (answers-over (finished (p .layout) s id value o₂) o₂ out o₃ r (sym k) (n ∙ sym m ∙ sym k) a)
+
+  -- nothing is refused but for the room
+  pub known-in-place : length s ≤ sizeLimit → patchKnown (p .layout) s id value ≡ made (patchedString (p .layout) s id value)
+  unfolding patchKnown judge newLength patchFits
+  known-in-place most = rw (ov .fits, le-ltb sizeLimit (length s) most)
+
+  -- in a buffer of any length
+  least-is : leastLength ≤ length s
+  least-is = let z : Sectioned p s = sectioned p s (ov .laid .placed) in omega arith
+
+  most-is : length s ≤ sizeLimit
+  most-is = sectioned p s (ov .laid .placed) .most
+
+  pub in-short : (out : List ℕ) → length out < length s
+      → Answers (roomed (length out) (patchKnown (p .layout) s id value)) (Refused 13) out out
+  in-short out h =
+      room-short (patchKnown (p .layout) s id value) (patchedString (p .layout) s id value) out (length s) (known-in-place most-is)
+      (length-patched least-is) h
+
+  pub in-room : (out : List ℕ) → length s ≤ length out → (part : List ℕ) (r : Answer)
+      → Answers (made (patchedString (p .layout) s id value)) r (take (length s - 0) (drop 0 out)) part
+      → Answers (roomed (length out) (patchKnown (p .layout) s id value)) r out (putMid 0 (length s - 0) out part)
+  in-room out h part r a =
+      room-written (patchKnown (p .layout) s id value) (patchedString (p .layout) s id value) out (length s) (known-in-place most-is)
+      (length-patched least-is) h part r a

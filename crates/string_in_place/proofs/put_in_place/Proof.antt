@@ -1,0 +1,47 @@
+use borrow.Author.Needs.{needs}
+use Rattle.string_in_place.proofs.put_in_place.Statement.{statement}
+use Rattle.string_in_place.proofs.put_in_place.Tie as tie
+use native.Mathlib.Omega.{arith}
+use Rattle.sections.proofs.SectionLaws.{sectioned}
+use Rattle.string_in_place.proofs.InPlaceLaws.{value-in, in-place}
+
+put-bytes-requires-2 : tie.Need-put-bytes-requires-2
+put-bytes-requires-2 c κs =
+    let at-put-bytes = c .before .before .before .before .before in
+    let start = at-put-bytes .before .before .before .before .before in
+    let a = start .args in
+    let q = start .pre in
+    omega
+    (arith, value-in (a .p) (a .image .now) (a .value .now) (a .id) (a .own) (q .0), q .1, at-put-bytes .put-bytes .kept .0)
+
+finish-requires : tie.Need-finish-requires
+finish-requires c κs =
+    let at-put-bytes2 = c .before .before .before in
+    let at-put-bytes = at-put-bytes2 .before .before .before .before .before .before in
+    let start = at-put-bytes .before .before .before .before .before in
+    let a = start .args in
+    let q = start .pre in
+    let z = sectioned (a .p) (a .image .now) (q .0 .laid .placed) in
+    record {
+      laid = q .0 .laid;
+      known = q .0 .known;
+      holds = omega (arith, q .1, at-put-bytes .put-bytes .kept .0, at-put-bytes2 .put-bytes2 .kept .0);
+      limit = omega (arith, q .1, at-put-bytes .put-bytes .kept .0, at-put-bytes2 .put-bytes2 .kept .0);
+    }
+
+returns : tie.Need-returns
+returns c =
+    let at-put-bytes2 = c .before .before .before .before .before .before in
+    let at-put-bytes = at-put-bytes2 .before .before .before .before .before .before in
+    let start = at-put-bytes .before .before .before .before .before in
+    let a = start .args in
+    let q = start .pre in
+    let z = sectioned (a .p) (a .image .now) (q .0 .laid .placed) in
+    in-place (a .p) (a .image .now) (a .value .now) (a .id) (a .own) (q .0) (omega arith) (a .out .now)
+    _ _ _ _ (q .1) (at-put-bytes .put-bytes .ensures) (at-put-bytes2 .put-bytes2 .ensures)
+    (c .before .before .finish .ensures)
+
+pub put-in-place-spec : {M : Type 1} → statement M
+put-in-place-spec =
+    tie.close
+    (tie.spec (λ c κs. search needs) (λ c. search needs) put-bytes-requires-2 finish-requires (λ c. search needs) returns)

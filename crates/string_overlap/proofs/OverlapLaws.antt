@@ -1,0 +1,60 @@
+-- The overlap of two places, and the pass over all of them.
+use mathlib.Core.Path.{_≡_, ap, _∙_}
+use mathlib.Core.Bool.{Bool, true, false, not}
+use mathlib.Core.List.{List}
+use Prim.Native.Nat.{ℕ, _+_, _≤_, _<_}
+use native.Mathlib.Omega.{arith}
+use borrow.Author.Tests.{lt-ltb, le-ltb, eq-eqb, ne-eqb}
+use lib.Dec.{ltb, eqb}
+use Rattle.bits.specs.Choice.{implies, allBelow}
+use Rattle.bits.proofs.PassLaws.{pass-next, pass-stop, pass-end}
+use Rattle.format.specs.Entry as entry
+use Rattle.image.specs.Strings.{sizeOf, placeAt}
+use Rattle.sections.specs.declared.Places.{Places}
+use Rattle.sections.specs.Places.{Placed}
+use Rattle.sections.proofs.SectionLaws.{Sectioned, sectioned}
+use Rattle.string_tables.specs.declared.Place.{Place}
+use Rattle.string_tables.specs.Strings.{asPlace}
+use Rattle.string_walk.specs.Places.{Stands}
+use Rattle.string_overlap.specs.Overlap.{Low, overlap, isApart, isAlone}
+
+module _ (p q : entry.Place) (n m : ℕ) (e : n ≡ sizeOf q) where
+  pub behind : q .at + n ≤ p .at → false ≡ overlap p q
+  behind h = rw (← e, le-ltb (p .at) (q .at + n) h)
+
+  pub before : p .at < q .at + n → m ≡ sizeOf p → ltb (q .at) (p .at + m) ≡ overlap p q
+  before h f = rw (← e, lt-ltb (p .at) (q .at + n) h, f)
+
+pub is-own : (i id : ℕ) (b : Bool) → i ≡ id → true ≡ implies (not (eqb i id)) b
+is-own i id b e = rw (eq-eqb i id e)
+
+pub is-other : (i id : ℕ) (b c : Bool) → (i ≡ id → ⊥) → c ≡ b → not c ≡ implies (not (eqb i id)) (not b)
+is-other i id b c h e = rw (ne-eqb i id h, e)
+
+-- a place in storage is low
+pub stands-low : (p : Places) (s : List ℕ) → Placed p s → (i : ℕ) (r : Place) → Stands p s i r → Low r
+stands-low p s pl i r st =
+    let z : Sectioned p s = sectioned p s pl in
+    (omega (arith, st .stored), omega (arith, st .count, st .stored))
+
+module _ (p : Places) (s : List ℕ) (pl : Placed p s) (id i : ℕ) (own other : Place) (so : Stands p s id own) (st : Stands p s i other)
+    (r : Bool)
+    (e : r ≡ implies (not (eqb i id)) (not (overlap (asPlace own) (asPlace other)))) where
+  tested : r ≡ isApart (p .layout) s id i
+  unfolding isApart
+  tested =
+      e ∙ ap (λ (q : entry.Place). implies (not (eqb i id)) (not (overlap q (asPlace other)))) (so .is)
+      ∙ ap (λ (q : entry.Place). implies (not (eqb i id)) (not (overlap (placeAt (p .layout) s id) q))) (st .is)
+
+  pub alone-next : not r ≡ false → allBelow i (isApart (p .layout) s id) ≡ true
+      → allBelow (i + 1) (isApart (p .layout) s id) ≡ true
+  alone-next t a = pass-next (isApart (p .layout) s id) i r tested t a
+
+  pub not-alone : not r ≡ true → i < p .strings → false ≡ isAlone (p .layout) s id
+  unfolding isAlone
+  not-alone t h = rw (← sectioned p s pl .strings) (pass-stop (isApart (p .layout) s id) (p .strings) i r h tested t)
+
+pub alone : (p : Places) (s : List ℕ) → Placed p s → (id i : ℕ) → i ≡ p .strings
+    → allBelow i (isApart (p .layout) s id) ≡ true → true ≡ isAlone (p .layout) s id
+unfolding isAlone
+alone p s pl id i e a = rw (← sectioned p s pl .strings) (pass-end (isApart (p .layout) s id) (p .strings) i e a)

@@ -1,0 +1,52 @@
+// Whether a string shares storage with another: then its bytes are not its own to change.
+use sections::Places;
+use string_tables::Place;
+ghost use mathlib.Core.Path.{_≡_};
+ghost use mathlib.Core.Bool.{not};
+ghost use lib.Dec.{eqb};
+ghost use Rattle.bits.specs.Choice.{implies};
+ghost use Rattle.sections.specs.Places.{Laid};
+ghost use Rattle.string_tables.specs.Strings.{asPlace};
+ghost use Rattle.string_walk.specs.Places.{Stands};
+ghost use Rattle.string_overlap.specs.Overlap.{Low, overlap, isAlone};
+
+// Whether two strings overlap. An empty one overlaps what it stands within.
+fn do_overlap(a: Place, b: Place) -> bool
+    requires { ⌜ Low a × Low b ⌝ }
+    ensures { λ r. ⌜ r ≡ overlap (asPlace a) (asPlace b) ⌝ }
+{
+    if a.at >= b.at + string_tables::size_of(b) {
+        return false;
+    }
+    b.at < a.at + string_tables::size_of(a)
+}
+
+// Whether string `i`, at `other`, is string `id`, or does not overlap it, which stands at `own`.
+fn is_apart(i: usize, id: usize, own: Place, other: Place) -> bool
+    requires { ⌜ Low own × Low other ⌝ }
+    ensures { λ r. ⌜ r ≡ implies (not (eqb i id)) (not (overlap (asPlace own) (asPlace other))) ⌝ }
+{
+    if i == id {
+        return true;
+    }
+    !do_overlap(own, other)
+}
+
+// Whether no other entry overlaps that of `id`, which stands at `own`: one pass, every entry counts,
+// wide and empty ones too.
+pub fn is_alone(image: &[u8], p: Places, id: usize, own: Place) -> bool
+    requires { ⌜ Laid p (now image) ⌝ }
+    requires { ⌜ Stands p (now image) id own ⌝ }
+    ensures { λ r. ⌜ r ≡ isAlone (p .layout) (now (image .entry)) id ⌝ }
+{
+    let mut c = string_walk::first_string();
+    while c.id < p.strings {
+        let step = string_walk::string_at(image, p, c);
+        let other = step.place;
+        if !is_apart(c.id, id, own, other) {
+            return false;
+        }
+        c = step.next;
+    }
+    true
+}

@@ -1,3 +1,0 @@
-pub mod ListLaws
-pub mod ShapeLaws
-pub mod PassLaws

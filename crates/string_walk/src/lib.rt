@@ -1,0 +1,259 @@
+// The strings of an admitted image, one by one. A pass over all of them has one cursor, which carries
+// the count of overflow entries and the run of kinds along; a single id is located by the walk from
+// the table's start. Both give the same.
+use sections::Places;
+use string_tables::Place;
+ghost use mathlib.Core.Path.{_≡_};
+ghost use mathlib.Core.Bool.{true};
+ghost use mathlib.Core.List.{List};
+ghost use Prim.Native.Nat.{ℕ, _+_, _*_, _≤_, _<_};
+ghost use lib.ListN.{length};
+ghost use Rattle.format.specs.Entry.{bit};
+ghost use Rattle.image.specs.Strings.{isFull, overBefore, smallIn, unitSize};
+ghost use Rattle.image.specs.Kinds.{kindIn, isIdentifierRun, isIdentifier, rankOf};
+ghost use Rattle.refusals.specs.Numbers as refusals;
+ghost use Rattle.sections.specs.declared.Places.{Places};
+ghost use Rattle.sections.specs.Places.{Placed, Laid};
+ghost use Rattle.string_walk.specs.Places.{Stands, EntryAt, CursorOf, RunBefore, Visits, Locates, numberOf};
+ghost use Rattle.string_walk.specs.Units.{unitAt};
+ghost use Rattle.string_walk.specs.Runs.{runAt, RunOf};
+
+// Where a pass over the strings has come to: the next string, the overflow entries before it, and the
+// run of kinds that the pass has reached.
+pub struct Cursor {
+    pub id: usize,
+    pub over: usize,
+    pub run: Run,
+}
+
+// One string of a pass, and where the pass goes on.
+pub struct Visited {
+    pub place: Place,
+    pub identifier: bool,
+    pub next: Cursor,
+}
+
+// A string that was looked for: its id and its place, or the number of the refusal.
+pub enum Location {
+    At(usize, Place),
+    Refused(u8),
+}
+
+// ---- strings
+
+// Small entry `i`.
+fn small_entry(image: &[u8], p: Places, i: usize) -> u64
+    requires { ⌜ Placed p (now image) ⌝ }
+    requires { ⌜ i < p .strings ⌝ }
+    ensures { λ r. ⌜ (r ≡ smallIn (p .layout) (now (image .entry)) i) × (r < 4294967296) ⌝ }
+{
+    bits::word(
+        image,
+        sections::entry_at(p.small_at, i, format::SMALL_ENTRY),
+    )
+}
+
+// The overflow entries before the next id, with `k` of them before this one, whose entry is `entry`.
+fn next_over(k: usize, entry: u64) -> usize
+    requires { ⌜ k < 4294967296 ⌝ }
+    ensures { λ r. ⌜ (r ≡ k + bit (isFull entry)) × (r ≤ k + 1) ⌝ }
+{
+    if string_tables::is_full(entry) {
+        return k + 1;
+    }
+    k
+}
+
+// The place of string `i`, by its small entry and the count of overflow entries before it.
+fn place_of(image: &[u8], p: Places, i: usize, k: usize, entry: u64) -> Place
+    requires { ⌜ EntryAt p (now image) i k entry ⌝ }
+    ensures { λ r. ⌜ Stands p (now (image .entry)) i r ⌝ }
+{
+    string_tables::place_of_entry(image, p.over_at, k, entry)
+}
+
+// The place of string `i`, with `k` overflow entries before it.
+fn place_at(image: &[u8], p: Places, i: usize, k: usize) -> Place
+    requires { ⌜ Laid p (now image) × (i < p .strings) ⌝ }
+    requires { ⌜ k ≡ overBefore (smallIn (p .layout) (now image)) i ⌝ }
+    ensures { λ r. ⌜ Stands p (now (image .entry)) i r ⌝ }
+{
+    let entry = small_entry(image, p, i);
+    place_of(image, p, i, k, entry)
+}
+
+// How many entries overflow before string `id`: the walk from the table's start.
+fn overflows_before(image: &[u8], p: Places, id: usize) -> usize
+    requires { ⌜ Placed p (now image) ⌝ }
+    requires { ⌜ id ≤ p .strings ⌝ }
+    ensures { λ r. ⌜ (r ≡ overBefore (smallIn (p .layout) (now (image .entry))) id) × (r ≤ id) ⌝ }
+{
+    let mut k = 0;
+    let mut i = 0;
+    while i < id {
+        k = next_over(k, small_entry(image, p, i));
+        i += 1;
+    }
+    k
+}
+
+// String `id`, located by the walk; 7 where there is none.
+pub fn locate(image: &[u8], p: Places, id: usize) -> Location
+    requires { ⌜ Laid p (now image) ⌝ }
+    ensures { λ r. ⌜ Locates p (now (image .entry)) id refusals.id r ⌝ }
+{
+    if p.strings <= id {
+        return Location::Refused(refusals::ID);
+    }
+    let k = overflows_before(image, p, id);
+    Location::At(id, place_at(image, p, id, k))
+}
+
+// The number of a refusal; 0 where a string was found.
+pub fn number_of(location: Location) -> u8
+    ensures { λ r. ⌜ r ≡ numberOf location ⌝ }
+{
+    match location {
+        Location::At(_, _) => 0,
+        Location::Refused(number) => number,
+    }
+}
+
+// Unit `i` of a string whose bytes start at `start`. A narrow byte is a unit.
+pub fn unit_at(image: &[u8], start: usize, wide: bool, i: usize) -> u64
+    requires { ⌜ start + i * unitSize wide + unitSize wide ≤ length (now image) ⌝ }
+    ensures { λ r. ⌜ (r ≡ unitAt (now (image .entry)) start wide i) × (r < 65536) ⌝ }
+{
+    if wide {
+        let at = start + i * 2;
+        return bits::wide(image[at]) + bits::wide(image[at + 1]) * 256;
+    }
+    bits::wide(image[start + i])
+}
+
+// ---- kinds
+
+// A run of kinds: how many there are up to it, the ids that it covers, whether they are identifiers,
+// and how many identifiers come before them.
+pub struct Run {
+    pub count: usize,
+    pub start: usize,
+    pub end: usize,
+    pub identifier: bool,
+    pub rank: usize,
+}
+
+// Where a pass over the kinds starts: a run that covers nothing.
+fn first_run() -> Run
+    ensures { λ r. ⌜ ((w : ℕ → ℕ) → r ≡ runAt w 0) ⌝ }
+{
+    Run {
+        count: 0,
+        start: 0,
+        end: 0,
+        identifier: false,
+        rank: 0,
+    }
+}
+
+// Kind word `k`.
+fn kind_word(image: &[u8], p: Places, k: usize) -> u64
+    requires { ⌜ Placed p (now image) ⌝ }
+    requires { ⌜ k < p .kinds ⌝ }
+    ensures { λ r. ⌜ r ≡ kindIn (p .layout) (now (image .entry)) k ⌝ }
+{
+    bits::word(image, sections::entry_at(p.kinds_at, k, format::KIND_ENTRY))
+}
+
+fn is_identifier_run(word: u64) -> bool
+    ensures { λ r. ⌜ r ≡ isIdentifierRun word ⌝ }
+{
+    format::value(word, format::KIND_IDENTIFIER) == 1
+}
+
+// The run behind a run.
+fn next_run(image: &[u8], p: Places, run: Run) -> Run
+    requires { ⌜ Laid p (now image) ⌝ }
+    requires { ⌜ RunOf p (now image) run × (run .count < p .kinds) ⌝ }
+    ensures { λ r. ⌜ (r ≡ runAt (kindIn (p .layout) (now (image .entry))) (run .count + 1)) × (r .start ≡ run .end)
+        × (r .count ≡ run .count + 1) ⌝ }
+{
+    let word = kind_word(image, p, run.count);
+    let size = format::value(word, format::KIND_RUN) as usize;
+    Run {
+        count: run.count + 1,
+        start: run.end,
+        end: run.end + size,
+        identifier: is_identifier_run(word),
+        rank: run.rank + format::if_set(run.identifier, run.end - run.start),
+    }
+}
+
+// The run that covers `id`, found from a run at or before it. A pass that goes on from run to run
+// reads each kind once.
+fn run_of(image: &[u8], p: Places, from: Run, id: usize) -> Run
+    requires { ⌜ RunBefore p (now image) from id ⌝ }
+    ensures { λ r. ⌜ RunOf p (now (image .entry)) r × (r .start ≤ id) × (id < r .end) ⌝ }
+{
+    let mut run = from;
+    while run.end <= id {
+        run = next_run(image, p, run);
+    }
+    run
+}
+
+// ---- passes
+
+// Where a pass over the strings starts.
+pub fn first_string() -> Cursor
+    ensures { λ r. ⌜ ((p : Places) (s : List ℕ) → Placed p s → CursorOf p s r) × (r .id ≡ 0) ⌝ }
+{
+    Cursor {
+        id: 0,
+        over: 0,
+        run: first_run(),
+    }
+}
+
+// The string that a pass has come to. Each entry and each kind is read once in all.
+pub fn string_at(image: &[u8], p: Places, at: Cursor) -> Visited
+    requires { ⌜ Laid p (now image) ⌝ }
+    requires { ⌜ CursorOf p (now image) at × (at .id < p .strings) ⌝ }
+    ensures { λ r. ⌜ Visits p (now (image .entry)) at r ⌝ }
+{
+    let entry = small_entry(image, p, at.id);
+    let place = place_of(image, p, at.id, at.over, entry);
+    let from = at.run;
+    let run = run_of(image, p, from, at.id);
+    let next = Cursor {
+        id: at.id + 1,
+        over: next_over(at.over, entry),
+        run,
+    };
+    Visited {
+        place,
+        identifier: run.identifier,
+        next,
+    }
+}
+
+// ---- one id
+
+pub fn is_identifier(image: &[u8], p: Places, id: usize) -> bool
+    requires { ⌜ Laid p (now image) ⌝ }
+    requires { ⌜ id < p .strings ⌝ }
+    ensures { λ r. ⌜ r ≡ isIdentifier (p .layout) (now (image .entry)) id ⌝ }
+{
+    run_of(image, p, first_run(), id).identifier
+}
+
+// The rank of `id` among identifiers: the number of its hash slot, if it is one.
+pub fn rank_of(image: &[u8], p: Places, id: usize) -> usize
+    requires { ⌜ Laid p (now image) ⌝ }
+    requires { ⌜ id < p .strings ⌝ }
+    ensures { λ r. ⌜ (r ≡ rankOf (p .layout) (now (image .entry)) id)
+        × (isIdentifier (p .layout) (now (image .entry)) id ≡ true → r < p .identifiers) ⌝ }
+{
+    let run = run_of(image, p, first_run(), id);
+    run.rank + format::if_set(run.identifier, id - run.start)
+}

@@ -1,0 +1,44 @@
+// The calls by their numbers, with arguments in the order of the judge's table, oracle/src/patches.
+use bits::Answer as Length;
+use test_frames::Answer;
+use test_frames::HEAD;
+use test_frames::Status;
+use test_frames::word;
+
+// A call's buffer before its output: the old value, the new one (or the body), the image.
+pub fn inputs_length(head: &[u8; HEAD]) -> usize {
+    word(head, 2) as usize + word(head, 3) as usize + word(head, 4) as usize
+}
+
+// The answer of a call. Its output is left as the function that it names leaves it.
+pub fn answer_call(head: &[u8; HEAD], inputs: &[u8], out: &mut [u8]) -> Answer {
+    let byte = test_frames::byte(head, 0);
+    let old_end = word(head, 2) as usize;
+    let new_end = old_end + word(head, 3) as usize;
+    if byte > 4 {
+        return test_frames::bare(Status::Unknown);
+    }
+    if new_end > inputs.len() {
+        return test_frames::bare(Status::Unknown);
+    }
+    let layout = input_records::layout_of(byte);
+    let id = word(head, 1) as usize;
+    let new = &inputs[old_end..new_end];
+    let image = &inputs[new_end..];
+    match test_frames::number(head) {
+        32 => lengthed(strings::patch_string_by_id(image, layout, id, new, out)),
+        33 => {
+            let old = &inputs[0..old_end];
+            lengthed(strings::patch_string_replace(image, layout, old, new, out))
+        }
+        34 => lengthed(functions::patch_function_bytes(image, layout, id, new, out)),
+        _ => test_frames::bare(Status::Unknown),
+    }
+}
+
+fn lengthed(answer: Length) -> Answer {
+    match answer {
+        Length::Length(length) => test_frames::few((length % 4294967296) as u32, 0, 0, 0),
+        Length::Refused(number) => test_frames::bare(Status::Refused(number)),
+    }
+}

@@ -1,0 +1,79 @@
+// hbc help: what each command takes and does.
+#include "commands.h"
+#include "print.h"
+
+#include <string.h>
+
+// ./hbc prints the same lines where the program is not built yet.
+static const char USAGE[] =
+#include "usage.inc"
+    ;
+
+static const char DEMO[] =
+    "usage: hbc demo\n"
+    "Builds a small image, patches two strings and a body of it, lists it before and after, and has sha1sum check its footer.\n";
+
+static const char LIST[] =
+    "usage: hbc list IMAGE [--layout LAYOUT] [--text]\n"
+    "       hbc list IMAGE LAYOUT\n"
+    "Lists the strings and functions of an image. The first line has the image's length and its numbers of strings and\n"
+    "functions. Then a line for each:\n"
+    "  s ID n|w s|i COUNT UNITS    a string: narrow or wide, an identifier (i) or not, its UTF-16 units in hex, - for none\n"
+    "  f ID o|p START SIZE         a function: with a large header (o) or plain, and where its body stands\n"
+    "\n"
+    "--text lists the same for people: string ID \"TEXT\" or identifier ID \"TEXT\". In a text, \\n, \\t, \\\", \\\\ and \\u with four\n"
+    "digits stand for what no terminal shows, as in JSON.\n";
+
+static const char PATCH[] =
+    "usage: hbc patch IMAGE OUT [--layout LAYOUT] [--dry-run] EDIT...\n"
+    "Writes the image with the edits to OUT, and prints what changed. An EDIT is one of these; they are applied in the order in\n"
+    "which they stand, all of them or none:\n"
+    "  --string ID=TEXT         string ID becomes TEXT, UTF-8 as typed\n"
+    "  --string-from ID=FILE    string ID becomes the bytes of FILE, which are UTF-8\n"
+    "  --body ID=FILE           the body of function ID becomes the bytes of FILE\n"
+    "\n"
+    "With no edit, the image gets its file length and its footer. OUT may be IMAGE. It is written whole or not at all: a new file\n"
+    "beside it takes its name, and its mode where it was there. Where OUT is a link, what it leads to is written; what is no\n"
+    "regular file is not replaced. Where OUT is -, the image goes to standard output, and what changed to standard error.\n"
+    "--dry-run judges and prints the same and writes nothing; it needs no OUT.\n";
+
+static const char VERIFY[] =
+    "usage: hbc verify IMAGE [--layout LAYOUT]\n"
+    "       hbc verify IMAGE LAYOUT\n"
+    "Tells whether an image is admitted, or why it is refused; whether its file length and its footer are right or stale (a patch\n"
+    "puts them right); its counts; and where each section starts and how many bytes it has.\n";
+
+static const char INSTALL[] =
+    "usage: ./hbc install DIR\n"
+    "A command of ./hbc in the repository. Below DIR: bin/hbc, this program, which needs no script then; lib/libhbc.a and\n"
+    "include/hbc.h for programs in C; lib/pkgconfig/hbc.pc; share/man/man1/hbc.1. They are for x86-64 Linux.\n";
+
+static const char HELP[] = "usage: hbc help [COMMAND]\nPrints the commands, or what one of them takes and does.\n";
+
+static const struct {
+    const char *name, *text;
+} TEXTS[] = {
+    {"demo", DEMO}, {"help", HELP}, {"install", INSTALL}, {"list", LIST}, {"patch", PATCH}, {"verify", VERIFY},
+};
+
+void print_usage(FILE *to) {
+    print(to, "%s", USAGE);
+    finish_printing(to);
+}
+
+static const char *text_of(const char *name) {
+    for (size_t i = 0; i < sizeof TEXTS / sizeof TEXTS[0]; i++)
+        if (strcmp(name, TEXTS[i].name) == 0) return TEXTS[i].text;
+    fail("no command '%s': hbc help", name);
+}
+
+int help(char **words) {
+    if (!*words) {
+        print_usage(stdout);
+        return 0;
+    }
+    if (words[1]) fail("help takes one command");
+    print(stdout, "%s", text_of(*words));
+    finish_printing(stdout);
+    return 0;
+}

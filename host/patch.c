@@ -1,0 +1,82 @@
+// hbc patch: an image with edits.
+#include "commands.h"
+#include "edits.h"
+#include "outputs.h"
+#include "print.h"
+#include "words.h"
+
+#include <stdlib.h>
+#include <string.h>
+
+// What the words ask for.
+struct job {
+    const char *image, *out;
+    uint8_t layout;
+    bool is_dry;
+    struct edits edits;
+};
+
+static struct bytes copy_of(const char *text) {
+    struct bytes copy = {room_for(strlen(text)), strlen(text)};
+    memcpy(copy.at, text, copy.length);
+    return copy;
+}
+
+static struct bytes read_value(const char *name) {
+    struct bytes value = read_file(name, VALUE_MOST);
+    if (value.length > VALUE_MOST) fail("'%s' has over %zu bytes", name, VALUE_MOST);
+    return value;
+}
+
+static void take_name(struct job *job, const char *name) {
+    if (!job->image) job->image = name;
+    else if (!job->out) job->out = name;
+    else fail("'%s' is one name too many: patch takes an image file and an output file", name);
+}
+
+static struct job take_job(char **left) {
+    enum { LAYOUT, TEXT, TEXT_FROM, BODY_FROM, DRY_RUN };
+    static const struct option OPTIONS[] = {LAYOUT_OPTION,
+                                            {"--string", "ID=TEXT"},
+                                            {"--string-from", "ID=FILE"},
+                                            {"--body", "ID=FILE"},
+                                            {"--dry-run", NULL},
+                                            {NULL, NULL}};
+    struct words words = {left, false};
+    struct job job = {0};
+    for (struct word word; take_word(&words, OPTIONS, &word);) {
+        const char *rest;
+        struct edit edit = {STRING, 0, {NULL, 0}};
+        switch (word.option) {
+        case NAME: take_name(&job, word.value); continue;
+        case LAYOUT: job.layout = layout_of(word.value); continue;
+        case DRY_RUN: job.is_dry = true; continue;
+        case BODY_FROM: edit.kind = BODY; break;
+        }
+        edit.id = take_id(word.value, &rest);
+        edit.value = word.option == TEXT ? copy_of(rest) : read_value(rest);
+        add_edit(&job.edits, edit);
+    }
+    if (!job.image || (!job.out && !job.is_dry)) fail("patch takes an image file, an output file and edits: hbc help patch");
+    return job;
+}
+
+int patch(char **words) {
+    struct job job = take_job(words);
+    struct output output = output_of(job.out ? job.out : "-");
+    struct bytes image = read_file(job.image, IMAGE_MOST), made;
+    bool is_made = apply_edits(job.image, image, job.layout, job.edits, &made);
+    if (is_made) {
+        if (!job.is_dry) write_output(output, made);
+        // where the image goes to standard output, what is said of it does not
+        FILE *to = job.is_dry || output.path ? stdout : stderr;
+        print_changes(to, image, made, job.layout, job.edits);
+        if (job.is_dry) print(to, "nothing is written: a dry run\n");
+        finish_printing(to);
+        free(made.at);
+    }
+    free(image.at);
+    free(output.path);
+    free_edits(job.edits);
+    return is_made ? 0 : REFUSED;
+}

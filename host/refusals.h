@@ -1,0 +1,19 @@
+// Refusals in words: the number, the name that document 01 gives it, and what it means.
+#ifndef HOST_REFUSALS_H
+#define HOST_REFUSALS_H
+
+#include "files.h"
+
+#include <stdbool.h>
+
+// Whether an answer of hbc.h is a refusal, and its number.
+bool is_refused(uint64_t answer);
+unsigned refusal_of(uint64_t answer);
+
+// Says WHO is refused, on standard error, without an end of line: more may be said of what was there.
+void print_refusal(const char *who, unsigned number);
+
+// Says that an image is refused, how long it is, and under which other layouts it would be taken.
+void print_refused_image(const char *name, struct bytes image, uint8_t layout, unsigned number);
+
+#endif
