@@ -1,5 +1,5 @@
 -- Checks judged in order. Where their numbers never go down, the answer is the least number of a check that is met.
-use mathlib.Core.Path.{_≡_, refl, sym, _∙_}
+use mathlib.Core.Path.{_≡_, refl}
 use mathlib.Core.Bool.{Bool, true, false}
 use mathlib.Core.Logic.{_⊎_, inl, inr, _↔_}
 use mathlib.Core.List.{List, [], _∷_, _++_}
@@ -87,24 +87,18 @@ module _ (m : ℕ) where
   unfolding judge
   judge-least k n [] t g = let z : _≡_ {A = ℕ} 0 1 = cc in absurd (omega arith)
   judge-least k n (c ∷ cs) t g =
-      let l : k ≤ c .number = from k c cs t in
       let a : leb (c .number) (c .number) ≡ true = le-leb (c .number) (c .number) (omega arith) in
-      go (c .met) refl (given-from (c .number) n (c ∷ cs) (rw a (rest k c cs t)) g)
+      let r = go (c .met) (given-from (c .number) n (c ∷ cs) (rw a (rest k c cs t)) g)
       (elim (either-or (both (eqb (c .number) n) (c .met)) (given n cs) g) [
         | inl h ↦ inl (both-1 (eqb (c .number) n) (c .met) h)
         | inr h ↦ inr (judge-least (c .number) n cs (rest k c cs t) h)
-      ])
-      l
+      ]) in
+      (omega (arith, from k c cs t, r .0), r .1)
     where
-      go : (b : Bool) → c .met ≡ b → c .number ≤ n → (c .met ≡ true) ⊎ ((c .number ≤ judge cs) × (judge cs ≤ n))
-          → k ≤ c .number
-          → (k ≤ pick b (c .number) (judge cs)) × (pick b (c .number) (judge cs) ≤ n)
-      go true e f w l = (l, f)
-      go false e f w l =
-          elim w [
-            | inl h ↦ let z : _≡_ {A = ℕ} 0 1 = cc (sym e ∙ h) in absurd (omega arith)
-            | inr h ↦ (omega (arith, h .0), h .1)
-          ]
+      go : (b : Bool) → c .number ≤ n → (b ≡ true) ⊎ ((c .number ≤ judge cs) × (judge cs ≤ n))
+          → (c .number ≤ pick b (c .number) (judge cs)) × (pick b (c .number) (judge cs) ≤ n)
+      go true f w = (omega arith, f)
+      go false f w = elim w [ inl h ↦ let z : _≡_ {A = ℕ} 0 1 = cc in absurd (omega arith) | inr h ↦ h ]
 
 -- ---- checks behind others
 
@@ -150,21 +144,30 @@ shows-map F G (c ∷ cs) w (f also r) = (λ t. w (c .number) (f t)) also shows-m
 
 -- ---- exactly: F names what is wrong, number by number
 
-module _ (F : ℕ → Type 0) (m : ℕ) (cs : List Check) (up : rising 1 m cs ≡ true) (shows : Shows F cs)
-    (gives : (n : ℕ) → F n → given n cs ≡ true) where
+-- the numbers go up from 1 to at most m, a check that is met shows F of its number, and where F holds a check of that number is met
+pub record Named (F : ℕ → Type 0) (m : ℕ) (cs : List Check) : Type 0 where
+  pub up : rising 1 m cs ≡ true
+  pub shows : Shows F cs
+  pub gives : (n : ℕ) → F n → given n cs ≡ true
+
+module _ (F : ℕ → Type 0) (m : ℕ) (cs : List Check) (x : Named F m cs) where
+  -- what F holds of is no less than the answer
+  least : (n : ℕ) → F n → (1 ≤ judge cs) × (judge cs ≤ n)
+  least n f = judge-least m 1 n cs (x .up) (x .gives n f)
+
   -- the answer is n where F holds of n and of no number before it
   pub judged-exactly : (n : ℕ) → 0 < n → judge cs ≡ n ↔ (F n × ((k : ℕ) → k < n → F k → ⊥))
   judged-exactly n h = (
-    λ e. (rw e at (judge-shows F cs shows (omega arith)), λ k l x. omega (arith, judge-least m 1 k cs up (gives k x))),
-    λ x. elim (below-or (judge cs) n) [
-      | inl l ↦ absurd (x .1 (judge cs) l (judge-shows F cs shows (omega (arith, judge-least m 1 n cs up (gives n (x .0))))))
-      | inr l ↦ omega (arith, judge-least m 1 n cs up (gives n (x .0)))
+    λ e. (rw e at (judge-shows F cs (x .shows) (omega arith)), λ k l f. omega (arith, least k f)),
+    λ f. elim (below-or (judge cs) n) [
+      | inl l ↦ absurd (f .1 (judge cs) l (judge-shows F cs (x .shows) (omega (arith, least n (f .0)))))
+      | inr l ↦ omega (arith, least n (f .0))
     ],
   )
 
   -- and 0 where it holds of none
   pub judged-none : judge cs ≡ 0 ↔ ((k : ℕ) → F k → ⊥)
   judged-none = (
-    λ e k x. omega (arith, judge-least m 1 k cs up (gives k x)),
-    λ x. elim (below-or 0 (judge cs)) [ inl l ↦ absurd (x (judge cs) (judge-shows F cs shows l)) | inr l ↦ omega arith ],
+    λ e k f. omega (arith, least k f),
+    λ f. elim (below-or 0 (judge cs)) [ inl l ↦ absurd (f (judge cs) (judge-shows F cs (x .shows) l)) | inr l ↦ omega arith ],
   )

@@ -36,22 +36,21 @@ use Rattle.serialize.specs.Parts as builder
 use Rattle.serialize.specs.Parts.{startOf, placeOf, storageOf, storageAt, largeHeader, headerOf, recordOf, smallTable, tailOf, minimal}
 use Rattle.serialize.specs.Builder.{allSmall, built}
 use Rattle.serialize.proofs.PartLaws.{length-largeHeader, large-offset, large-size, large-below}
-use Rattle.serialize.proofs.BuilderLaws.{Accepted, accepted, ascends-at}
+use Rattle.serialize.proofs.BuilderLaws.{BuildAccepted, accepted, ascends-at}
 use Rattle.image.specs.Sections.{functionsIn, stringsIn, debugIn, tailAt}
 use Rattle.image.specs.Kinds.{covered, identified, flagOf, isIdentifierRun}
 use Rattle.image.specs.Functions.{Func, recordIn, funcOf, bodyOf}
 use Rattle.image.specs.Functions as large
-use Rattle.image.specs.Admitted.{Admitted}
 use Rattle.edits.specs.Packing.{Carries}
 use Rattle.edits.specs.Rebuild.{smalls, pairs, overs, region, padded}
 use Rattle.edits.proofs.TableLaws.{size-smalls, overs-none, overs-next}
 use Rattle.edits.proofs.RebuildLaws.{Valid}
 use Rattle.edits.proofs.RegionLaws.{Bears, read-string, read-place}
 use Rattle.edits.proofs.KeepLaws.{PlacedIn, placed-as}
-use Rattle.image_parts.specs.Parts.{Parts, front, sections, laid, joined, Fits}
+use Rattle.image_parts.specs.Parts.{Parts, front, sections, laid, joined, PartsFit}
 use Rattle.image_parts.proofs.PartLaws.{length-front, length-sections, length-laid, length-joined, joined-sealed, header-number}
 use Rattle.image_parts.proofs.PartLaws.{functions-is, strings-is, debug-is, kinds-at, small-at, storage-at, tail-at, record-is}
-use Rattle.image_parts.proofs.PartLaws.{flag-is, tail-is, bears, joined-admitted}
+use Rattle.image_parts.proofs.PartLaws.{Matches, flag-is, tail-is, bears, joined-admitted}
 use Rattle.built_image.specs.Built.{given, bodyAt, function, partsOf, Built}
 
 -- ---- places that all fit small entries
@@ -122,7 +121,7 @@ module _ (v : ℕ) (text ends code : List ℕ) where
   p = partsOf v text ends code
 
   -- the version fits its word and the code is bytes, as the parameters' types say; nothing is refused
-  module _ (word : v < 2 ^ 32) (bytes : AllBelow 256 code) (size : ℕ) (ok : Accepted v text ends code size) where
+  module _ (word : v < 2 ^ 32) (bytes : AllBelow 256 code) (size : ℕ) (ok : BuildAccepted v text ends code size) where
     ascend : (i : ℕ) → i < n → startOf ends i ≤ startOf ends (suc i)
     ascend i h = rw add-one at (ascends-at ends i (ok .ascends) h)
 
@@ -187,10 +186,17 @@ module _ (v : ℕ) (text ends code : List ℕ) where
     headed : Headed v 1 1 0 n (length store) (p .header)
     unfolding headerOf
     headed =
-        header-read v (replicate (table.sourceHash .width) 0) 1 1 0 n (length store) (replicate table.headerLength 0) (omega arith) word
-        (omega arith) (omega arith) (omega arith) (omega (arith, limit, long-is)) (omega (arith, limit, long-is))
+        header-read v (replicate (table.sourceHash .width) 0) 1 1 0 n (length store) (replicate table.headerLength 0) (omega arith)
+        (record {
+          version = word;
+          functions = omega arith;
+          kinds = omega arith;
+          identifiers = omega arith;
+          strings = omega (arith, limit, long-is);
+          storage = omega (arith, limit, long-is);
+        })
 
-    fits : Fits Modern p
+    fits : PartsFit Modern p
     fits = record {
       long = length-head;
       magic = headed .magic;
@@ -365,13 +371,19 @@ module _ (v : ℕ) (text ends code : List ℕ) where
         (below-zeros 256 (omega arith) (up4 (begin + length code) - (begin + length code))))
         (large-below begin (length code))
 
-    admitted-in : Admitted Modern s
+    matches : Matches p (given text ends)
     unfolding headerOf
-    admitted-in =
-        joined-admitted Modern p fits (given text ends) carried valid words covers names
-        (header-below v (replicate (table.sourceHash .width) 0) 1 1 0 n (length store) (replicate table.headerLength 0)
-        (below-zeros 256 (omega arith) (table.sourceHash .width)) (below-zeros 256 (omega arith) table.headerLength))
-        (below-bytesOf 12 (recordOf far)) tail-below placed-in
+    matches = record {
+      carries = carried;
+      valid = valid;
+      words = words;
+      covers = covers;
+      names = names;
+      header = header-below v (replicate (table.sourceHash .width) 0) 1 1 0 n (length store) (replicate table.headerLength 0)
+          (below-zeros 256 (omega arith) (table.sourceHash .width)) (below-zeros 256 (omega arith) table.headerLength);
+      records = below-bytesOf 12 (recordOf far);
+      tail = tail-below;
+    }
 
     body-in : bodyOf Modern s 0 ≡ code
     unfolding bodyOf tailOf
@@ -389,10 +401,10 @@ module _ (v : ℕ) (text ends code : List ℕ) where
 
     joined-built : Built v text ends code s
     joined-built =
-        let b : Bears Modern (given text ends) (p .strings) s = bears Modern p fits (given text ends) carried valid in
+        let b : Bears Modern (given text ends) (p .strings) s = bears Modern p fits (given text ends) matches in
         let o : overs (placeOf ends) n ≡ 0 = overs-zero (placeOf ends) n small in
         record {
-          admitted = admitted-in;
+          admitted = joined-admitted Modern p fits (given text ends) matches placed-in;
           strings = strings-in;
           string = λ i h. read-string Modern (given text ends) (p .strings) s b i (rw strings-in h);
           place = λ i h. read-place Modern (given text ends) (p .strings) s b i (rw strings-in h);

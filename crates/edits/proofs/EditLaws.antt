@@ -87,35 +87,46 @@ record-bytes l whole s fs j = (below-bytesOf (table.recordRow l .width) (putReco
 
 -- ---- a large header's own words
 
--- what they can hold
-abbrev pub HeaderFits : Layout → Func → Type 0
-HeaderFits Modern f = (f .begin < 2 ^ 32) × (f .size < 2 ^ 32) × (f .info ≡ 0)
-HeaderFits (Legacy big sources) f = (f .begin < 2 ^ 32) × (f .size < 2 ^ 32) × (f .info < 2 ^ 32)
+-- what they can hold: modern ones no info place
+pub record HeaderFits (l : Layout) (f : Func) : Type 0 where
+  pub begin : f .begin < 2 ^ 32
+  pub size : f .size < 2 ^ 32
+  pub info : f .info < 2 ^ 32
+  pub modern : l ≡ Modern → f .info ≡ 0
 
 own-back : (l : Layout) (f : Func) (s : List ℕ) → f .large ≡ true → f .ptr + table.largeRow l .width ≤ length s → HeaderFits l f
     → header l (f .ptr) (writeAll (putHeader l f) s) ≡ f
 unfolding header putHeader writeAll
 own-back Modern f s t h k =
-    let (x, y, z) = k in
     let p : ℕ = f .ptr in
     let s₁ : List ℕ = sets s (p + 0) (bytesOf 4 (f .begin)) in
     let n₁ : length s₁ ≡ length s = length-sets s (p + 0) (bytesOf 4 (f .begin)) in
-    func-eq _ _ (sym t) refl
-    (numberAt-off s₁ (p + 12) 4 (f .size) (p + 0) 4 (omega arith) ∙ numberAt-back s (p + 0) 4 (f .begin) (omega arith) x)
-    (numberAt-back s₁ (p + 12) 4 (f .size) (omega arith) y)
-    (sym z)
+    func-eq _ _
+    (record {
+      large = sym t;
+      ptr = refl;
+      begin = numberAt-off s₁ (p + 12) 4 (f .size) (p + 0) 4 (omega arith)
+          ∙ numberAt-back s (p + 0) 4 (f .begin) (omega arith) (k .begin);
+      size = numberAt-back s₁ (p + 12) 4 (f .size) (omega arith) (k .size);
+      info = sym (k .modern refl);
+    })
 own-back (Legacy big sources) f s t h k =
-    let (x, y, z) = k in
     let p : ℕ = f .ptr in
     let s₁ : List ℕ = sets s (p + 0) (bytesOf 4 (f .begin)) in
     let n₁ : length s₁ ≡ length s = length-sets s (p + 0) (bytesOf 4 (f .begin)) in
     let s₂ : List ℕ = sets s₁ (p + 8) (bytesOf 4 (f .size)) in
     let n₂ : length s₂ ≡ length s₁ = length-sets s₁ (p + 8) (bytesOf 4 (f .size)) in
-    func-eq _ _ (sym t) refl
-    (numberAt-off s₂ (p + 16) 4 (f .info) (p + 0) 4 (omega arith) ∙ numberAt-off s₁ (p + 8) 4 (f .size) (p + 0) 4 (omega arith)
-    ∙ numberAt-back s (p + 0) 4 (f .begin) (omega arith) x)
-    (numberAt-off s₂ (p + 16) 4 (f .info) (p + 8) 4 (omega arith) ∙ numberAt-back s₁ (p + 8) 4 (f .size) (omega arith) y)
-    (numberAt-back s₂ (p + 16) 4 (f .info) (omega arith) z)
+    func-eq _ _
+    (record {
+      large = sym t;
+      ptr = refl;
+      begin = numberAt-off s₂ (p + 16) 4 (f .info) (p + 0) 4 (omega arith)
+          ∙ numberAt-off s₁ (p + 8) 4 (f .size) (p + 0) 4 (omega arith)
+          ∙ numberAt-back s (p + 0) 4 (f .begin) (omega arith) (k .begin);
+      size = numberAt-off s₂ (p + 16) 4 (f .info) (p + 8) 4 (omega arith)
+          ∙ numberAt-back s₁ (p + 8) 4 (f .size) (omega arith) (k .size);
+      info = numberAt-back s₂ (p + 16) 4 (f .info) (omega arith) (k .info);
+    })
 
 -- a header hangs only on its words
 pub header-ext : (l : Layout) (p : ℕ) (s t : List ℕ)
@@ -136,7 +147,7 @@ header-ext (Legacy big sources) p s t h =
 -- ---- the edit
 
 -- what a function must be for its record to hold it
-pub record Fits (l : Layout) (f : Func) : Type 0 where
+pub record RecordHolds (l : Layout) (f : Func) : Type 0 where
   pub asLarge : f .large ≡ true → PointerFits l (f .ptr) × HeaderFits l f
   pub asSmall : f .large ≡ false → SmallFits l f
 
@@ -170,19 +181,30 @@ edit-below l c s n w h =
     (record-bytes l (c .whole) s (c .func))
     (writes-below (c .words) (spliced c s) w (splice-below (c .a) (c .b) (c .new) s n h)))
 
+-- no two large headers of n functions share a byte
+abbrev pub HeadersApart : Layout → ℕ → (ℕ → Func) → Type 0
+HeadersApart l n fs =
+    (i j : ℕ) → i < n → j < n → i ≢ j → fs i .large ≡ true → fs j .large ≡ true
+    → Disjoint (fs i .ptr) (table.largeRow l .width) (fs j .ptr) (table.largeRow l .width)
+
 -- what it needs: the records before the floor, the floor at or before the bytes that are replaced; header words past the floor, within the
 -- result, apart
 pub record Sound (l : Layout) (c : Change) (s : List ℕ) : Type 0 where
   pub records : kindsAt l s ≤ c .floor
   pub under : c .floor ≤ c .a
+  pub start : c .a ≤ length s
   pub fits : c .a ≤ length (spliced c s)
   pub front : (p : ℕ) → table.recordRow l .at ≤ p → Outside p (c .words)
   pub past : (j : ℕ) → j < functionsIn s → c .func j .large ≡ true → c .floor ≤ c .func j .ptr
   pub within : (j : ℕ) → j < functionsIn s → c .func j .large ≡ true
       → c .func j .ptr + table.largeRow l .width ≤ length (spliced c s)
-  pub apart : (i j : ℕ) → i < functionsIn s → j < functionsIn s → i ≢ j → c .func i .large ≡ true
-      → c .func j .large ≡ true
-      → Disjoint (c .func i .ptr) (table.largeRow l .width) (c .func j .ptr) (table.largeRow l .width)
+  pub apart : HeadersApart l (functionsIn s) (c .func)
+
+-- function i of the image has a place for the new one
+pub record Replaced (l : Layout) (c : Change) (s : List ℕ) (i : ℕ) : Type 0 where
+  pub known : i < functionsIn s
+  pub fits : RecordHolds l (c .func i)
+  pub flag : isLarge l (recordIn l s i) ≡ c .func i .large
 
 module _ (l : Layout) (c : Change) (s : List ℕ) (ok : Sound l c s) where
   abbrev fs : ℕ → Func
@@ -214,9 +236,10 @@ module _ (l : Layout) (c : Change) (s : List ℕ) (ok : Sound l c s) where
       ∙ writes-off (c .words) (spliced c s) p (ok .front p (omega (arith, records-at l, ordered l s .kinds)))
 
   -- a byte between the records and the floor stays
-  pub edit-kept : c .a ≤ length s → (p : ℕ) → kindsAt l s ≤ p → p < c .floor → getD out p 0 ≡ getD s p 0
-  edit-kept f p h k =
-      edit-frame p h (λ j q t u. omega (arith, ok .past j q t)) ∙ splice-low (c .a) (c .b) (c .new) s f p (omega (arith, ok .under))
+  pub edit-kept : (p : ℕ) → kindsAt l s ≤ p → p < c .floor → getD out p 0 ≡ getD s p 0
+  edit-kept p h k =
+      edit-frame p h (λ j q t u. omega (arith, ok .past j q t))
+      ∙ splice-low (c .a) (c .b) (c .new) s (ok .start) p (omega (arith, ok .under))
 
   -- a byte before the records is what the header's writes leave
   pub edit-front : (p : ℕ) → p < table.recordRow l .at → getD out p 0 ≡ getD worded p 0
@@ -266,19 +289,19 @@ module _ (l : Layout) (c : Change) (s : List ℕ) (ok : Sound l c s) where
       ∙ own-back l (fs i) recorded t (simp length-writes (ok .within i h t)) f
 
   -- function i of the result is the new function i
-  pub edit-func : AllBelow 256 s → (i : ℕ) → i < functionsIn s → Fits l (fs i) → isLarge l (recordIn l s i) ≡ fs i .large
-      → funcOf l out i ≡ fs i
+  pub edit-func : AllBelow 256 s → (i : ℕ) → Replaced l c s i → funcOf l out i ≡ fs i
   unfolding funcOf
-  edit-func bytes i h f e =
+  edit-func bytes i re =
       let n : ℕ = putRecord l (c .whole) (fs i) (recordIn l s i) in
-      ap (λ (m : ℕ). pick (isLarge l m) (header l (pointer l m) out) (small l m)) (record-back bytes i h)
-      ∙ ap (λ (x : Bool). pick x (header l (pointer l n) out) (small l n)) (record-flag l (c .whole) (fs i) (recordIn l s i) ∙ e)
+      ap (λ (m : ℕ). pick (isLarge l m) (header l (pointer l m) out) (small l m)) (record-back bytes i (re .known))
+      ∙ ap (λ (x : Bool). pick x (header l (pointer l n) out) (small l n))
+      (record-flag l (c .whole) (fs i) (recordIn l s i) ∙ re .flag)
       ∙ go (fs i .large) refl
     where
       go : (x : Bool) → fs i .large ≡ x
           → pick x (header l (pointer l (putRecord l (c .whole) (fs i) (recordIn l s i))) out)
           (small l (putRecord l (c .whole) (fs i) (recordIn l s i))) ≡ fs i
       go true t =
-          ap (λ (p : ℕ). header l p out) (record-pointer l (c .whole) (fs i) (recordIn l s i) t (f .asLarge t .0))
-          ∙ header-back i h t (f .asLarge t .1)
-      go false t = record-small l (c .whole) (fs i) (recordIn l s i) t (f .asSmall t)
+          ap (λ (p : ℕ). header l p out) (record-pointer l (c .whole) (fs i) (recordIn l s i) t (re .fits .asLarge t .0))
+          ∙ header-back i (re .known) t (re .fits .asLarge t .1)
+      go false t = record-small l (c .whole) (fs i) (recordIn l s i) t (re .fits .asSmall t)

@@ -25,38 +25,36 @@ use Rattle.image.specs.Admitted.{Disjoint, Admitted}
 use Rattle.edits.specs.Packing.{Packed}
 use Rattle.edits.specs.Rebuild.{smalls, pairs, region, padded, rebuild}
 use Rattle.image.proofs.PlaceLaws.{records-at, ordered}
-use Rattle.edits.proofs.EditLaws.{edit-below, Change, edited}
+use Rattle.edits.proofs.EditLaws.{edit-below, Change, edited, HeadersApart}
 use Rattle.edits.proofs.ReadLaws.{Agree, number-agree, functions-same, identifierCount-same, stringCount-same}
 use Rattle.edits.proofs.ReadLaws.{covered-all, identified-all, func-same, counts-of, overflowCount-same, storageSize-same}
 use Rattle.edits.proofs.ReadLaws.{storageAt-same, tailAt-same, small-same, before-same, place-same}
-use Rattle.edits.proofs.BodyLaws.{movedBy, Parted, Holds, place-in, header-in, body-in, info-in, headers-apart, body-apart}
-use Rattle.edits.proofs.BodyLaws.{length-out, func-out}
+use Rattle.edits.proofs.BodyLaws.{movedBy, Parted, Holds, HeadersClear, place-in, header-in, body-in, info-in, headers-apart}
+use Rattle.edits.proofs.BodyLaws.{body-apart, length-out, func-out}
 use Rattle.edits.proofs.TableLaws.{smalls-below, pairs-below}
 use Rattle.edits.proofs.RebuildLaws.{beside, newRegion, Rebuilds, rebuilding, parted, holds, length-rebuilt, rebuilt-front}
 use Rattle.edits.proofs.RebuildLaws.{counts-kept, kinds-kept}
-use Rattle.edits.proofs.RegionLaws.{Bears, read-within, read-narrow, read-overflows, read-index}
+use Rattle.edits.proofs.RegionLaws.{NarrowIn, Bears, read-within, read-narrow, read-overflows, read-index}
 use Rattle.edits.proofs.StringLaws.{tail-is, rebuilt-debug, bears}
 
 -- ---- functions
 
 -- what admission says of n functions and the debug place, in an image of `long` bytes
-pub record Placed (l : Layout) (n tail long debugPlace : ℕ) (fs : ℕ → Func) : Type 0 where
+pub record FunctionsPlaced (l : Layout) (n tail long debugPlace : ℕ) (fs : ℕ → Func) : Type 0 where
   pub header : (i : ℕ) → i < n → fs i .large ≡ true → (tail ≤ fs i .ptr)
       × (fs i .ptr + table.largeRow l .width + footerLength ≤ long)
   pub body : (i : ℕ) → i < n → (tail ≤ fs i .begin) × (fs i .begin + fs i .size + footerLength ≤ long)
   pub info : (i : ℕ) → i < n → fs i .info ≢ 0 → (tail ≤ fs i .info) × (fs i .info + 0 + footerLength ≤ long)
   pub debug : debugPlace ≢ 0 → (tail ≤ debugPlace) × (debugPlace + 0 + footerLength ≤ long)
-  pub apart : (i j : ℕ) → i < n → j < n → i ≢ j → fs i .large ≡ true → fs j .large ≡ true
-      → Disjoint (fs i .ptr) (table.largeRow l .width) (fs j .ptr) (table.largeRow l .width)
-  pub clear : (i j : ℕ) → i < n → j < n → 0 < fs i .size → fs j .large ≡ true
-      → Disjoint (fs j .ptr) (table.largeRow l .width) (fs i .begin) (fs i .size)
+  pub apart : HeadersApart l n fs
+  pub clear : HeadersClear l n fs
 
 abbrev pub PlacedIn : Layout → List ℕ → Type 0
-PlacedIn l s = Placed l (functionsIn s) (tailAt l s) (length s) (debugIn l s) (funcOf l s)
+PlacedIn l s = FunctionsPlaced l (functionsIn s) (tailAt l s) (length s) (debugIn l s) (funcOf l s)
 
 -- it holds of the same functions
 pub placed-as : (l : Layout) (n tail long d : ℕ) (fs gs : ℕ → Func) → ((j : ℕ) → j < n → fs j ≡ gs j)
-    → Placed l n tail long d fs → Placed l n tail long d gs
+    → FunctionsPlaced l n tail long d fs → FunctionsPlaced l n tail long d gs
 placed-as l n tail long d fs gs e pl = record {
   header = λ i h.
       subst (λ (f : Func). f .large ≡ true → (tail ≤ f .ptr) × (f .ptr + table.largeRow l .width + footerLength ≤ long)) (e i h)
@@ -77,23 +75,28 @@ placed-as l n tail long d fs gs e pl = record {
       (pl .clear i j h k z));
 }
 
+-- the header of the result of an edit: as many functions, the tail and the debug offset where they go
+pub record HeaderMoved (l : Layout) (s : List ℕ) (c : Change) : Type 0 where
+  pub functions : functionsIn (edited l c s) ≡ functionsIn s
+  pub tail : tailAt l (edited l c s) ≡ c .tail
+  pub debug : debugIn l (edited l c s) ≡ movedBy c (debugIn l s)
+  pub beside : Side (c .a) (c .b) (debugIn l s) 0
+
 -- after an edit that moves what lies behind it
-pub edit-placed : (l : Layout) (s : List ℕ) (ad : Admitted l s) (c : Change) (pt : Parted l s c) (hd : Holds l s c)
-    → functionsIn (edited l c s) ≡ functionsIn s → tailAt l (edited l c s) ≡ c .tail
-    → debugIn l (edited l c s) ≡ movedBy c (debugIn l s)
-    → Side (c .a) (c .b) (debugIn l s) 0 → PlacedIn l (edited l c s)
-edit-placed l s ad c pt hd count tailed debugged beside =
-    rw (count, tailed, debugged, length-out l s ad c pt)
+pub edit-placed : (l : Layout) (s : List ℕ) (c : Change) (pt : Parted l s c) (hd : Holds l s c) → HeaderMoved l s c
+    → PlacedIn l (edited l c s)
+edit-placed l s c pt hd he =
+    rw (he .functions, he .tail, he .debug, length-out l s c pt)
     (placed-as l (functionsIn s) (c .tail) (length s - c .b + (c .a + length (c .new))) (movedBy c (debugIn l s)) (c .func)
     (funcOf l (edited l c s))
-    (λ j h. sym (func-out l s ad c pt hd j h))
+    (λ j h. sym (func-out l s c pt hd j h))
     (record {
-      header = header-in l s ad c pt;
-      body = body-in l s ad c pt;
-      info = info-in l s ad c pt;
-      debug = place-in l s ad c pt (debugIn l s) beside (ad .debug);
-      apart = headers-apart l s ad c pt;
-      clear = body-apart l s ad c pt;
+      header = header-in l s c pt;
+      body = body-in l s c pt;
+      info = info-in l s c pt;
+      debug = place-in l s c pt (debugIn l s) (record { side = he .beside; tail = pt .admitted .debug });
+      apart = headers-apart l s c pt;
+      clear = body-apart l s c pt;
     }))
 
 -- ---- kinds and strings
@@ -106,8 +109,7 @@ pub record Tabled (l : Layout) (s : List ℕ) : Type 0 where
   pub numbered : (i : ℕ) → i < stringsIn s → isFull (smallIn l s i) ≡ true
       → valueOf table.entryOffset (smallIn l s i) ≡ overBefore (smallIn l s) i
   pub stored : (i : ℕ) → i < stringsIn s → placeAt l s i .at + sizeOf (placeAt l s i) ≤ storageIn s
-  pub narrow : (i : ℕ) → i < stringsIn s → placeAt l s i .wide ≡ false → (j : ℕ) → j < placeAt l s i .count
-      → getD s (storageAt l s + placeAt l s i .at + j) 0 < 0x80
+  pub narrow : NarrowIn l s s
 
 -- it holds where tables and storage are those of packed strings
 pub bears-tabled : (l : Layout) (f : ℕ → Str) (q : Packed) (s : List ℕ) → Bears l f q s
@@ -122,46 +124,55 @@ bears-tabled l f q s b c i = record {
   narrow = read-narrow l f q s b;
 }
 
--- it hangs only on the header's words, the kinds and the tables, and on the bytes of narrow strings
-module _ (l : Layout) (s t : List ℕ) (ad : Admitted l s)
-    (words : Agree s t (table.functionCount .at) (table.storageSize .at + table.storageSize .width))
-    (kinds : Agree s t (kindsAt l s) (hashesAt l s)) (tables : Agree s t (smallAt l s) (storageAt l s))
-    (ascii : (i : ℕ) → i < stringsIn s → placeAt l s i .wide ≡ false → (j : ℕ) → j < placeAt l s i .count
-    → getD t (storageAt l s + placeAt l s i .at + j) 0 < 0x80) where
-  pub tabled-same : Tabled l t
-  tabled-same =
-      let counts = counts-of l s t words in
-      let sc = stringCount-same l s t counts in
-      let known : (i : ℕ) → i < stringsIn t → i < stringsIn s = λ i h. rw sc at h in
-      let place = place-same l s t words tables (ad .overflows) in
-      record {
-        covers = covered-all l s t counts kinds ∙ ad .covers ∙ sym sc;
-        identifiers = identified-all l s t counts kinds ∙ ad .identifiers ∙ sym (identifierCount-same l s t counts);
-        overflows = rw (sc, overflowCount-same l s t words) (before-same l s t words tables (stringsIn s) (omega arith) ∙ ad .overflows);
-        numbered = λ i h f.
-            let e = small-same l s t words tables i (known i h) in
-            ap (valueOf table.entryOffset) e
-            ∙ ad .numbered i (known i h) (ap isFull (sym e) ∙ f)
-            ∙ sym (before-same l s t words tables i (omega (arith, known i h)));
-        stored = λ i h. rw (place i (known i h), storageSize-same l s t words) (ad .stored i (known i h));
-        narrow = λ i h.
-            subst (λ (p : Place). p .wide ≡ false → (j : ℕ) → j < p .count → getD t (storageAt l t + p .at + j) 0 < 0x80)
-            (sym (place i (known i h)))
-            (rw (storageAt-same l s t words) (ascii i (known i h)));
-      }
+-- the same words of the header, kinds and tables, and ASCII in narrow strings
+pub record SameTables (l : Layout) (s t : List ℕ) : Type 0 where
+  pub words : Agree s t (table.functionCount .at) (table.storageSize .at + table.storageSize .width)
+  pub kinds : Agree s t (kindsAt l s) (hashesAt l s)
+  pub tables : Agree s t (smallAt l s) (storageAt l s)
+  pub ascii : NarrowIn l s t
+
+-- it hangs only on these
+pub tabled-same : (l : Layout) (s t : List ℕ) → Admitted l s → SameTables l s t → Tabled l t
+tabled-same l s t ad sm =
+    let words = sm .words in
+    let tables = sm .tables in
+    let counts = counts-of l s t words in
+    let sc = stringCount-same l s t counts in
+    let known : (i : ℕ) → i < stringsIn t → i < stringsIn s = λ i h. rw sc at h in
+    let place = place-same l s t (record { words = words; tables = tables; counted = ad .overflows }) in
+    record {
+      covers = covered-all l s t counts (sm .kinds) ∙ ad .covers ∙ sym sc;
+      identifiers = identified-all l s t counts (sm .kinds) ∙ ad .identifiers ∙ sym (identifierCount-same l s t counts);
+      overflows = rw (sc, overflowCount-same l s t words) (before-same l s t words tables (stringsIn s) (omega arith) ∙ ad .overflows);
+      numbered = λ i h f.
+          let e = small-same l s t words tables i (known i h) in
+          ap (valueOf table.entryOffset) e
+          ∙ ad .numbered i (known i h) (ap isFull (sym e) ∙ f)
+          ∙ sym (before-same l s t words tables i (omega (arith, known i h)));
+      stored = λ i h. rw (place i (known i h), storageSize-same l s t words) (ad .stored i (known i h));
+      narrow = λ i h.
+          subst (λ (p : Place). p .wide ≡ false → (j : ℕ) → j < p .count → getD t (storageAt l t + p .at + j) 0 < 0x80)
+          (sym (place i (known i h)))
+          (rw (storageAt-same l s t words) (sm .ascii i (known i h)));
+    }
 
 -- ---- both, with sizes and magic number, are all of admission
 
-pub admitted-of : (l : Layout) (s : List ℕ) → AllBelow 256 s → table.headerLength + footerLength ≤ length s
-    → length s ≤ sizeLimit
-    → numberHeld table.magic s ≡ table.magicNumber → tailAt l s + footerLength ≤ length s
-    → Tabled l s → PlacedIn l s → Admitted l s
-admitted-of l s b x y m r tb pl = record {
-  bytes = b;
-  least = x;
-  most = y;
-  magic = m;
-  room = r;
+-- what admission says of the bytes, the length and the magic number
+pub record WholeSized (l : Layout) (s : List ℕ) : Type 0 where
+  pub bytes : AllBelow 256 s
+  pub least : table.headerLength + footerLength ≤ length s
+  pub most : length s ≤ sizeLimit
+  pub magic : numberHeld table.magic s ≡ table.magicNumber
+  pub room : tailAt l s + footerLength ≤ length s
+
+pub admitted-of : (l : Layout) (s : List ℕ) → WholeSized l s → Tabled l s → PlacedIn l s → Admitted l s
+admitted-of l s sz tb pl = record {
+  bytes = sz .bytes;
+  least = sz .least;
+  most = sz .most;
+  magic = sz .magic;
+  room = sz .room;
   covers = tb .covers;
   identifiers = tb .identifiers;
   overflows = tb .overflows;
@@ -183,30 +194,33 @@ pub record Same (l : Layout) (s t : List ℕ) : Type 0 where
   pub long : length t ≡ length s
   pub bytes : AllBelow 256 t
   pub magic : Agree s t (table.magic .at) (table.magic .width)
-  pub words : Agree s t (table.functionCount .at) (table.storageSize .at + table.storageSize .width)
+  pub tabled : SameTables l s t
   pub debug : debugIn l t ≡ debugIn l s
   pub records : Agree s t (table.recordRow l .at) (kindsAt l s)
-  pub kinds : Agree s t (kindsAt l s) (hashesAt l s)
-  pub tables : Agree s t (smallAt l s) (storageAt l s)
-  pub ascii : (i : ℕ) → i < stringsIn s → placeAt l s i .wide ≡ false → (j : ℕ) → j < placeAt l s i .count
-      → getD t (storageAt l s + placeAt l s i .at + j) 0 < 0x80
   pub headers : (i : ℕ) → i < functionsIn s → funcOf l s i .large ≡ true
       → Agree s t (funcOf l s i .ptr) (funcOf l s i .ptr + table.largeRow l .width)
 
 module _ (l : Layout) (s t : List ℕ) (ad : Admitted l s) (sm : Same l s t) where
   -- its functions are the same
   pub funcs-same : (i : ℕ) → i < functionsIn s → funcOf l t i ≡ funcOf l s i
-  funcs-same i h = func-same l s t (counts-of l s t (sm .words)) (sm .records) i h (sm .headers i h)
+  funcs-same i h =
+      func-same l s t (record { counts = counts-of l s t (sm .tabled .words); records = sm .records }) i h (sm .headers i h)
 
   -- it is admitted
   pub same-admitted : Admitted l t
   same-admitted =
       let n = sm .long in
-      let tl = tailAt-same l s t (sm .words) in
-      admitted-of l t (sm .bytes) (rw n (ad .least)) (rw n (ad .most))
-      (number-agree s t 0 8 (sm .magic) 0 8 (omega arith) (omega arith) ∙ ad .magic) (rw (n, tl) (ad .room))
-      (tabled-same l s t ad (sm .words) (sm .kinds) (sm .tables) (sm .ascii))
-      (rw (functions-same l s t (counts-of l s t (sm .words)), tl, n, sm .debug)
+      let tl = tailAt-same l s t (sm .tabled .words) in
+      admitted-of l t
+      (record {
+        bytes = sm .bytes;
+        least = rw n (ad .least);
+        most = rw n (ad .most);
+        magic = number-agree s t 0 8 (sm .magic) 0 8 (omega arith) (omega arith) ∙ ad .magic;
+        room = rw (n, tl) (ad .room);
+      })
+      (tabled-same l s t ad (sm .tabled))
+      (rw (functions-same l s t (counts-of l s t (sm .tabled .words)), tl, n, sm .debug)
       (placed-as l (functionsIn s) (tailAt l s) (length s) (debugIn l s) (funcOf l s) (funcOf l t) (λ j h. sym (funcs-same j h))
       (record { header = ad .header; body = ad .body; info = ad .info; debug = ad .debug; apart = ad .apart; clear = ad .clear })))
 
@@ -234,9 +248,13 @@ module _ (l : Layout) (ps : Packed) (s : List ℕ) (ad : Admitted l s) (f : ℕ 
   rebuilt-placed : PlacedIn l (rebuild l ps s)
   unfolding rebuild
   rebuilt-placed =
-      edit-placed l s ad (rebuilding l ps s) (parted l ps s ad) (holds l ps s ad f ok)
-      (functions-same l s (rebuild l ps s) (counts-kept l ps s ad)) (tail-is l ps s ad f ok) (rebuilt-debug l ps s ad f ok)
-      (beside l s (debugIn l s) (λ z. ad .debug z .0))
+      edit-placed l s (rebuilding l ps s) (parted l ps s ad) (holds l ps s ad f ok)
+      (record {
+        functions = functions-same l s (rebuild l ps s) (counts-kept l ps s ad);
+        tail = tail-is l ps s ad f ok;
+        debug = rebuilt-debug l ps s ad f ok;
+        beside = beside l s (debugIn l s) (λ z. ad .debug z .0);
+      })
 
   rebuilt-tabled : Tabled l (rebuild l ps s)
   rebuilt-tabled =
@@ -252,6 +270,11 @@ module _ (l : Layout) (ps : Packed) (s : List ℕ) (ad : Admitted l s) (f : ℕ 
       let t : List ℕ = rebuild l ps s in
       let o = ordered l s in
       let n = length-rebuilt l ps s ad in
-      admitted-of l t rebuilt-below (omega (arith, n, ad .room, records-at l, o .kinds, o .hashes, o .small)) (ok .limit)
-      (number-agree s t 0 8 (rebuilt-front l ps s ad 0 8 (omega arith)) 0 8 (omega arith) (omega arith) ∙ ad .magic)
-      (omega (arith, n, tail-is l ps s ad f ok, ad .room)) rebuilt-tabled rebuilt-placed
+      admitted-of l t
+      (record {
+        bytes = rebuilt-below;
+        least = omega (arith, n, ad .room, records-at l, o .kinds, o .hashes, o .small);
+        most = ok .limit;
+        magic = number-agree s t 0 8 (rebuilt-front l ps s ad 0 8 (omega arith)) 0 8 (omega arith) (omega arith) ∙ ad .magic;
+        room = omega (arith, n, tail-is l ps s ad f ok, ad .room);
+      }) rebuilt-tabled rebuilt-placed

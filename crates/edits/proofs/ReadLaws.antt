@@ -110,31 +110,36 @@ module _ (l : Layout) (s t : List ℕ) (counts : Agree s t (table.functionCount 
     unfolding rankOf
     rank-same i = sum-ext i (λ j. bit (isIdentifier l t j)) (λ j. bit (isIdentifier l s j)) (λ j h. ap bit (identifier-same j))
 
-  -- ---- functions
+-- ---- functions
 
-  module _ (records : Agree s t (table.recordRow l .at) (kindsAt l s)) where
-    record-same : (i : ℕ) → i < functionsIn s → recordIn l t i ≡ recordIn l s i
-    unfolding recordIn
-    record-same i h =
-        number-agree s t (table.recordRow l .at) (kindsAt l s) records (recordAt l i) (table.recordRow l .width) (omega arith)
-        (record-in l s i h)
+-- the same counts and records
+pub record SameRecords (l : Layout) (s t : List ℕ) : Type 0 where
+  pub counts : Agree s t (table.functionCount .at) (table.overflowCount .at)
+  pub records : Agree s t (table.recordRow l .at) (kindsAt l s)
 
-    pub func-same : (i : ℕ) → i < functionsIn s
-        → (funcOf l s i .large ≡ true → Agree s t (funcOf l s i .ptr) (funcOf l s i .ptr + table.largeRow l .width))
-        → funcOf l t i ≡ funcOf l s i
-    unfolding funcOf
-    func-same i h words =
-        ap (λ (n : ℕ). pick (isLarge l n) (header l (pointer l n) t) (small l n)) (record-same i h)
-        ∙ go (isLarge l (recordIn l s i)) refl
-      where
-        go : (b : Bool) → isLarge l (recordIn l s i) ≡ b
-            → pick b (header l (pointer l (recordIn l s i)) t) (small l (recordIn l s i))
-            ≡ pick b (header l (pointer l (recordIn l s i)) s) (small l (recordIn l s i))
-        go true e =
-            let q = func-pointer l s i e in
-            let p = pointer l (recordIn l s i) in
-            header-ext l p t s (λ k g. words (sym (func-flag l s i) ∙ e) (p + k) (omega (arith, q)) (omega (arith, q)))
-        go false e = refl
+module _ (l : Layout) (s t : List ℕ) (sm : SameRecords l s t) where
+  record-same : (i : ℕ) → i < functionsIn s → recordIn l t i ≡ recordIn l s i
+  unfolding recordIn
+  record-same i h =
+      number-agree s t (table.recordRow l .at) (kindsAt l s) (sm .records) (recordAt l i) (table.recordRow l .width) (omega arith)
+      (record-in l s i h)
+
+  pub func-same : (i : ℕ) → i < functionsIn s
+      → (funcOf l s i .large ≡ true → Agree s t (funcOf l s i .ptr) (funcOf l s i .ptr + table.largeRow l .width))
+      → funcOf l t i ≡ funcOf l s i
+  unfolding funcOf
+  func-same i h words =
+      ap (λ (n : ℕ). pick (isLarge l n) (header l (pointer l n) t) (small l n)) (record-same i h)
+      ∙ go (isLarge l (recordIn l s i)) refl
+    where
+      go : (b : Bool) → isLarge l (recordIn l s i) ≡ b
+          → pick b (header l (pointer l (recordIn l s i)) t) (small l (recordIn l s i))
+          ≡ pick b (header l (pointer l (recordIn l s i)) s) (small l (recordIn l s i))
+      go true e =
+          let q = func-pointer l s i e in
+          let p = pointer l (recordIn l s i) in
+          header-ext l p t s (λ k g. words (sym (func-flag l s i) ∙ e) (p + k) (omega (arith, q)) (omega (arith, q)))
+      go false e = refl
 
 -- ---- strings
 
@@ -177,19 +182,26 @@ module _ (l : Layout) (s t : List ℕ)
     pub before-same : (i : ℕ) → i ≤ stringsIn s → overBefore (smallIn l t) i ≡ overBefore (smallIn l s) i
     before-same i h = over-ext (smallIn l t) (smallIn l s) i (λ j k. small-same j (omega arith))
 
-    module _ (counted : overBefore (smallIn l s) (stringsIn s) ≡ overflowsIn s) where
-      pub place-same : (i : ℕ) → i < stringsIn s → placeAt l t i ≡ placeAt l s i
-      unfolding placeAt
-      place-same i h =
-          sym (locate-ext (smallIn l s) (smallIn l t) (overIn l s) (overIn l t) (stringsIn s) i h
-          (λ j k. sym (small-same j k)) (λ j k. sym (pair-same j (omega (arith, counted)))))
+-- the same words of the header and string tables, with as many overflow entries as the header says
+pub record SameEntries (l : Layout) (s t : List ℕ) : Type 0 where
+  pub words : Agree s t (table.functionCount .at) (table.storageSize .at + table.storageSize .width)
+  pub tables : Agree s t (smallAt l s) (storageAt l s)
+  pub counted : overBefore (smallIn l s) (stringsIn s) ≡ overflowsIn s
 
-      pub string-same : (i : ℕ) → i < stringsIn s
-          → Agree s t (storageAt l s + placeAt l s i .at) (storageAt l s + placeAt l s i .at + sizeOf (placeAt l s i))
-          → stringOf l t i ≡ stringOf l s i
-      unfolding stringOf
-      string-same i h same =
-          rw (place-same i h, storageAt-same)
-          (ap (λ (b : List ℕ). record { wide = placeAt l s i .wide; bytes = b })
-          (bytes-agree s t (storageAt l s + placeAt l s i .at) (storageAt l s + placeAt l s i .at + sizeOf (placeAt l s i)) same
-          (storageAt l s + placeAt l s i .at) (sizeOf (placeAt l s i)) (omega arith) (omega arith)))
+module _ (l : Layout) (s t : List ℕ) (sm : SameEntries l s t) where
+  pub place-same : (i : ℕ) → i < stringsIn s → placeAt l t i ≡ placeAt l s i
+  unfolding placeAt
+  place-same i h =
+      sym (locate-ext (smallIn l s) (smallIn l t) (overIn l s) (overIn l t) (stringsIn s) i h
+      (λ j k. sym (small-same l s t (sm .words) (sm .tables) j k))
+      (λ j k. sym (pair-same l s t (sm .words) (sm .tables) j (omega (arith, sm .counted)))))
+
+  pub string-same : (i : ℕ) → i < stringsIn s
+      → Agree s t (storageAt l s + placeAt l s i .at) (storageAt l s + placeAt l s i .at + sizeOf (placeAt l s i))
+      → stringOf l t i ≡ stringOf l s i
+  unfolding stringOf
+  string-same i h same =
+      rw (place-same i h, storageAt-same l s t (sm .words))
+      (ap (λ (b : List ℕ). record { wide = placeAt l s i .wide; bytes = b })
+      (bytes-agree s t (storageAt l s + placeAt l s i .at) (storageAt l s + placeAt l s i .at + sizeOf (placeAt l s i)) same
+      (storageAt l s + placeAt l s i .at) (sizeOf (placeAt l s i)) (omega arith) (omega arith)))

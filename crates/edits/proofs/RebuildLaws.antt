@@ -14,7 +14,7 @@ use Rattle.bits.proofs.ListLaws.{AllBelow}
 use Rattle.bits.proofs.ByteLaws.{length-bytesOf}
 use Rattle.format.specs.declared.Field.{Field}
 use Rattle.format.specs.declared.Layout.{Layout}
-use Rattle.format.specs.declared.Layout.the-variants.{Modern, Legacy}
+use Rattle.format.specs.declared.Layout.the-variants.{Modern}
 use Rattle.format.specs.Table as table
 use Rattle.format.specs.Record.{valueOf, putPointer}
 use Rattle.format.specs.Move.{moved}
@@ -24,23 +24,19 @@ use Rattle.footer.specs.Finalize.{sizeLimit}
 use Rattle.image.specs.Sections.{functionsIn, identifiersIn, stringsIn, debugIn, kindsAt, hashesAt, smallAt, tailAt}
 use Rattle.image.specs.Strings.{Str, unitSize}
 use Rattle.image.specs.Kinds.{isIdentifier, rankOf, hashIn}
-use Rattle.image.specs.Functions.{Func, recordIn, funcOf, bodyOf}
+use Rattle.image.specs.Functions.{recordIn, funcOf, bodyOf}
 use Rattle.image.specs.Admitted.{Disjoint, Admitted}
-use Rattle.edits.specs.Fit.{offsetRow, sizeRow}
+use Rattle.edits.specs.Fit.{offsetRow}
 use Rattle.edits.specs.Edit.{putFrom, putIn, putSmall, pointed, moveFunc}
 use Rattle.edits.specs.Packing.{countOf, Packed, Carries}
 use Rattle.edits.specs.Rebuild.{overs, region, padded, newTail, rebuild}
 use Rattle.edits.proofs.WriteLaws.{Outside}
-use Rattle.edits.proofs.SlotLaws.{SmallFits, small-fits}
+use Rattle.edits.proofs.SlotLaws.{small-fits}
 use Rattle.image.proofs.PlaceLaws.{records-at, debug-at, debug-past, ordered}
 use Rattle.edits.proofs.EditLaws.{Change, record-back}
 use Rattle.edits.proofs.ReadLaws.{Agree, identifier-same, rank-same, hash-same}
-use Rattle.edits.proofs.BodyLaws.{Parted, Holds, sound, length-out, front-agree, floor-agree, func-out, tail-byte, body-kept}
-
--- a record without a large header holds its body's size
-pub size-fits : (l : Layout) (f : Func) → SmallFits l f → f .size < 2 ^ sizeRow l .width
-size-fits Modern f h = h .3
-size-fits (Legacy big sources) f h = h .3
+use Rattle.edits.proofs.BodyLaws.{Keeps, Parted, Holds, sound, length-out, front-agree, floor-agree, func-out, tail-byte}
+use Rattle.edits.proofs.BodyLaws.{body-kept}
 
 -- a place that is 0 or in the tail stands on one side of the strings
 pub beside : (l : Layout) (s : List ℕ) (p : ℕ) → (p ≢ 0 → tailAt l s ≤ p) → Side (smallAt l s) (tailAt l s) p 0
@@ -50,6 +46,16 @@ beside l s p h =
       | inl t ↦ let e = eqb-true p 0 t in inl (omega (arith, o .kinds, o .hashes, o .small, o .over, o .storage, o .tail), omega arith)
       | inr f ↦ inr (h (eqb-false p 0 f))
     ]
+
+-- function j has a large header
+pub record Large (l : Layout) (s : List ℕ) (j : ℕ) : Type 0 where
+  pub known : j < functionsIn s
+  pub large : funcOf l s j .large ≡ true
+
+-- a field of a record that is no part of its pointer
+pub record OffPointer (l : Layout) (g : Field) : Type 0 where
+  pub low : Apart (lowRow l) g
+  pub high : Apart (highRow l) g
 
 -- ---- what a rebuild is asked for
 
@@ -108,10 +114,14 @@ module _ (l : Layout) (ps : Packed) (s : List ℕ) (ad : Admitted l s) where
     ),
   )
 
+  keeps : (j : ℕ) → j < functionsIn s → Keeps l s (rebuilding l ps s) j
+  keeps j h = record { known = h; func = refl; side = inr (ad .body j h .0) }
+
   pub parted : Parted l s (rebuilding l ps s)
   parted =
       let o = ordered l s in
       record {
+        admitted = ad;
         records = omega (arith, o .hashes, o .small);
         under = omega arith;
         low = omega (arith, o .over, o .storage, o .tail);
@@ -121,24 +131,24 @@ module _ (l : Layout) (ps : Packed) (s : List ℕ) (ad : Admitted l s) where
         past = λ p w d h. rw (moved-high (tailAt l s) (newTail l ps s) p h) (omega arith);
         header = λ j h t. inr (ad .header j h t .0);
         info = λ j h. beside l s (funcOf l s j .info) (λ z. ad .info j h z .0);
-        body = λ j h. inl (refl, inr (ad .body j h .0));
+        body = λ j h. inl (keeps j h);
       }
 
   pub length-rebuilt : length (rebuild l ps s) ≡ length s - tailAt l s + newTail l ps s
   unfolding rebuild
-  length-rebuilt = length-out l s ad (rebuilding l ps s) parted
+  length-rebuilt = length-out l s (rebuilding l ps s) parted
 
   -- ---- header words before 56, kinds and hash slots stay
 
   pub rebuilt-front : (from to : ℕ) → to ≤ table.overflowCount .at → Agree s (rebuild l ps s) from to
   unfolding rebuild
   rebuilt-front from to h =
-      front-agree l s ad (rebuilding l ps s) parted from to (omega arith)
+      front-agree l s (rebuilding l ps s) parted from to (omega arith)
       (λ p f k. words-off p (λ q. omega arith) (λ q. omega (arith, debug-past l)))
 
   pub rebuilt-middle : Agree s (rebuild l ps s) (kindsAt l s) (smallAt l s)
   unfolding rebuild
-  rebuilt-middle = floor-agree l s ad (rebuilding l ps s) parted
+  rebuilt-middle = floor-agree l s (rebuilding l ps s) parted
 
   pub counts-kept : Agree s (rebuild l ps s) (table.functionCount .at) (table.overflowCount .at)
   counts-kept = rebuilt-front 40 56 (omega arith)
@@ -160,18 +170,17 @@ module _ (l : Layout) (ps : Packed) (s : List ℕ) (ad : Admitted l s) where
   -- ---- records
 
   -- of a record with a large header only the pointer's two fields are rewritten
-  pub rebuilt-record : (j : ℕ) → j < functionsIn s → funcOf l s j .large ≡ true
-      → (g : Field) → Apart (lowRow l) g → Apart (highRow l) g
+  pub rebuilt-record : (j : ℕ) → Large l s j → (g : Field) → OffPointer l g
       → valueOf g (recordIn l (rebuild l ps s) j) ≡ valueOf g (recordIn l s j)
   unfolding rebuild pointed
-  rebuilt-record j h t g x y =
+  rebuilt-record j la g off =
       let n = recordIn l s j in
       let f = moveFunc (rebuiltPlace l ps s) (funcOf l s j) in
       ap (valueOf g)
       (record-back l (rebuilding l ps s) s
-      (sound l s ad (rebuilding l ps s) parted) (ad .bytes) j h
-      ∙ ap (λ (b : Bool). pick b (putPointer l (f .ptr) n) (putSmall l f n)) t)
-      ∙ pointer-keeps l g (f .ptr) n x y
+      (sound l s (rebuilding l ps s) parted) (ad .bytes) j (la .known)
+      ∙ ap (λ (b : Bool). pick b (putPointer l (f .ptr) n) (putSmall l f n)) (la .large))
+      ∙ pointer-keeps l g (f .ptr) n (off .low) (off .high)
 
   -- ---- the tail
 
@@ -181,8 +190,8 @@ module _ (l : Layout) (ps : Packed) (s : List ℕ) (ad : Admitted l s) where
       → getD (rebuild l ps s) (rebuiltPlace l ps s p) 0 ≡ getD s p 0
   unfolding rebuild
   rebuilt-tail p h o =
-      tail-byte l s ad (rebuilding l ps s) parted
-      p (omega (arith, parted .low)) (inr h) o
+      tail-byte l s (rebuilding l ps s) parted p
+      (record { past = omega (arith, parted .low); side = inr h; clear = λ z. o })
 
   -- ---- functions and bodies
 
@@ -193,23 +202,23 @@ module _ (l : Layout) (ps : Packed) (s : List ℕ) (ad : Admitted l s) where
     pub holds : Holds l s (rebuilding l ps s)
     holds = record {
       limit = rebuilt-limit;
-      field = λ j h t. (ok .field j h t .0, size-fits l (funcOf l s j) (small-fits l s j t), ok .field j h t .1);
+      field = λ j h t. (ok .field j h t .0, small-fits l s j t .size, ok .field j h t .1);
     }
 
     -- each function is the old one at its moved places
     pub rebuilt-func : (j : ℕ) → j < functionsIn s → funcOf l (rebuild l ps s) j ≡ moveFunc (rebuiltPlace l ps s) (funcOf l s j)
     unfolding rebuild
-    rebuilt-func = func-out l s ad (rebuilding l ps s) parted holds
+    rebuilt-func = func-out l s (rebuilding l ps s) parted holds
 
     -- each body has the same bytes
     pub rebuilt-body : (j : ℕ) → j < functionsIn s → bodyOf l (rebuild l ps s) j ≡ bodyOf l s j
     unfolding rebuild
-    rebuilt-body j h =
-        body-kept l s ad (rebuilding l ps s) parted holds
-        j h refl (inr (ad .body j h .0))
+    rebuilt-body j h = body-kept l s (rebuilding l ps s) parted holds j (keeps j h)
 
 -- a modern record with a large header keeps its bits 24 to 45: "bit 24 stays"
 pub bit24-kept : (ps : Packed) (s : List ℕ) → Admitted Modern s → (j : ℕ) → j < functionsIn s
     → funcOf Modern s j .large ≡ true
     → valueOf (table.fixed 24 22) (recordIn Modern (rebuild Modern ps s) j) ≡ valueOf (table.fixed 24 22) (recordIn Modern s j)
-bit24-kept ps s ad j h t = rebuilt-record Modern ps s ad j h t (table.fixed 24 22) (omega arith) (omega arith)
+bit24-kept ps s ad j h t =
+    rebuilt-record Modern ps s ad j (record { known = h; large = t }) (table.fixed 24 22)
+    (record { low = omega arith; high = omega arith })

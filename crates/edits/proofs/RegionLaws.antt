@@ -20,7 +20,7 @@ use Rattle.image.specs.Strings.{isFull, overBefore, smallIn, overIn, placeAt, u
 use Rattle.edits.specs.Packing.{countOf, Packed, Carries}
 use Rattle.edits.specs.Rebuild.{smalls, pairOf, pairs, overs, region}
 use Rattle.edits.proofs.TableLaws.{length-pair, pair-offset, pair-length, overs-lt, size-smalls, size-pairs, small-at, pair-at}
-use Rattle.edits.proofs.TableLaws.{located, before-is, full-is, index-is}
+use Rattle.edits.proofs.TableLaws.{TablesRead, located, before-is, full-is, index-is}
 use Rattle.edits.proofs.RebuildLaws.{Valid}
 
 -- ---- sizes
@@ -36,6 +36,12 @@ pub length-region : (n : ℕ) (q : Packed) → length (region n q)
     ≡ n * table.smallEntry .width + (overs (q .place) n * table.overflowEntry .width + length (q .store))
 unfolding region
 length-region n q = simp (length-append, size-smalls, size-pairs)
+
+-- where s has its narrow strings, t has bytes below 0x80
+abbrev pub NarrowIn : Layout → List ℕ → List ℕ → Type 0
+NarrowIn l s t =
+    (i : ℕ) → i < stringsIn s → placeAt l s i .wide ≡ false → (j : ℕ) → j < placeAt l s i .count
+    → getD t (storageAt l s + placeAt l s i .at + j) 0 < 0x80
 
 -- ---- an image with packed strings
 
@@ -125,12 +131,15 @@ module _ (l : Layout) (f : ℕ → Str) (q : Packed) (s : List ℕ) (ok : Bears 
             ∙ pair-length p (omega (arith, c .within, c .count, store-fits, count-le (f i))),
       )
 
+  tables-written : TablesRead (q .place) n (smallIn l s) (overIn l s)
+  tables-written = record { small = small-word; pair = pair-word; few = few }
+
   -- ---- strings
 
   -- string i stands at its place
   pub read-place : (i : ℕ) → i < n → placeAt l s i ≡ q .place i
   unfolding placeAt
-  read-place i h = located (q .place) n (smallIn l s) (overIn l s) small-word pair-word i h
+  read-place i h = located (q .place) n (smallIn l s) (overIn l s) tables-written i h
 
   read-wide : (i : ℕ) → i < n → placeAt l s i .wide ≡ f i .wide
   read-wide i h = ap (λ (p : Place). p .wide) (read-place i h) ∙ ok .carries .string i h .wide
@@ -166,8 +175,7 @@ module _ (l : Layout) (f : ℕ → Str) (q : Packed) (s : List ℕ) (ok : Bears 
       λ x. record { wide = read-wide i h x; bytes = b x }
 
   -- narrow strings are ASCII
-  pub read-narrow : (i : ℕ) → i < n → placeAt l s i .wide ≡ false → (j : ℕ) → j < placeAt l s i .count
-      → getD s (storageAt l s + placeAt l s i .at + j) 0 < 0x80
+  pub read-narrow : NarrowIn l s s
   read-narrow i h w j k =
       rw (read-byte i j h (omega (arith, read-count i h, count-le (f i)))) (ok .strings i h .narrow (sym (read-wide i h) ∙ w) j)
 
@@ -175,12 +183,12 @@ module _ (l : Layout) (f : ℕ → Str) (q : Packed) (s : List ℕ) (ok : Bears 
 
   -- as many entries overflow as the header says, and the k-th has index k
   pub read-overflows : overBefore (smallIn l s) n ≡ overflowsIn s
-  read-overflows = before-is (q .place) n (smallIn l s) (overIn l s) small-word pair-word n (omega arith) ∙ sym (ok .overflows)
+  read-overflows = before-is (q .place) n (smallIn l s) (overIn l s) tables-written n (omega arith) ∙ sym (ok .overflows)
 
   pub read-index : (i : ℕ) → i < n → isFull (smallIn l s i) ≡ true
       → valueOf table.entryOffset (smallIn l s i) ≡ overBefore (smallIn l s) i
-  read-index i h = index-is (q .place) n (smallIn l s) (overIn l s) small-word pair-word few i h
+  read-index i h = index-is (q .place) n (smallIn l s) (overIn l s) tables-written i h
 
   -- an entry is full exactly where its place's offset is 0x800000 or more or its length 255 or more
   pub read-full : (i : ℕ) → i < n → isFull (smallIn l s i) ≡ isOver (placeAt l s i)
-  read-full i h = full-is (q .place) n (smallIn l s) (overIn l s) small-word pair-word i h ∙ ap isOver (sym (read-place i h))
+  read-full i h = full-is (q .place) n (smallIn l s) (overIn l s) tables-written i h ∙ ap isOver (sym (read-place i h))

@@ -33,9 +33,8 @@ use Rattle.image.proofs.PlaceLaws.{records-at, debug-fits, debug-at, debug-past
 use Rattle.edits.proofs.EditLaws.{edit-below, Change}
 use Rattle.edits.proofs.ReadLaws.{Agree, number-agree, functions-same, hash-same, identifier-same, rank-same, counts-of}
 use Rattle.edits.proofs.ReadLaws.{tailAt-same, string-same}
-use Rattle.edits.proofs.BodyLaws.{Parted, Holds, place-most, length-out, front-agree, floor-agree, front-number}
+use Rattle.edits.proofs.BodyLaws.{Keeps, TakesBody, Parted, Holds, place-most, length-out, front-agree, floor-agree, front-number}
 use Rattle.edits.proofs.BodyLaws.{front-long, func-out, tail-byte, body-kept, body-new}
-use Rattle.edits.proofs.RebuildLaws.{size-fits}
 use Rattle.edits.proofs.KeepLaws.{PlacedIn, edit-placed, Tabled, tabled-same, admitted-of}
 
 -- ---- what a body patch of another length is asked for
@@ -48,6 +47,7 @@ abbrev pub resizedPlace : Layout → ℕ → List ℕ → List ℕ → ℕ → �
 resizedPlace l i body s = moved (threshold l s i) (funcOf l s i .begin + length body)
 
 pub record Alone (l : Layout) (i : ℕ) (body : List ℕ) (s : List ℕ) : Type 0 where
+  pub admitted : Admitted l s
   pub known : i < functionsIn s
   pub bytes : AllBelow 256 body
   -- 9: no other body shares a byte with it, and no empty one starts strictly within it
@@ -66,6 +66,13 @@ pub record Alone (l : Layout) (i : ℕ) (body : List ℕ) (s : List ℕ) : Type 
       × (resizedPlace l i body s (funcOf l s j .info) < 2 ^ table.legacyInfo .width)
   pub sized : funcOf l s i .large ≡ false → length body < 2 ^ sizeRow l .width
 
+-- a byte of the tail outside body i and in no large header
+pub record OtherByte (l : Layout) (s : List ℕ) (i p : ℕ) : Type 0 where
+  pub tail : tailAt l s ≤ p
+  pub outside : p < threshold l s i → p < funcOf l s i .begin
+  pub clear : (j : ℕ) → j < functionsIn s → funcOf l s j .large ≡ true
+      → Disjoint (funcOf l s j .ptr) (table.largeRow l .width) p 1
+
 -- the patch as an edit
 abbrev pub resizing : Layout → ℕ → List ℕ → List ℕ → Change
 resizing l i body s = record {
@@ -80,7 +87,10 @@ resizing l i body s = record {
   tail = tailAt l s;
 }
 
-module _ (l : Layout) (i : ℕ) (body : List ℕ) (s : List ℕ) (ad : Admitted l s) (al : Alone l i body s) where
+module _ (l : Layout) (i : ℕ) (body : List ℕ) (s : List ℕ) (al : Alone l i body s) where
+  ad : Admitted l s
+  ad = al .admitted
+
   abbrev c : Change
   c = resizing l i body s
 
@@ -119,11 +129,18 @@ module _ (l : Layout) (i : ℕ) (body : List ℕ) (s : List ℕ) (ad : Admitted 
         | inr f ↦ absurd (omega (arith, al .debug (eqb-false (debugIn l s) 0 f)))
       ])
 
+  keeps : (j : ℕ) → j < functionsIn s → j ≢ i → Keeps l s c j
+  keeps j h d = record { known = h; func = other j d; side = body-side j h d }
+
+  takes : TakesBody l s c i
+  takes = record { known = al .known; func = own; start = refl; tail = ad .body i (al .known) .0 }
+
   parted : Parted l s c
   parted =
       let o = ordered l s in
       let (x, y) = ad .body i (al .known) in
       record {
+        admitted = ad;
         records = omega (arith, o .hashes, o .small, o .over, o .storage, o .tail);
         under = x;
         low = omega arith;
@@ -135,14 +152,14 @@ module _ (l : Layout) (i : ℕ) (body : List ℕ) (s : List ℕ) (ad : Admitted 
         info = λ j h. side a b (funcOf l s j .info) 0 (λ g. omega (arith, al .infos j h g));
         body = λ j h.
             elim (which (eqb j i)) [
-              | inl t ↦ let e : j ≡ i = eqb-true j i t in inr (rw e own, rw e refl, x)
-              | inr f ↦ inl (other j (eqb-false j i f), body-side j h (eqb-false j i f))
+              | inl t ↦ let e : j ≡ i = eqb-true j i t in inr (rw e takes)
+              | inr f ↦ inl (keeps j h (eqb-false j i f))
             ];
       }
 
   pub length-resized : length out ≡ length s - b + (a + length body)
   unfolding resize
-  length-resized = length-out l s ad c parted
+  length-resized = length-out l s c parted
 
   resized-limit : length s - b + (a + length body) ≤ sizeLimit
   resized-limit = rw length-resized at (al .limit)
@@ -160,7 +177,7 @@ module _ (l : Layout) (i : ℕ) (body : List ℕ) (s : List ℕ) (ad : Admitted 
           let m : mv (funcOf l s j .begin) ≡ funcOf l s j .begin
           = moved-low b (a + length body) (funcOf l s j .begin) (rw e (omega (arith, al .some))) in
           (rw m at (al .field j h t .0), al .sized (rw e at t), al .field j h t .1)
-      go false q t = (al .field j h t .0, size-fits l (funcOf l s j) (small-fits l s j t), al .field j h t .1)
+      go false q t = (al .field j h t .0, small-fits l s j t .size, al .field j h t .1)
 
   holds : Holds l s c
   holds = record { limit = resized-limit; field = resized-field }
@@ -170,25 +187,24 @@ module _ (l : Layout) (i : ℕ) (body : List ℕ) (s : List ℕ) (ad : Admitted 
   -- each function is the old one at its moved places; the patched one has its new size
   pub resized-func : (j : ℕ) → j < functionsIn s → funcOf l out j ≡ c .func j
   unfolding resize
-  resized-func = func-out l s ad c parted holds
+  resized-func = func-out l s c parted holds
 
   -- the patched body is the new one
   pub own-body : bodyOf l out i ≡ body
   unfolding resize
-  own-body = body-new l s ad c parted holds i (al .known) own refl
+  own-body = body-new l s c parted holds i takes
 
   -- every other body has the same bytes
   pub other-body : (j : ℕ) → j < functionsIn s → j ≢ i → bodyOf l out j ≡ bodyOf l s j
   unfolding resize
-  other-body j h d = body-kept l s ad c parted holds j h (other j d) (body-side j h d)
+  other-body j h d = body-kept l s c parted holds j (keeps j h d)
 
-  -- each byte of the tail outside the patched body that is no word of a large header keeps its value at its moved place
-  pub resized-tail : (p : ℕ) → tailAt l s ≤ p → (p < b → p < a)
-      → ((j : ℕ) → j < functionsIn s → funcOf l s j .large ≡ true → Disjoint (funcOf l s j .ptr) (table.largeRow l .width) p 1)
-      → getD out (mv p) 0 ≡ getD s p 0
+  -- each other byte of the tail keeps its value at its moved place
+  pub resized-tail : (p : ℕ) → OtherByte l s i p → getD out (mv p) 0 ≡ getD s p 0
   unfolding resize
-  resized-tail p h k o =
-      tail-byte l s ad c parted p h (side a b p 1 (λ g. omega (arith, k g))) o
+  resized-tail p ot =
+      tail-byte l s c parted p
+      (record { past = ot .tail; side = side a b p 1 (λ g. omega (arith, ot .outside g)); clear = λ z. ot .clear })
 
   -- the debug offset moves with what it points to
   pub resized-debug : debugIn l out ≡ mv (debugIn l s)
@@ -196,20 +212,21 @@ module _ (l : Layout) (i : ℕ) (body : List ℕ) (s : List ℕ) (ad : Admitted 
   resized-debug =
       let d = table.placeIn l (table.debugRow l) in
       let w = table.debugRow l .width in
-      front-number l s ad c parted d w (debug-at l)
-      ∙ numberAt-back (splice a b body s) d w (mv (debugIn l s)) (omega (arith, debug-at l, front-long l s ad c parted))
-      (debug-fits l _ (omega (arith, resized-limit, place-most l s ad c parted (debugIn l s) debug-side (ad .debug))))
+      front-number l s c parted d w (debug-at l)
+      ∙ numberAt-back (splice a b body s) d w (mv (debugIn l s)) (omega (arith, debug-at l, front-long l s c parted))
+      (debug-fits l _
+      (omega (arith, resized-limit, place-most l s c parted (debugIn l s) (record { side = debug-side; tail = ad .debug }))))
 
   -- ---- strings, kinds and hash slots stay
 
   resized-front : (from to : ℕ) → to ≤ 64 → Agree s out from to
   unfolding resize
   resized-front from to h =
-      front-agree l s ad c parted from to (omega arith) (λ p f k. words-off p (λ q. omega (arith, debug-past l)))
+      front-agree l s c parted from to (omega arith) (λ p f k. words-off p (λ q. omega (arith, debug-past l)))
 
   pub resized-middle : Agree s out (kindsAt l s) (tailAt l s)
   unfolding resize
-  resized-middle = floor-agree l s ad c parted
+  resized-middle = floor-agree l s c parted
 
   pub resized-words : Agree s out (table.functionCount .at) (table.storageSize .at + table.storageSize .width)
   resized-words = resized-front 40 64 (omega arith)
@@ -227,7 +244,9 @@ module _ (l : Layout) (i : ℕ) (body : List ℕ) (s : List ℕ) (ad : Admitted 
       resized-middle p (omega (arith, o .hashes, o .small, o .over, o .storage)) (omega (arith, o .tail, ad .stored j h))
 
   pub resized-string : (j : ℕ) → j < stringsIn s → stringOf l out j ≡ stringOf l s j
-  resized-string j h = string-same l s out resized-words resized-tables (ad .overflows) j h (λ p f k. resized-stored j p h f k)
+  resized-string j h =
+      string-same l s out (record { words = resized-words; tables = resized-tables; counted = ad .overflows }) j h
+      (λ p f k. resized-stored j p h f k)
 
   pub resized-identifier : (j : ℕ) → isIdentifier l out j ≡ isIdentifier l s j
   resized-identifier j = identifier-same l s out (counts-of l s out resized-words) resized-kinds j
@@ -250,21 +269,35 @@ module _ (l : Layout) (i : ℕ) (body : List ℕ) (s : List ℕ) (ad : Admitted 
   resized-placed : PlacedIn l out
   unfolding resize
   resized-placed =
-      edit-placed l s ad c parted holds (functions-same l s out (counts-of l s out resized-words))
-      (tailAt-same l s out resized-words) resized-debug debug-side
+      edit-placed l s c parted holds
+      (record {
+        functions = functions-same l s out (counts-of l s out resized-words);
+        tail = tailAt-same l s out resized-words;
+        debug = resized-debug;
+        beside = debug-side;
+      })
 
   resized-tabled : Tabled l out
   resized-tabled =
-      tabled-same l s out ad resized-words resized-kinds resized-tables
-      (λ j h w k q.
-      let c : k < sizeOf (placeAt l s j) = rw w (omega arith) in
-      rw (resized-stored j (storageAt l s + placeAt l s j .at + k) h (omega arith) (omega arith)) (ad .narrow j h w k q))
+      tabled-same l s out ad
+      (record {
+        words = resized-words;
+        kinds = resized-kinds;
+        tables = resized-tables;
+        ascii = λ j h w k q.
+            let c : k < sizeOf (placeAt l s j) = rw w (omega arith) in
+            rw (resized-stored j (storageAt l s + placeAt l s j .at + k) h (omega arith) (omega arith)) (ad .narrow j h w k q);
+      })
 
   pub resized-admitted : Admitted l out
   resized-admitted =
       let o = ordered l s in
       let (x, y) = ad .body i (al .known) in
-      admitted-of l out resized-below
-      (omega (arith, length-resized, x, y, records-at l, o .kinds, o .hashes, o .small, o .over, o .storage, o .tail)) (al .limit)
-      (number-agree s out 0 8 (resized-front 0 8 (omega arith)) 0 8 (omega arith) (omega arith) ∙ ad .magic)
-      (omega (arith, length-resized, tailAt-same l s out resized-words, x, y)) resized-tabled resized-placed
+      admitted-of l out
+      (record {
+        bytes = resized-below;
+        least = omega (arith, length-resized, x, y, records-at l, o .kinds, o .hashes, o .small, o .over, o .storage, o .tail);
+        most = al .limit;
+        magic = number-agree s out 0 8 (resized-front 0 8 (omega arith)) 0 8 (omega arith) (omega arith) ∙ ad .magic;
+        room = omega (arith, length-resized, tailAt-same l s out resized-words, x, y);
+      }) resized-tabled resized-placed

@@ -16,17 +16,29 @@ use Rattle.format.specs.Record.{withValue, isLarge, pointer, putPointer}
 use Rattle.format.proofs.RecordLaws.{value-kept, value-put, value-lt, PointerFits, pointer-flag, pointer-back, pointer-lt}
 use Rattle.image.specs.Functions.{Func, small, header, recordIn, funcOf}
 use Rattle.edits.specs.Edit.{putSmall, pointed, putRecord}
+use Rattle.edits.specs.Fit.{offsetRow, sizeRow}
 
-pub func-eq : (f g : Func) → f .large ≡ g .large → f .ptr ≡ g .ptr → f .begin ≡ g .begin → f .size ≡ g .size
-    → f .info ≡ g .info → f ≡ g
-func-eq f g a b c d e = λ i. record { large = a i; ptr = b i; begin = c i; size = d i; info = e i }
+-- two functions that are alike in every part
+pub record Alike (f g : Func) : Type 0 where
+  pub large : f .large ≡ g .large
+  pub ptr : f .ptr ≡ g .ptr
+  pub begin : f .begin ≡ g .begin
+  pub size : f .size ≡ g .size
+  pub info : f .info ≡ g .info
+
+pub func-eq : (f g : Func) → Alike f g → f ≡ g
+func-eq f g a = λ i. record { large = a .large i; ptr = a .ptr i; begin = a .begin i; size = a .size i; info = a .info i }
 
 -- ---- a record without a large header
 
--- what it can hold
-abbrev pub SmallFits : Layout → Func → Type 0
-SmallFits Modern f = (f .large ≡ false) × (f .ptr ≡ 0) × (f .begin < 2 ^ 25) × (f .size < 2 ^ 14) × (f .info ≡ 0)
-SmallFits (Legacy big sources) f = (f .large ≡ false) × (f .ptr ≡ 0) × (f .begin < 2 ^ 25) × (f .size < 2 ^ 15) × (f .info < 2 ^ 25)
+-- what it can hold: a modern one no info place
+pub record SmallFits (l : Layout) (f : Func) : Type 0 where
+  pub large : f .large ≡ false
+  pub ptr : f .ptr ≡ 0
+  pub begin : f .begin < 2 ^ offsetRow l .width
+  pub size : f .size < 2 ^ sizeRow l .width
+  pub info : f .info < 2 ^ table.legacyInfo .width
+  pub modern : l ≡ Modern → f .info ≡ 0
 
 small-flag : (l : Layout) (f : Func) (n : ℕ) → isLarge l (putSmall l f n) ≡ isLarge l n
 unfolding isLarge putSmall
@@ -49,22 +61,30 @@ small-flag (Legacy big sources) f n =
 small-back : (l : Layout) (f : Func) (n : ℕ) → SmallFits l f → small l (putSmall l f n) ≡ f
 unfolding small putSmall
 small-back Modern f n h =
-    let (a, b, c, d, e) = h in
     let m : ℕ = withValue table.modernOffset (f .begin) n in
-    func-eq _ _ (sym a) (sym b)
-    (value-kept table.modernSize table.modernOffset (f .size) m (omega arith) ∙ value-put table.modernOffset (f .begin) n
-    ∙ mod-eq-of-lt c)
-    (value-put table.modernSize (f .size) m ∙ mod-eq-of-lt d) (sym e)
+    func-eq _ _
+    (record {
+      large = sym (h .large);
+      ptr = sym (h .ptr);
+      begin = value-kept table.modernSize table.modernOffset (f .size) m (omega arith) ∙ value-put table.modernOffset (f .begin) n
+          ∙ mod-eq-of-lt (h .begin);
+      size = value-put table.modernSize (f .size) m ∙ mod-eq-of-lt (h .size);
+      info = sym (h .modern refl);
+    })
 small-back (Legacy big sources) f n h =
-    let (a, b, c, d, e) = h in
     let m : ℕ = withValue table.legacyOffset (f .begin) n in
     let k : ℕ = withValue table.legacySize (f .size) m in
-    func-eq _ _ (sym a) (sym b)
-    (value-kept table.legacyInfo table.legacyOffset (f .info) k (omega arith)
-    ∙ value-kept table.legacySize table.legacyOffset (f .size) m (omega arith) ∙ value-put table.legacyOffset (f .begin) n
-    ∙ mod-eq-of-lt c)
-    (value-kept table.legacyInfo table.legacySize (f .info) k (omega arith) ∙ value-put table.legacySize (f .size) m ∙ mod-eq-of-lt d)
-    (value-put table.legacyInfo (f .info) k ∙ mod-eq-of-lt e)
+    func-eq _ _
+    (record {
+      large = sym (h .large);
+      ptr = sym (h .ptr);
+      begin = value-kept table.legacyInfo table.legacyOffset (f .info) k (omega arith)
+          ∙ value-kept table.legacySize table.legacyOffset (f .size) m (omega arith) ∙ value-put table.legacyOffset (f .begin) n
+          ∙ mod-eq-of-lt (h .begin);
+      size = value-kept table.legacyInfo table.legacySize (f .info) k (omega arith) ∙ value-put table.legacySize (f .size) m
+          ∙ mod-eq-of-lt (h .size);
+      info = value-put table.legacyInfo (f .info) k ∙ mod-eq-of-lt (h .info);
+    })
 
 small-lt : (l : Layout) (f : Func) (n : ℕ) → n < 256 ^ table.recordRow l .width → putSmall l f n < 256 ^ table.recordRow l .width
 unfolding putSmall
@@ -155,8 +175,22 @@ func-pointer l s i t = rw t (header-pointer l (pointer l (recordIn l s i)) s)
 
 small-holds : (l : Layout) (n : ℕ) → SmallFits l (small l n)
 unfolding small
-small-holds Modern n = (refl, refl, value-lt table.modernOffset n, value-lt table.modernSize n, refl)
-small-holds (Legacy big sources) n = (refl, refl, value-lt table.legacyOffset n, value-lt table.legacySize n, value-lt table.legacyInfo n)
+small-holds Modern n = record {
+  large = refl;
+  ptr = refl;
+  begin = value-lt table.modernOffset n;
+  size = value-lt table.modernSize n;
+  info = omega arith;
+  modern = λ e. refl;
+}
+small-holds (Legacy big sources) n = record {
+  large = refl;
+  ptr = refl;
+  begin = value-lt table.legacyOffset n;
+  size = value-lt table.legacySize n;
+  info = value-lt table.legacyInfo n;
+  modern = λ e. let z : _≡_ {A = ℕ} 0 1 = cc in absurd (omega arith);
+}
 
 -- without a large header it fits a small record
 pub small-fits : (l : Layout) (s : List ℕ) (i : ℕ) → funcOf l s i .large ≡ false → SmallFits l (funcOf l s i)

@@ -30,6 +30,10 @@ use Rattle.edits.proofs.RebuildLaws.{beside, Valid, newRegion, rebuiltP
 use Rattle.edits.proofs.RebuildLaws.{rebuilt-limit}
 use Rattle.edits.proofs.RegionLaws.{length-region, Bears, read-storage, read-at, read-size, read-string, read-full}
 
+-- a list has zeros from one place to another
+abbrev pub Zeros : List ℕ → ℕ → ℕ → Type 0
+Zeros s from to = (p : ℕ) → from ≤ p → p < to → getD s p 0 ≡ 0
+
 -- ---- the strings of an admitted image
 
 module _ (l : Layout) (s : List ℕ) (ad : Admitted l s) (i : ℕ) (known : i < stringsIn s) where
@@ -84,10 +88,10 @@ module _ (l : Layout) (ps : Packed) (s : List ℕ) (ad : Admitted l s) (f : ℕ 
   header-number : (q n : ℕ) → q + n ≤ table.headerLength
       → numberAt out q n ≡ numberAt (writeAll (rebuilding l ps s .words) base) q n
   unfolding rebuild
-  header-number q n h = front-number l s ad (rebuilding l ps s) (parted l ps s ad) q n h
+  header-number q n h = front-number l s (rebuilding l ps s) (parted l ps s ad) q n h
 
   long : table.headerLength ≤ length base
-  long = front-long l s ad (rebuilding l ps s) (parted l ps s ad)
+  long = front-long l s (rebuilding l ps s) (parted l ps s ad)
 
   abbrev debugAt : ℕ
   debugAt = table.placeIn l (table.debugRow l)
@@ -123,8 +127,8 @@ module _ (l : Layout) (ps : Packed) (s : List ℕ) (ad : Admitted l s) (f : ℕ 
   unfolding writeAll
   rebuilt-debug =
       let m : rebuiltPlace l ps s (debugIn l s) ≤ length s - tailAt l s + newTail l ps s =
-      place-most l s ad (rebuilding l ps s) (parted l ps s ad) (debugIn l s)
-      (beside l s (debugIn l s) (λ z. ad .debug z .0)) (ad .debug) in
+      place-most l s (rebuilding l ps s) (parted l ps s ad) (debugIn l s)
+      (record { side = beside l s (debugIn l s) (λ z. ad .debug z .0); tail = ad .debug }) in
       header-number debugAt wide (debug-at l)
       ∙ numberAt-back base₂ debugAt wide (rebuiltPlace l ps s (debugIn l s)) (simp length-sets (omega (arith, long, debug-at l)))
       (debug-fits l _ (omega (arith, rebuilt-limit l ps s ad f ok)))
@@ -134,7 +138,7 @@ module _ (l : Layout) (ps : Packed) (s : List ℕ) (ad : Admitted l s) (f : ℕ 
   region-byte : (q : ℕ) → q < length (newRegion l ps s) → getD out (smallAt l s + q) 0 ≡ getD (newRegion l ps s) q 0
   unfolding rebuild
   region-byte q h =
-      new-byte l s ad (rebuilding l ps s) (parted l ps s ad) q h
+      new-byte l s (rebuilding l ps s) (parted l ps s ad) q h
 
   own-byte : Lies out (smallAt l s) (region n ps)
   unfolding padded
@@ -166,7 +170,7 @@ module _ (l : Layout) (ps : Packed) (s : List ℕ) (ad : Admitted l s) (f : ℕ 
   tail-is = rw (storage-is, storage-size) (simp (length-append, length-replicate) (omega (arith, length-region n ps)))
 
   -- zeros fill up to the tail
-  pub rebuilt-padding : (p : ℕ) → storageAt l out + storageIn out ≤ p → p < tailAt l out → getD out p 0 ≡ 0
+  pub rebuilt-padding : Zeros out (storageAt l out + storageIn out) (tailAt l out)
   unfolding padded
   rebuilt-padding p h k =
       let z : ℕ = up4 (smallAt l s + length (region n ps)) - (smallAt l s + length (region n ps)) in

@@ -93,6 +93,12 @@ module _ (p : Place) where
 
 -- ---- the tables of n places
 
+-- the small entries w and the pairs v that a reader finds are those of n places
+pub record TablesRead (p : ℕ → Place) (n : ℕ) (w : ℕ → ℕ) (v : ℕ → Pair) : Type 0 where
+  pub small : (i : ℕ) → i < n → w i ≡ smallWord (overs p i) (p i)
+  pub pair : (i : ℕ) → i < n → isOver (p i) ≡ true → (v (overs p i) .at ≡ p i .at) × (v (overs p i) .count ≡ p i .count)
+  pub few : overs p n ≤ far
+
 module _ (p : ℕ → Place) where
   abbrev small : ℕ → List ℕ
   small i = bytesFor smallEntry (smallWord (overs p i) (p i))
@@ -181,33 +187,30 @@ module _ (p : ℕ → Place) where
             ∙ pair-at n i g o j k
       ]
 
-  -- w and v: the small entries and the pairs that a reader finds
-  module _ (n : ℕ) (w : ℕ → ℕ) (v : ℕ → Pair) (small-is : (i : ℕ) → i < n → w i ≡ smallWord (overs p i) (p i))
-      (pair-is : (i : ℕ) → i < n → isOver (p i) ≡ true → (v (overs p i) .at ≡ p i .at) × (v (overs p i) .count ≡ p i .count))
-    where
-      pub before-is : (i : ℕ) → i ≤ n → overBefore w i ≡ overs p i
-      unfolding overBefore
-      before-is zero h = sym overs-none
-      before-is (suc i) h = rw (before-is i (omega arith), overs-next i, small-is i h, full-word (overs p i) (p i))
+  module _ (n : ℕ) (w : ℕ → ℕ) (v : ℕ → Pair) (wr : TablesRead p n w v) where
+    pub before-is : (i : ℕ) → i ≤ n → overBefore w i ≡ overs p i
+    unfolding overBefore
+    before-is zero h = sym overs-none
+    before-is (suc i) h = rw (before-is i (omega arith), overs-next i, wr .small i h, full-word (overs p i) (p i))
 
-      -- what is written for places is read back as those places
-      pub located : (i : ℕ) → i < n → locate w v i ≡ p i
-      unfolding locate
-      located i h =
-          rw (before-is i (omega arith), small-is i h)
-          (elim (which (isOver (p i))) [
-            | inl o ↦ decode-over v (overs p i) (p i) o (pair-is i h o .0) (pair-is i h o .1)
-            | inr o ↦ decode-small v (overs p i) (p i) o
-          ])
+    -- what is written for places is read back as those places
+    pub located : (i : ℕ) → i < n → locate w v i ≡ p i
+    unfolding locate
+    located i h =
+        rw (before-is i (omega arith), wr .small i h)
+        (elim (which (isOver (p i))) [
+          | inl o ↦ decode-over v (overs p i) (p i) o (wr .pair i h o .0) (wr .pair i h o .1)
+          | inr o ↦ decode-small v (overs p i) (p i) o
+        ])
 
-      -- an entry is full exactly where 01's tests say so, and then has its index
-      pub full-is : (i : ℕ) → i < n → isFull (w i) ≡ isOver (p i)
-      full-is i h = rw (small-is i h) (full-word (overs p i) (p i))
+    -- an entry is full exactly where 01's tests say so, and then has its index
+    pub full-is : (i : ℕ) → i < n → isFull (w i) ≡ isOver (p i)
+    full-is i h = rw (wr .small i h) (full-word (overs p i) (p i))
 
-      pub index-is : overs p n ≤ far → (i : ℕ) → i < n → isFull (w i) ≡ true → valueOf entryOffset (w i) ≡ overBefore w i
-      index-is few i h t =
-          let o : isOver (p i) ≡ true = sym (full-is i h) ∙ t in
-          rw (before-is i (omega arith), small-is i h) (full-offset (overs p i) (p i) o (omega (arith, overs-lt i n h o)))
+    pub index-is : (i : ℕ) → i < n → isFull (w i) ≡ true → valueOf entryOffset (w i) ≡ overBefore w i
+    index-is i h t =
+        let o : isOver (p i) ≡ true = sym (full-is i h) ∙ t in
+        rw (before-is i (omega arith), wr .small i h) (full-offset (overs p i) (p i) o (omega (arith, wr .few, overs-lt i n h o)))
 
 -- ---- locating hangs only on the words that it reads
 

@@ -47,11 +47,15 @@ module _ (wide : Bool) (offset len : ℕ) where
       with-lt _ 24 8 len 32 (omega arith) (with-lt _ 1 23 offset 32 (omega arith) (with-lt 0 0 1 (bit wide) 32 (omega arith) (omega arith)))
 
 -- an entry made field by field
-pub entry-is : (wide : Bool) (offset len b x y z : ℕ) → b ≡ ifSet wide 1 → x ≡ withValue entryWide b 0
-    → y ≡ withValue entryOffset offset x
-    → z ≡ withValue entryLength len y → z ≡ entry wide offset len
+pub record Composed (wide : Bool) (offset len b x y z : ℕ) : Type 0 where
+  pub counted : b ≡ ifSet wide 1
+  pub kind : x ≡ withValue entryWide b 0
+  pub place : y ≡ withValue entryOffset offset x
+  pub count : z ≡ withValue entryLength len y
+
+pub entry-is : (wide : Bool) (offset len b x y z : ℕ) → Composed wide offset len b x y z → z ≡ entry wide offset len
 unfolding entry
-entry-is wide offset len b x y z e f g h = rw (h, g, f, e, set-bit wide)
+entry-is wide offset len b x y z f = rw (f .count, f .place, f .kind, f .counted, set-bit wide)
 
 pub small-lt : (k : ℕ) (p : Place) → smallWord k p < 2 ^ 32
 unfolding smallWord

@@ -27,6 +27,10 @@ Side a b p w = ((p < b) × (p + w ≤ a)) ⊎ (b ≤ p)
 pub side : (a b p w : ℕ) → (p < b → p + w ≤ a) → Side a b p w
 side a b p w h = elim (below-or p b) [ inl t ↦ inl (t, h t) | inr t ↦ inr t ]
 
+-- w bytes from p and v bytes from q share none
+abbrev pub ShareNone : ℕ → ℕ → ℕ → ℕ → Type 0
+ShareNone p w q v = p < q + v → p + w ≤ q
+
 module _ (a b n : ℕ) where
   -- where they go
   pub moved-side : (p w : ℕ) → Side a b p w → ((p + w ≤ a) × (moved b (a + n) p ≡ p))
@@ -44,8 +48,8 @@ module _ (a b n : ℕ) where
       elim (moved-side p w d) [ inl r ↦ rw (r .1) (omega (arith, r .0)) | inr r ↦ rw (r .1) (omega (arith, r .0)) ]
 
   -- bytes that share none with others still share none
-  pub moved-apart : (p w q v : ℕ) → Side a b p w → Side a b q v → (p < q + v → p + w ≤ q)
-      → moved b (a + n) p < moved b (a + n) q + v → moved b (a + n) p + w ≤ moved b (a + n) q
+  pub moved-apart : (p w q v : ℕ) → Side a b p w → Side a b q v → ShareNone p w q v
+      → ShareNone (moved b (a + n) p) w (moved b (a + n) q) v
   moved-apart p w q v d e h g =
       elim (moved-side p w d) [
         | inl r ↦ elim (moved-side q v e) [

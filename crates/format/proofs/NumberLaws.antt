@@ -25,8 +25,15 @@ length-number f x s = length-sets s (f .at) (bytesFor f x)
 pub number-below : (f : Field) (x : ℕ) (s : List ℕ) → AllBelow 256 s → AllBelow 256 (withNumber f x s)
 number-below f x s h = below-sets 256 (omega arith) (bytesFor f x) s (f .at) (below-bytesOf (f .width) x) h
 
+-- there was room for bytes s at p of o, and m is o with them written there
+pub record Written (o : List ℕ) (p : ℕ) (s m : List ℕ) : Type 0 where
+  pub room : p + length s ≤ length o
+  pub laid : m ≡ sets o p s
+
 -- bytes s were written at p, then a number to a field that is counted from p: s was written with that number in it
-pub number-within : (f : Field) (x : ℕ) (o o1 o2 s : List ℕ) (p : ℕ) → p + length s ≤ length o → f .at + f .width ≤ length s
-    → o1 ≡ sets o p s → o2 ≡ sets o1 (p + f .at) (bytesFor f x) → o2 ≡ sets o p (withNumber f x s)
-number-within f x o o1 o2 s p h k e g =
-    g ∙ rw e (sets-within o s (bytesFor f x) p (f .at) h (omega (arith, length-bytesOf (f .width) x)))
+pub number-within : (f : Field) (x : ℕ) (o o1 o2 s : List ℕ) (p : ℕ) → Written o p s o1 → f .at + f .width ≤ length s
+    → o2 ≡ sets o1 (p + f .at) (bytesFor f x) → Written o p (withNumber f x s) o2
+number-within f x o o1 o2 s p w k g = record {
+  room = rw (length-number f x s) (w .room);
+  laid = g ∙ rw (w .laid) (sets-within o s (bytesFor f x) p (f .at) (w .room) (omega (arith, length-bytesOf (f .width) x)));
+}

@@ -11,7 +11,6 @@ use Rattle.bits.specs.Choice.{both, implies, allBelow}
 use Rattle.bits.proofs.TestLaws.{below-or}
 use Rattle.bits.proofs.PassLaws.{all-both, pass-stop, pass-end}
 use Rattle.format.specs.declared.Layout.{Layout}
-use Rattle.format.specs.Table as table
 use Rattle.image.specs.Sections.{functionsIn, debugIn}
 use Rattle.image.specs.Functions.{Func, funcOf}
 use Rattle.function_checks.specs.Checks.{threshold, sharesWith, bodyAlone, infoWithin, infosOutside}
@@ -52,12 +51,17 @@ module _ (f g : Func) where
     pub alone-own : a ≡ false → not other ≡ true → true ≡ aloneWith other
     alone-own t o = rw (← e, t, not-true other o)
 
-    pub alone-other : a ≡ false → not other ≡ false → (b : Bool) → b ≡ sharesWith f g → not b ≡ aloneWith other
-    alone-other t o b h = rw (← e, t, not-false other o, ← h) (yes (not b))
-      where
-        yes : (b : Bool) → b ≡ both b true
-        yes true = refl
-        yes false = refl
+-- g is of another function than f, and its info place is not within the body of f
+pub record Other (f g : Func) (other : Bool) : Type 0 where
+  pub info : infoWithin f g ≡ false
+  pub two : not other ≡ false
+
+pub alone-other : {f g : Func} {other : Bool} → Other f g other → (b : Bool) → b ≡ sharesWith f g → not b ≡ aloneWith f g other
+alone-other {f} {g} {other} z b h = rw (z .info, not-false other (z .two), ← h) (yes (not b))
+  where
+    yes : (b : Bool) → b ≡ both b true
+    yes true = refl
+    yes false = refl
 
 -- ---- all functions
 
@@ -74,9 +78,9 @@ module _ (l : Layout) (s : List ℕ) (id : ℕ) where
   unfolding bodyAlone infosOutside
   all-alone = all-both _ _ (functionsIn s)
 
-  pub alone-stop : (j n : ℕ) (r : Bool) → n ≡ functionsIn s → j < n → r ≡ aloneAt j → not r ≡ true
+  pub alone-stop : (j : ℕ) (r : Bool) → j < functionsIn s → r ≡ aloneAt j → not r ≡ true
       → false ≡ both (bodyAlone l s id) (infosOutside l s id)
-  alone-stop j n r c k e h = pass-stop aloneAt (functionsIn s) j r (rw c at k) e h ∙ all-alone
+  alone-stop j r k e h = pass-stop aloneAt (functionsIn s) j r k e h ∙ all-alone
 
   pub alone-end : (j n : ℕ) → n ≡ functionsIn s → j ≡ n → allBelow j aloneAt ≡ true
       → true ≡ both (bodyAlone l s id) (infosOutside l s id)

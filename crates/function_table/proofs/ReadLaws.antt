@@ -28,29 +28,49 @@ slot-number s at n h =
     let e : length (take n (drop at s)) ≡ n = length-take-le n (drop at s) (rw length-drop (omega arith)) in
     ap number (rw e at (bytesAt-self (take n (drop at s))) ∙ sym (bytesAt-take s n at h))
 
-module _ (l : Layout) (s : List ℕ) (i at : ℕ) (f : Field) (e : at ≡ recordAt l i) (g : f ≡ table.recordRow l) (h : Fits l s)
-    (k : i < functionsIn s) where
+-- the place and the row of the record of function i, as code has them
+pub record SlotRead (l : Layout) (s : List ℕ) (i at : ℕ) (f : Field) : Type 0 where
+  pub place : at ≡ recordAt l i
+  pub row : f ≡ table.recordRow l
+  pub fits : Fits l s
+  pub known : i < functionsIn s
+
+module _ {l : Layout} {s : List ℕ} {i at : ℕ} {f : Field} (z : SlotRead l s i at f) where
   slot-width : f .width ≡ table.recordRow l .width
-  slot-width = ap (λ (x : Field). x .width) g
+  slot-width = ap (λ (x : Field). x .width) (z .row)
+
+  slot-fits : recordAt l i + table.recordRow l .width ≤ length s
+  slot-fits = records-fit l s i (z .fits) (z .known)
 
   pub slot-ends : (at + f .width ≤ length s) × (f .width ≤ 16)
-  slot-ends = (omega (arith, records-fit l s i h k, slot-width), omega (arith, record-size l, slot-width))
+  slot-ends = (omega (arith, slot-fits, slot-width), omega (arith, record-size l, slot-width))
 
   slot-count : at + f .width - at ≡ table.recordRow l .width
   slot-count = omega (arith, slot-width)
 
   pub slot-long : table.recordRow l .width ≤ length (take (at + f .width - at) (drop at s))
   slot-long =
-      rw (slot-count, length-take-le (table.recordRow l .width) (drop at s) (rw length-drop (omega (arith, records-fit l s i h k))))
+      rw (slot-count, length-take-le (table.recordRow l .width) (drop at s) (rw length-drop (omega (arith, slot-fits))))
       (omega arith)
 
   pub slot-record : (n : ℕ) → n ≡ numberAt (take (at + f .width - at) (drop at s)) 0 (table.recordRow l .width)
       → n ≡ recordIn l s i
   unfolding recordIn
-  slot-record n d =
-      d ∙ rw (slot-count, e) (slot-number s (recordAt l i) (table.recordRow l .width) (records-fit l s i h k))
+  slot-record n d = d ∙ rw (slot-count, z .place) (slot-number s (recordAt l i) (table.recordRow l .width) slot-fits)
 
 -- ---- by layout
+
+-- start, size and info place, as the number of a legacy record has them
+pub record LegacyFields (n a b c : ℕ) : Type 0 where
+  pub begin : a ≡ valueOf table.legacyOffset n
+  pub size : b ≡ valueOf table.legacySize n
+  pub info : c ≡ valueOf table.legacyInfo n
+
+-- and as the words of a legacy large header at p have them
+pub record LegacyWords (s : List ℕ) (p a b c : ℕ) : Type 0 where
+  pub begin : a ≡ numberFrom p table.largeOffset s
+  pub size : b ≡ numberFrom p table.legacyLargeSize s
+  pub info : c ≡ numberFrom p table.legacyLargeInfo s
 
 module _ (l : Layout) (n : ℕ) where
   pub pointer-modern : l ≡ Modern → (r : ℕ) → r ≡ pointer Modern n → r ≡ pointer l n
@@ -65,11 +85,10 @@ module _ (l : Layout) (n : ℕ) where
   unfolding small
   small-modern e a b h k = rw (e, h, k)
 
-  pub small-legacy : (x y : Bool) → l ≡ Legacy x y → (a b c : ℕ) → a ≡ valueOf table.legacyOffset n
-      → b ≡ valueOf table.legacySize n
-      → c ≡ valueOf table.legacyInfo n → record { large = false; ptr = 0; begin = a; size = b; info = c } ≡ small l n
+  pub small-legacy : (x y : Bool) → l ≡ Legacy x y → (a b c : ℕ) → LegacyFields n a b c
+      → record { large = false; ptr = 0; begin = a; size = b; info = c } ≡ small l n
   unfolding small
-  small-legacy x y e a b c h k j = rw (e, h, k, j)
+  small-legacy x y e a b c h = rw (e, h .begin, h .size, h .info)
 
 module _ (l : Layout) (s : List ℕ) (p : ℕ) where
   pub header-modern : l ≡ Modern → (a b : ℕ) → a ≡ numberFrom p table.largeOffset s → b ≡ numberFrom p table.modernLargeSize s
@@ -77,11 +96,10 @@ module _ (l : Layout) (s : List ℕ) (p : ℕ) where
   unfolding header
   header-modern e a b h k = rw (e, h, k)
 
-  pub header-legacy : (x y : Bool) → l ≡ Legacy x y → (a b c : ℕ) → a ≡ numberFrom p table.largeOffset s
-      → b ≡ numberFrom p table.legacyLargeSize s → c ≡ numberFrom p table.legacyLargeInfo s
+  pub header-legacy : (x y : Bool) → l ≡ Legacy x y → (a b c : ℕ) → LegacyWords s p a b c
       → record { large = true; ptr = p; begin = a; size = b; info = c } ≡ header l p s
   unfolding header
-  header-legacy x y e a b c h k j = rw (e, h, k, j)
+  header-legacy x y e a b c h = rw (e, h .begin, h .size, h .info)
 
 -- ---- a function, by its record's number
 
@@ -100,28 +118,39 @@ unfolding small
 small-large Modern n = refl
 small-large (Legacy big sources) n = refl
 
-module _ (l : Layout) (s : List ℕ) (i n : ℕ) (e : n ≡ recordIn l s i) (b : Bool) (g : b ≡ isLarge l n) where
-  pub small-is : b ≡ false → (f : Func) → f ≡ small l n → f ≡ funcOf l s i
+-- n is the record of function i, which has no large header
+pub record SmallRead (l : Layout) (s : List ℕ) (i n : ℕ) : Type 0 where
+  pub number : n ≡ recordIn l s i
+  pub flag : isLarge l n ≡ false
+
+module _ {l : Layout} {s : List ℕ} {i n : ℕ} (z : SmallRead l s i n) where
+  pub small-is : (f : Func) → f ≡ small l n → f ≡ funcOf l s i
   unfolding funcOf
-  small-is t f h = rw (← e, ← g, t, h)
+  small-is f h = rw (← z .number, z .flag, h)
 
-  pub is-small : b ≡ false → funcOf l s i .large ≡ false
-  is-small t = ap (λ (f : Func). f .large) (sym (small-is t (small l n) refl)) ∙ small-large l n
+  pub is-small : funcOf l s i .large ≡ false
+  is-small = ap (λ (f : Func). f .large) (sym (small-is (small l n) refl)) ∙ small-large l n
 
-  module _ (t : b ≡ true) (p : ℕ) (q : p ≡ pointer l n) where
-    large-is : header l p s ≡ funcOf l s i
-    unfolding funcOf
-    large-is = rw (← e, ← g, t, q)
+-- n is the record of function i, which has its large header at p
+pub record LargeRead (l : Layout) (s : List ℕ) (i n p : ℕ) : Type 0 where
+  pub number : n ≡ recordIn l s i
+  pub flag : isLarge l n ≡ true
+  pub place : p ≡ pointer l n
 
-    pub header-is : (f : Func) → f ≡ header l p s → f ≡ funcOf l s i
-    header-is f h = h ∙ large-is
+module _ {l : Layout} {s : List ℕ} {i n p : ℕ} (z : LargeRead l s i n p) where
+  large-is : header l p s ≡ funcOf l s i
+  unfolding funcOf
+  large-is = rw (← z .number, z .flag, z .place)
 
-    pub is-large : funcOf l s i .large ≡ true
-    is-large = ap (λ (f : Func). f .large) (sym large-is) ∙ header-large l p s
+  pub header-is : (f : Func) → f ≡ header l p s → f ≡ funcOf l s i
+  header-is f h = h ∙ large-is
 
-    pub points-to : funcOf l s i .ptr ≡ p
-    points-to = ap (λ (f : Func). f .ptr) (sym large-is) ∙ header-ptr l p s
+  pub is-large : funcOf l s i .large ≡ true
+  is-large = ap (λ (f : Func). f .large) (sym large-is) ∙ header-large l p s
 
-    -- where every large header stands in the tail, this one may be read
-    pub header-fits : headersIn l s ≡ true → i < functionsIn s → p + table.largeRow l .width ≤ length s
-    header-fits h k = omega (arith, headers-in l s .holds h i k is-large, points-to)
+  pub points-to : funcOf l s i .ptr ≡ p
+  points-to = ap (λ (f : Func). f .ptr) (sym large-is) ∙ header-ptr l p s
+
+  -- where every large header stands in the tail, this one may be read
+  pub header-fits : headersIn l s ≡ true → i < functionsIn s → p + table.largeRow l .width ≤ length s
+  header-fits h k = omega (arith, headers-in l s .holds h i k is-large, points-to)

@@ -29,7 +29,7 @@ use Rattle.function_table.specs.declared.FunctionRead.{FunctionRead}
 use Rattle.function_table.specs.declared.FunctionRead.the-variants.{Found, Refused}
 use Rattle.function_table.specs.Functions.{asFunc, asFunction, WordSized, FoundSized, pointerJudged, headerIn, functionRead}
 use Rattle.function_table.specs.Functions.{within, functionIn, functionsInTail}
-use Rattle.function_table.proofs.ReadLaws.{small-is, header-is, is-large, points-to, is-small}
+use Rattle.function_table.proofs.ReadLaws.{SmallRead, LargeRead, small-is, header-is, is-large, points-to, is-small}
 
 -- ---- bytes and places in the tail
 
@@ -71,23 +71,29 @@ module _ (p : Places) (s : List ℕ) (h : Placed p s) where
       → r ≡ placeInTail (p .layout) s at
   place-is at r e = e ∙ ap (λ (b : Bool). implies (not (eqb at 0)) b) (in-tail at 0)
 
-  module _ (n ptr : ℕ) (f : Field) (r : Bool) (e : ptr ≡ pointer (p .layout) n) (g : f ≡ table.largeRow (p .layout))
-      (d : r ≡ within (p .tail) (length s) ptr (f .width)) where
-    judges : inTail (p .layout) s (pointer (p .layout) n) (table.largeRow (p .layout) .width) ≡ r
-    judges = rw (← e, ← g) (sym (d ∙ in-tail ptr (f .width)))
+-- r says whether the large header that a record points to lies in the tail
+pub record PointerTested (p : Places) (s : List ℕ) (n ptr : ℕ) (f : Field) (r : Bool) : Type 0 where
+  pub placed : Placed p s
+  pub to : ptr ≡ pointer (p .layout) n
+  pub row : f ≡ table.largeRow (p .layout)
+  pub test : r ≡ within (p .tail) (length s) ptr (f .width)
 
-    pub pointer-out : not r ≡ true → answer.Refused 6 ≡ pointerJudged (p .layout) s n
-    unfolding pointerJudged
-    pointer-out z = rw (judges, not-true r z)
+module _ {p : Places} {s : List ℕ} {n ptr : ℕ} {f : Field} {r : Bool} (z : PointerTested p s n ptr f r) where
+  judges : inTail (p .layout) s (pointer (p .layout) n) (table.largeRow (p .layout) .width) ≡ r
+  judges = rw (← z .to, ← z .row) (sym (z .test ∙ in-tail p s (z .placed) ptr (f .width)))
 
-    pub pointer-in : not r ≡ false → answer.At ptr ≡ pointerJudged (p .layout) s n
-    unfolding pointerJudged
-    pointer-in z = rw (judges, not-false r z, e)
+  pub pointer-out : not r ≡ true → answer.Refused 6 ≡ pointerJudged (p .layout) s n
+  unfolding pointerJudged
+  pointer-out h = rw (judges, not-true r h)
 
-    pub pointer-fits : not r ≡ false → ptr < 4294967296
-    pointer-fits z =
-        let y : Sectioned p s = sectioned p s h in
-        omega (arith, within-end (p .tail) (length s) ptr (f .width) (sym d ∙ not-false r z))
+  pub pointer-in : not r ≡ false → answer.At ptr ≡ pointerJudged (p .layout) s n
+  unfolding pointerJudged
+  pointer-in h = rw (judges, not-false r h, z .to)
+
+  pub pointer-fits : not r ≡ false → ptr < 4294967296
+  pointer-fits h =
+      let y : Sectioned p s = sectioned p s (z .placed) in
+      omega (arith, within-end (p .tail) (length s) ptr (f .width) (sym (z .test) ∙ not-false r h))
 
 module _ (l : Layout) (s : List ℕ) (n : ℕ) (j : Pointer) (e : j ≡ pointerJudged l s n) where
   judged-out : (k : ℕ) → j ≡ answer.Refused k → inTail l s (pointer l n) (table.largeRow l .width) ≡ false
@@ -118,27 +124,35 @@ module _ (l : Layout) (s : List ℕ) (i : ℕ) where
   unfolding functionRead
   not-found h = rw h
 
-  module _ (n : ℕ) (e : n ≡ recordIn l s i) (b : Bool) (g : b ≡ isLarge l n) where
-    pub small-found : not b ≡ true → (f : Function) → asFunc f ≡ small l n → Found f ≡ functionRead l s i
-    small-found t f h = found f (small-is l s i n e b g (not-true b t) (asFunc f) h) (rw (is-small l s i n e b g (not-true b t)))
+  pub small-found : (n : ℕ) → SmallRead l s i n → (f : Function) → asFunc f ≡ small l n → Found f ≡ functionRead l s i
+  small-found n z f h = found f (small-is z (asFunc f) h) (rw (is-small z))
 
-    module _ (t : not b ≡ false) (j : Pointer) (d : j ≡ pointerJudged l s n) where
-      header-in : (ptr : ℕ) → ptr ≡ pointer l n → headerIn l s (funcOf l s i) ≡ inTail l s (pointer l n) (table.largeRow l .width)
-      header-in ptr q = rw (is-large l s i n e b g (not-false b t) ptr q, points-to l s i n e b g (not-false b t) ptr q, q)
+-- n is the record of function i, which has a large header, and j its pointer as it was judged
+pub record PointerRead (l : Layout) (s : List ℕ) (i n : ℕ) (j : Pointer) : Type 0 where
+  pub number : n ≡ recordIn l s i
+  pub flag : isLarge l n ≡ true
+  pub pointer : j ≡ pointerJudged l s n
 
-      pub pointer-refused : (k : ℕ) → j ≡ answer.Refused k → Refused 6 ≡ functionRead l s i
-      pointer-refused k f = not-found (header-in (pointer l n) refl ∙ judged-out l s n j d k f)
+module _ {l : Layout} {s : List ℕ} {i n : ℕ} {j : Pointer} (z : PointerRead l s i n j) where
+  large : (ptr : ℕ) → ptr ≡ pointer l n → LargeRead l s i n ptr
+  large ptr q = record { number = z .number; flag = z .flag; place = q }
 
-      module _ (ptr : ℕ) (q : j ≡ answer.At ptr) where
-        pub header-found : (f : Function) → asFunc f ≡ header l ptr s → Found f ≡ functionRead l s i
-        header-found f h =
-            let y : (inTail l s (pointer l n) (table.largeRow l .width) ≡ true) × (ptr ≡ pointer l n) = judged-in l s n j d ptr q in
-            found f (header-is l s i n e b g (not-false b t) ptr (y .1) (asFunc f) h) (header-in ptr (y .1) ∙ y .0)
+  header-in : (ptr : ℕ) → ptr ≡ pointer l n → headerIn l s (funcOf l s i) ≡ inTail l s (pointer l n) (table.largeRow l .width)
+  header-in ptr q = rw (is-large (large ptr q), points-to (large ptr q), q)
 
-        pub header-there : ptr + table.largeRow l .width ≤ length s
-        header-there =
-            let y : (inTail l s (pointer l n) (table.largeRow l .width) ≡ true) × (ptr ≡ pointer l n) = judged-in l s n j d ptr q in
-            omega (arith, within-end (tailAt l s) (length s) (pointer l n) (table.largeRow l .width) (y .0), y .1)
+  pub pointer-refused : (k : ℕ) → j ≡ answer.Refused k → Refused 6 ≡ functionRead l s i
+  pointer-refused k f = not-found l s i (header-in (pointer l n) refl ∙ judged-out l s n j (z .pointer) k f)
+
+  module _ (ptr : ℕ) (q : j ≡ answer.At ptr) where
+    pub header-found : (f : Function) → asFunc f ≡ header l ptr s → Found f ≡ functionRead l s i
+    header-found f h =
+        let (t, e) = judged-in l s n j (z .pointer) ptr q in
+        found l s i f (header-is (large ptr e) (asFunc f) h) (header-in ptr e ∙ t)
+
+    pub header-there : ptr + table.largeRow l .width ≤ length s
+    header-there =
+        let (t, e) = judged-in l s n j (z .pointer) ptr q in
+        omega (arith, within-end (tailAt l s) (length s) (pointer l n) (table.largeRow l .width) t)
 
 -- ---- what one function has in the tail
 
@@ -152,31 +166,35 @@ module _ (l : Layout) (s : List ℕ) (i : ℕ) (r : FunctionRead) (e : r ≡ fun
       go true q = let z : _≡_ {A = ℕ} 0 1 = cc in absurd (omega arith)
       go false q = refl
 
-  module _ (f : Function) (g : r ≡ Found f) where
-    found-is : (headerIn l s (funcOf l s i) ≡ true) × (funcOf l s i ≡ asFunc f)
-    unfolding functionRead
-    found-is = go (headerIn l s (funcOf l s i)) (sym e ∙ g)
-      where
-        go : (b : Bool) → pick b (Found (asFunction (funcOf l s i))) (Refused 6) ≡ Found f → (b ≡ true)
-            × (funcOf l s i ≡ asFunc f)
-        go true q = let z : asFunction (funcOf l s i) ≡ f = cc in (refl, ap asFunc z)
-        go false q = let z : _≡_ {A = ℕ} 0 1 = cc in absurd (omega arith)
+pub found-sized : (r : FunctionRead) (f : Function) → r ≡ Found f → FoundSized r → WordSized f
+found-sized r f g h = subst FoundSized g h
 
-    pub found-sized : FoundSized r → WordSized f
-    found-sized h = subst FoundSized g h
+-- function i is read as f, and a says whether its body lies in the tail
+pub record BodyTested (l : Layout) (s : List ℕ) (i : ℕ) (f : Function) (a : Bool) : Type 0 where
+  pub found : Found f ≡ functionRead l s i
+  pub test : a ≡ inTail l s (f .begin) (f .size)
 
-    rest-is : functionIn l s (funcOf l s i) ≡ both (inTail l s (f .begin) (f .size)) (placeInTail l s (f .info))
-    unfolding functionIn
-    rest-is =
-        rw (found-is .0)
-        (ap (λ (x : Func). both (inTail l s (x .begin) (x .size)) (placeInTail l s (x .info))) (found-is .1))
+module _ {l : Layout} {s : List ℕ} {i : ℕ} {f : Function} {a : Bool} (z : BodyTested l s i f a) where
+  found-is : (headerIn l s (funcOf l s i) ≡ true) × (funcOf l s i ≡ asFunc f)
+  unfolding functionRead
+  found-is = go (headerIn l s (funcOf l s i)) (sym (z .found))
+    where
+      go : (b : Bool) → pick b (Found (asFunction (funcOf l s i))) (Refused 6) ≡ Found f → (b ≡ true)
+          × (funcOf l s i ≡ asFunc f)
+      go true q = let y : asFunction (funcOf l s i) ≡ f = cc in (refl, ap asFunc y)
+      go false q = let y : _≡_ {A = ℕ} 0 1 = cc in absurd (omega arith)
 
-    module _ (a : Bool) (d : a ≡ inTail l s (f .begin) (f .size)) where
-      pub body-out : not a ≡ true → false ≡ functionIn l s (funcOf l s i)
-      body-out t = rw (rest-is, ← d, not-true a t)
+  rest-is : functionIn l s (funcOf l s i) ≡ both a (placeInTail l s (f .info))
+  unfolding functionIn
+  rest-is =
+      rw (found-is .0, z .test)
+      (ap (λ (x : Func). both (inTail l s (x .begin) (x .size)) (placeInTail l s (x .info))) (found-is .1))
 
-      pub body-in : not a ≡ false → (b : Bool) → b ≡ placeInTail l s (f .info) → b ≡ functionIn l s (funcOf l s i)
-      body-in t b k = rw (rest-is, ← d, not-false a t, k)
+  pub body-out : not a ≡ true → false ≡ functionIn l s (funcOf l s i)
+  body-out t = rw (rest-is, not-true a t)
+
+  pub body-in : not a ≡ false → (b : Bool) → b ≡ placeInTail l s (f .info) → b ≡ functionIn l s (funcOf l s i)
+  body-in t b k = rw (rest-is, not-false a t, k)
 
 -- ---- all functions
 
@@ -186,9 +204,9 @@ module _ (l : Layout) (s : List ℕ) where
   all-functions =
       all-both _ _ (functionsIn s) ∙ ap (λ (b : Bool). both (headersIn l s) b) (all-both _ _ (functionsIn s))
 
-  pub function-fails : (i n : ℕ) (r : Bool) → n ≡ functionsIn s → i < n → r ≡ functionIn l s (funcOf l s i) → not r ≡ true
+  pub function-fails : (i : ℕ) (r : Bool) → i < functionsIn s → r ≡ functionIn l s (funcOf l s i) → not r ≡ true
       → false ≡ functionsInTail l s
-  function-fails i n r c k e h = pass-stop _ (functionsIn s) i r (rw c at k) e h ∙ all-functions
+  function-fails i r k e h = pass-stop _ (functionsIn s) i r k e h ∙ all-functions
 
   pub functions-end : (i n : ℕ) → n ≡ functionsIn s → i ≡ n → allBelow i (λ j. functionIn l s (funcOf l s j)) ≡ true
       → true ≡ functionsInTail l s

@@ -84,10 +84,40 @@ length-patched l s id body ok k =
     = rw (length-moved l s id body (omega (arith, b))) (omega (arith, b, body-starts l s ok id k)) in
     (length-finalized (bodied l s id body) (omega (arith, n, m)) ∙ n, m)
 
--- ---- 9 to 12
+-- ---- 9 to 12: each record holds what the tests so far have found
 
-module _ (l : Layout) (s : List ℕ) (id : ℕ) (body : List ℕ) (f : Function) (ok : Admitted l s) (known : id < functionsIn s)
-    (t : FunctionIs l s id f) where
+-- function id of an admitted image, as code holds it
+pub record Chosen (l : Layout) (s : List ℕ) (id : ℕ) (f : Function) : Type 0 where
+  pub admitted : Admitted l s
+  pub known : id < functionsIn s
+  pub is : FunctionIs l s id f
+
+-- no other body and no info place is in the way
+pub record LeftAlone (l : Layout) (s : List ℕ) (id : ℕ) (body : List ℕ) (f : Function) : Type 0 where
+  pub chosen : Chosen l s id f
+  pub alone : both (bodyAlone l s id) (infosOutside l s id) ≡ true
+
+-- nor is the debug offset
+pub record Clear (l : Layout) (s : List ℕ) (id : ℕ) (body : List ℕ) (f : Function) : Type 0 where
+  pub alone : LeftAlone l s id body f
+  pub debug : debugPast l s id ≡ true
+
+-- nor is a body put in the place of nothing
+pub record Grounded (l : Layout) (s : List ℕ) (id : ℕ) (body : List ℕ) (f : Function) : Type 0 where
+  pub clear : Clear l s id body f
+  pub some : fromNothing (funcOf l s id .size) (length body) ≡ false
+
+-- nor is the result too long
+pub record Short (l : Layout) (s : List ℕ) (id : ℕ) (body : List ℕ) (f : Function) : Type 0 where
+  pub grounded : Grounded l s id body f
+  pub limit : ltb sizeLimit (movedPastBody l s id body (length s)) ≡ false
+
+-- and the record of the function holds the new size
+pub record Held (l : Layout) (s : List ℕ) (id : ℕ) (body : List ℕ) (f : Function) : Type 0 where
+  pub short : Short l s id body f
+  pub size : sizeFits l s id body ≡ true
+
+module _ (l : Layout) (s : List ℕ) (id : ℕ) (body : List ℕ) where
   abbrev len : ℕ
   len = movedPastBody l s id body (length s)
 
@@ -101,91 +131,108 @@ module _ (l : Layout) (s : List ℕ) (id : ℕ) (body : List ℕ) (f : Function)
       (pick (fromNothing (funcOf l s id .size) (length body)) 10
       (pick (ltb sizeLimit len) 11 (pick (not (sizeFits l s id body)) 12 (pick (not (fieldsFit l s (movedPastBody l s id body))) 12 0))))
 
-  pub new-length : length s - f .size + length body ≡ len
+module _ {l : Layout} {s : List ℕ} {id : ℕ} {f : Function} (body : List ℕ) (z : Chosen l s id f) where
+  new-length : length s - f .size + length body ≡ len l s id body
   new-length =
-      let e : f .size ≡ funcOf l s id .size = ap (λ (x : Func). x .size) (t .is) in
-      rw e (sym (length-moved l s id body (omega (arith, body-ends l s ok id known))))
+      let e : f .size ≡ funcOf l s id .size = ap (λ (x : Func). x .size) (z .is .is) in
+      rw e (sym (length-moved l s id body (omega (arith, body-ends l s (z .admitted) id (z .known)))))
 
   module _ (a : Bool) (e : a ≡ both (bodyAlone l s id) (infosOutside l s id)) where
-    pub not-alone : not a ≡ true → answer.Refused 9 ≡ judged
+    pub not-alone : not a ≡ true → answer.Refused 9 ≡ judged l s id body
     unfolding judge
-    not-alone h = ap (λ (n : ℕ). answerFor n len) (sym (two-no (bodyAlone l s id) (infosOutside l s id) later (sym e ∙ not-true a h)))
+    not-alone h =
+        ap (λ (n : ℕ). answerFor n (len l s id body))
+        (sym (two-no (bodyAlone l s id) (infosOutside l s id) (later l s id body) (sym e ∙ not-true a h)))
 
-    module _ (a₁ : not a ≡ false) (b : Bool)
-        (g : b ≡ implies (not (eqb (debugIn l s) 0)) (leb (f .begin + f .size) (debugIn l s))) where
-      after : judged ≡ answerFor later len
-      unfolding judge
-      after = ap (λ (n : ℕ). answerFor n len) (two-yes (bodyAlone l s id) (infosOutside l s id) later (sym e ∙ not-false a a₁))
+    pub is-alone : not a ≡ false → LeftAlone l s id body f
+    is-alone h = record { chosen = z; alone = sym e ∙ not-false a h }
 
-      debug-is : debugPast l s id ≡ b
-      unfolding debugPast
-      debug-is = sym (g ∙ ap (λ (x : Func). implies (not (eqb (debugIn l s) 0)) (leb (threshold x) (debugIn l s))) (t .is))
+module _ {l : Layout} {s : List ℕ} {id : ℕ} {body : List ℕ} {f : Function} where
+  after : LeftAlone l s id body f → judged l s id body ≡ answerFor (later l s id body) (len l s id body)
+  unfolding judge
+  after z =
+      ap (λ (n : ℕ). answerFor n (len l s id body))
+      (two-yes (bodyAlone l s id) (infosOutside l s id) (later l s id body) (z .alone))
 
-      pub debug-before : not b ≡ true → answer.Refused 9 ≡ judged
-      debug-before h = sym (after ∙ rw (debug-is, not-true b h))
+  module _ (z : LeftAlone l s id body f) (b : Bool)
+      (e : b ≡ implies (not (eqb (debugIn l s) 0)) (leb (f .begin + f .size) (debugIn l s))) where
+    debug-is : debugPast l s id ≡ b
+    unfolding debugPast
+    debug-is =
+        sym (e ∙ ap (λ (x : Func). implies (not (eqb (debugIn l s) 0)) (leb (threshold x) (debugIn l s))) (z .chosen .is .is))
 
-      module _ (b₁ : not b ≡ false) (c : Bool) (h : c ≡ fromNothing (f .size) (length body)) where
-        nothing-is : fromNothing (funcOf l s id .size) (length body) ≡ c
-        nothing-is = sym (h ∙ ap (λ (x : Func). fromNothing (x .size) (length body)) (t .is))
+    pub debug-before : not b ≡ true → answer.Refused 9 ≡ judged l s id body
+    debug-before h = sym (after z ∙ rw (debug-is, not-true b h))
 
-        pub put-in-nothing : c ≡ true → answer.Refused 10 ≡ judged
-        put-in-nothing k = sym (after ∙ rw (debug-is, not-false b b₁, nothing-is, k))
+    pub is-clear : not b ≡ false → Clear l s id body f
+    is-clear h = record { alone = z; debug = debug-is ∙ not-false b h }
 
-        module _ (c₁ : c ≡ false) (d : Bool) (i : d ≡ ltb sizeLimit (length s - f .size + length body)) where
-          long-is : ltb sizeLimit len ≡ d
-          long-is = sym (i ∙ ap (λ (n : ℕ). ltb sizeLimit n) new-length)
+  module _ (z : Clear l s id body f) (c : Bool) (e : c ≡ fromNothing (f .size) (length body)) where
+    nothing-is : fromNothing (funcOf l s id .size) (length body) ≡ c
+    nothing-is = sym (e ∙ ap (λ (x : Func). fromNothing (x .size) (length body)) (z .alone .chosen .is .is))
 
-          pub too-long : d ≡ true → answer.Refused 11 ≡ judged
-          too-long k = sym (after ∙ rw (debug-is, not-false b b₁, nothing-is, c₁, long-is, k))
+    pub put-in-nothing : c ≡ true → answer.Refused 10 ≡ judged l s id body
+    put-in-nothing h = sym (after (z .alone) ∙ rw (z .debug, nothing-is, h))
 
-          module _ (d₁ : d ≡ false) where
-            pub short-enough : length s - f .size + length body ≤ sizeLimit
-            short-enough = ltb-false sizeLimit (length s - f .size + length body) (sym i ∙ d₁)
+    pub is-grounded : c ≡ false → Grounded l s id body f
+    is-grounded h = record { clear = z; some = nothing-is ∙ h }
 
-            module _ (x : Bool) (j : x ≡ either (f .large) (not (beyond (sizeRow l) (length body)))) where
-              size-is : sizeFits l s id body ≡ x
-              unfolding sizeFits
-              size-is = sym (j ∙ ap (λ (x : Func). either (x .large) (not (beyond (sizeRow l) (length body)))) (t .is))
+  module _ (z : Grounded l s id body f) (d : Bool) (e : d ≡ ltb sizeLimit (length s - f .size + length body)) where
+    long-is : ltb sizeLimit (len l s id body) ≡ d
+    long-is = sym (e ∙ ap (λ (n : ℕ). ltb sizeLimit n) (new-length body (z .clear .alone .chosen)))
 
-              pub size-beyond : not x ≡ true → answer.Refused 12 ≡ judged
-              size-beyond k = sym (after ∙ rw (debug-is, not-false b b₁, nothing-is, c₁, long-is, d₁, size-is, not-true x k))
+    pub too-long : d ≡ true → answer.Refused 11 ≡ judged l s id body
+    too-long h = sym (after (z .clear .alone) ∙ rw (z .clear .debug, z .some, long-is, h))
 
-              module _ (x₁ : not x ≡ false) (y : Bool)
-                  (k : y ≡ fieldsFit l s (moved (f .begin + f .size) (f .begin + length body))) where
-                fields-are : fieldsFit l s (movedPastBody l s id body) ≡ y
-                fields-are = sym (k ∙ ap (λ (x : Func). fieldsFit l s (moved (threshold x) (x .begin + length body))) (t .is))
+    pub is-short : d ≡ false → Short l s id body f
+    is-short h = record { grounded = z; limit = long-is ∙ h }
 
-                pub fields-beyond : not y ≡ true → answer.Refused 12 ≡ judged
-                fields-beyond q =
-                    sym (after ∙ rw (
-                      debug-is,
-                      not-false b b₁,
-                      nothing-is,
-                      c₁,
-                      long-is,
-                      d₁,
-                      size-is,
-                      not-false x x₁,
-                      fields-are,
-                      not-true y q,
-                    ))
+  pub short-enough : Short l s id body f → length s - f .size + length body ≤ sizeLimit
+  short-enough z =
+      omega
+      (arith, new-length body (z .grounded .clear .alone .chosen), ltb-false sizeLimit (len l s id body) (z .limit))
 
-                pub all-fit : not y ≡ false → answer.Length (length s - f .size + length body) ≡ judged
-                all-fit q =
-                    sym (after ∙ rw (
-                      debug-is,
-                      not-false b b₁,
-                      nothing-is,
-                      c₁,
-                      long-is,
-                      d₁,
-                      size-is,
-                      not-false x x₁,
-                      fields-are,
-                      not-false y q,
-                    ) (ap answer.Length (sym new-length)))
+  module _ (z : Short l s id body f) (x : Bool) (e : x ≡ either (f .large) (not (beyond (sizeRow l) (length body)))) where
+    size-is : sizeFits l s id body ≡ x
+    unfolding sizeFits
+    size-is =
+        let t : FunctionIs l s id f = z .grounded .clear .alone .chosen .is in
+        sym (e ∙ ap (λ (x : Func). either (x .large) (not (beyond (sizeRow l) (length body)))) (t .is))
+
+    pub size-beyond : not x ≡ true → answer.Refused 12 ≡ judged l s id body
+    size-beyond h =
+        let g : Grounded l s id body f = z .grounded in
+        sym (after (g .clear .alone) ∙ rw (g .clear .debug, g .some, z .limit, size-is, not-true x h))
+
+    pub is-held : not x ≡ false → Held l s id body f
+    is-held h = record { short = z; size = size-is ∙ not-false x h }
+
+  module _ (z : Held l s id body f) (y : Bool) (e : y ≡ fieldsFit l s (moved (f .begin + f .size) (f .begin + length body))) where
+    chosen-of : Chosen l s id f
+    chosen-of = z .short .grounded .clear .alone .chosen
+
+    fields-are : fieldsFit l s (movedPastBody l s id body) ≡ y
+    fields-are = sym (e ∙ ap (λ (x : Func). fieldsFit l s (moved (threshold x) (x .begin + length body))) (chosen-of .is .is))
+
+    -- the last test decides
+    last : judged l s id body ≡ answerFor (pick (not y) 12 0) (len l s id body)
+    last =
+        let g : Grounded l s id body f = z .short .grounded in
+        after (g .clear .alone) ∙ rw (g .clear .debug, g .some, z .short .limit, z .size, fields-are)
+
+    pub fields-beyond : not y ≡ true → answer.Refused 12 ≡ judged l s id body
+    fields-beyond h = sym (last ∙ rw (not-true y h))
+
+    pub all-fit : not y ≡ false → answer.Length (length s - f .size + length body) ≡ judged l s id body
+    all-fit h = ap answer.Length (new-length body chosen-of) ∙ sym (last ∙ rw (not-false y h))
 
 -- ---- all refusals
+
+-- the image is admitted with these places, and has a function id
+pub record FunctionKnown (l : Layout) (s : List ℕ) (id : ℕ) (p : Places) : Type 0 where
+  pub bytes : (i : ℕ) → getD s i 0 < 256
+  pub laid : admission l s ≡ Laid p
+  pub known : id < p .functions
 
 module _ (l : Layout) (s : List ℕ) (id : ℕ) (body : List ℕ) where
   answer-is : answered (patchBody l s id body) ≡ answerFor (bodyRefusal l s id body) (length (patchedBody l s id body))
@@ -227,30 +274,35 @@ module _ (l : Layout) (s : List ℕ) (id : ℕ) (body : List ℕ) where
       pub is-known : id < p .functions → id < functionsIn s
       is-known k = omega (arith, functions-are l s p places-are)
 
-      module _ (bytes : (i : ℕ) → getD s i 0 < 256) (k : id < p .functions) where
-        ok : Admitted l s
-        ok = admission-laws.admitted l s bytes passed
+  module _ {p : Places} (z : FunctionKnown l s id p) where
+    ok : Admitted l s
+    ok = admission-laws.admitted l s (z .bytes) (passed (admission l s) refl p (z .laid))
 
-        -- what is asked for the rest
-        pub function-asked : Readable l s × (id < functionsIn s)
-        function-asked = (readable l s ok, is-known k)
+    known : id < functionsIn s
+    known = is-known (admission l s) refl p (z .laid) (z .known)
 
-        pub body-asked : (f : Function) → (asFunc f ≡ funcOf l s id) × WordSized f
-            → places.Laid p s × ((id < functionsIn s) × FunctionIs (p .layout) s id f)
-        body-asked f q =
-            let g : l ≡ p .layout = sym (layout-is l s p places-are) in
-            (is-laid l s a e p h bytes, (is-known k, subst (λ (x : Layout). FunctionIs x s id f) g (record { is = q .0; sized = q .1 })))
+    layout-of : p .layout ≡ l
+    layout-of = layout-is l s p (places-are (admission l s) refl p (z .laid))
 
-        pub body-judged : (r : Answer)
-            → r ≡ answerFor (judge (bodyChecks (p .layout) s id body)) (movedPastBody (p .layout) s id body (length s))
-            → r ≡ answered (patchBody l s id body)
-        unfolding judge
-        body-judged r q =
-            let g : id < functionsIn s = is-known k in
-            subst (λ (x : Layout). r ≡ answerFor (judge (bodyChecks x s id body)) (movedPastBody x s id body (length s)))
-            (layout-is l s p places-are) q
-            ∙ ap (λ (n : ℕ). answerFor (judge (bodyChecks l s id body)) n) (sym (length-patched l s id body ok g .0))
-            ∙ sym (answer-is ∙ rw (own, lt-leb (functionsIn s) id g))
+    -- what is asked for the rest
+    pub function-asked : Readable l s × (id < functionsIn s)
+    function-asked = (readable l s ok, known)
+
+    pub body-asked : (f : Function) → (asFunc f ≡ funcOf l s id) × WordSized f
+        → places.Laid p s × ((id < functionsIn s) × FunctionIs (p .layout) s id f)
+    body-asked f q = (
+      is-laid l s (admission l s) refl p (z .laid) (z .bytes),
+      (known, subst (λ (x : Layout). FunctionIs x s id f) (sym layout-of) (record { is = q .0; sized = q .1 })),
+    )
+
+    pub body-judged : (r : Answer)
+        → r ≡ answerFor (judge (bodyChecks (p .layout) s id body)) (movedPastBody (p .layout) s id body (length s))
+        → r ≡ answered (patchBody l s id body)
+    unfolding judge
+    body-judged r q =
+        subst (λ (x : Layout). r ≡ answerFor (judge (bodyChecks x s id body)) (movedPastBody x s id body (length s))) layout-of q
+        ∙ ap (λ (n : ℕ). answerFor (judge (bodyChecks l s id body)) n) (sym (length-patched l s id body ok known .0))
+        ∙ sym (answer-is ∙ rw (own (admission l s) refl p (z .laid), lt-leb (functionsIn s) id known))
 
   -- ---- what is accepted
 

@@ -23,6 +23,7 @@ use Rattle.image.specs.Functions.{Func, funcOf}
 use Rattle.image.proofs.CheckLaws.{bodies-in, bodies-apart}
 use Rattle.edits.specs.Edit.{splice}
 use Rattle.function_table.specs.declared.Function.{Function}
+use Rattle.function_table.specs.Functions.{asFunc}
 use Rattle.relocate.specs.declared.Cause.the-variants.{Body}
 use Rattle.relocate.specs.declared.Move.{Move}
 use Rattle.relocate.specs.Relocate.{relocated, Movable}
@@ -41,19 +42,26 @@ splice-same : (a b : ℕ) (new s : List ℕ) → b ≡ a + length new → b ≤ 
 unfolding splice
 splice-same a b new s e h = rw e (sym (sets-eq new s a (omega arith) ∙ append-assoc (take a s) new (drop (a + length new) s)))
 
-module _ (l : Layout) (s : List ℕ) (id : ℕ) (body : List ℕ) (room : ℕ) (ok : Accepted l s id body room) (f : Function)
-    (t : FunctionIs l s id f) where
-  abbrev moveOf : Func → Move
-  moveOf x = record { from = x .begin + x .size; to = x .begin + length body; cause = Body id (length body) }
+abbrev moveOf : ℕ → List ℕ → Func → Move
+moveOf id body x = record { from = x .begin + x .size; to = x .begin + length body; cause = Body id (length body) }
+
+-- an accepted patch, and its function as code holds it
+pub record Begun (l : Layout) (s : List ℕ) (id : ℕ) (body : List ℕ) (room : ℕ) (f : Function) : Type 0 where
+  pub accepted : Accepted l s id body room
+  pub is : FunctionIs l s id f
+
+module _ {l : Layout} {s : List ℕ} {id : ℕ} {body : List ℕ} {room : ℕ} {f : Function} (z : Begun l s id body room f) where
+  ok : Accepted l s id body room
+  ok = z .accepted
 
   begin-is : f .begin ≡ funcOf l s id .begin
-  begin-is = ap (λ (x : Func). x .begin) (t .is)
+  begin-is = ap (λ (x : Func). x .begin) (z .is .is)
 
   size-is : f .size ≡ funcOf l s id .size
-  size-is = ap (λ (x : Func). x .size) (t .is)
+  size-is = ap (λ (x : Func). x .size) (z .is .is)
 
   ends : f .begin + f .size + 20 ≤ length s
-  ends = target-ends l s (ok .admitted) id f (ok .known) t
+  ends = target-ends l s (ok .admitted) id f (ok .known) (z .is)
 
   room-is : room ≡ length s - f .size + length body
   room-is = ok .exact ∙ length-moved l s id body (omega (arith, body-ends l s (ok .admitted) id (ok .known))) ∙ rw (← size-is)
@@ -62,39 +70,51 @@ module _ (l : Layout) (s : List ℕ) (id : ℕ) (body : List ℕ) (room : ℕ) (
       × (room ≡ length s - (f .begin + f .size) + (f .begin + length body))
   splice-asked = (omega arith, omega (arith, ends), omega (arith, ends, room-is))
 
-  module _ (o₁ : List ℕ) (e : o₁ ≡ splice (f .begin) (f .begin + f .size) body s) where
-    pub same-size : length body ≡ f .size → o₁ ≡ bodied l s id body
-    same-size h =
-        e ∙ splice-same (f .begin) (f .begin + f .size) body s (omega arith) (omega (arith, ends))
-        ∙ rw (eq-eqb (length body) (funcOf l s id .size) (h ∙ size-is), begin-is)
+  module _ (h : length body ≡ f .size → ⊥) where
+    -- an empty body stays empty, and so of one size
+    some : 0 < funcOf l s id .size
+    some =
+        elim (below-or 0 (funcOf l s id .size)) [
+          | inl q ↦ q
+          | inr q ↦
+              let e : funcOf l s id .size ≡ 0 = omega arith in
+              let n : ltb 0 (length body) ≡ false = rw (eq-eqb (funcOf l s id .size) 0 e) at (ok .some) in
+              absurd (h (omega (arith, ltb-false 0 (length body) n, size-is)))
+        ]
 
-    module _ (h : length body ≡ f .size → ⊥) where
-      pub other-size : (o₂ : List ℕ)
-          → o₂ ≡ relocated l s (record { from = f .begin + f .size; to = f .begin + length body; cause = Body id (length body) }) o₁
-          → o₂ ≡ bodied l s id body
-      other-size o₂ k =
-          k ∙ ap (relocated l s (moveOf (record { large = f .large; ptr = f .ptr; begin = f .begin; size = f .size; info = f .info }))) e
-          ∙ ap (λ (x : Func). relocated l s (moveOf x) (splice (x .begin) (x .begin + x .size) body s)) (t .is)
-          ∙ resize-is l id body s
-          ∙ rw (ne-eqb (length body) (funcOf l s id .size) (λ q. h (q ∙ sym size-is)))
+    pub may-move : Movable l s (record { from = f .begin + f .size; to = f .begin + length body; cause = Body id (length body) }) room
+    may-move =
+        subst (λ (x : Func). Movable l s (moveOf id body x) room) (sym (z .is .is))
+        (resize-movable l s room
+        (record { fits = fits l s (ok .admitted); headers = readable l s (ok .admitted) .1; limit = ok .limit }) id body
+        (record {
+          known = ok .known;
+          bodies = bodies-in l s .passed (ok .admitted .body);
+          apart = bodies-apart l s .passed (λ i b j k w. ok .admitted .clear i j b k w);
+          some = some;
+        })
+        (omega (arith, splice-asked .2, begin-is, size-is)))
 
-      -- an empty body stays empty, and so of one size
-      some : 0 < funcOf l s id .size
-      some =
-          elim (below-or 0 (funcOf l s id .size)) [
-            | inl q ↦ q
-            | inr q ↦
-                let z : funcOf l s id .size ≡ 0 = omega arith in
-                let n : ltb 0 (length body) ≡ false = rw (eq-eqb (funcOf l s id .size) 0 z) at (ok .some) in
-                absurd (h (omega (arith, ltb-false 0 (length body) n, size-is)))
-          ]
+-- and the new body stands in the place of the old one
+pub record Spliced (l : Layout) (s : List ℕ) (id : ℕ) (body : List ℕ) (room : ℕ) (f : Function) (o : List ℕ) : Type 0 where
+  pub begun : Begun l s id body room f
+  pub spliced : o ≡ splice (f .begin) (f .begin + f .size) body s
 
-      pub may-move : Movable l s (record { from = f .begin + f .size; to = f .begin + length body; cause = Body id (length body) }) room
-      may-move =
-          subst (λ (x : Func). Movable l s (moveOf x) room) (sym (t .is))
-          (resize-movable l s (fits l s (ok .admitted)) (readable l s (ok .admitted) .1) room (ok .limit) id body (ok .known)
-          (bodies-in l s .passed (ok .admitted .body)) (bodies-apart l s .passed (λ i b j k w. ok .admitted .clear i j b k w)) some
-          (omega (arith, splice-asked .2, begin-is, size-is)))
+module _ {l : Layout} {s : List ℕ} {id : ℕ} {body : List ℕ} {room : ℕ} {f : Function} {o₁ : List ℕ}
+    (z : Spliced l s id body room f o₁) where
+  pub same-size : length body ≡ f .size → o₁ ≡ bodied l s id body
+  same-size h =
+      z .spliced ∙ splice-same (f .begin) (f .begin + f .size) body s (omega arith) (omega (arith, ends (z .begun)))
+      ∙ rw (eq-eqb (length body) (funcOf l s id .size) (h ∙ size-is (z .begun)), begin-is (z .begun))
+
+  pub other-size : (length body ≡ f .size → ⊥) → (o₂ : List ℕ)
+      → o₂ ≡ relocated l s (record { from = f .begin + f .size; to = f .begin + length body; cause = Body id (length body) }) o₁
+      → o₂ ≡ bodied l s id body
+  other-size h o₂ k =
+      k ∙ ap (relocated l s (moveOf id body (asFunc f))) (z .spliced)
+      ∙ ap (λ (x : Func). relocated l s (moveOf id body x) (splice (x .begin) (x .begin + x .size) body s)) (z .begun .is .is)
+      ∙ resize-is l id body s
+      ∙ rw (ne-eqb (length body) (funcOf l s id .size) (λ q. h (q ∙ sym (size-is (z .begun)))))
 
 -- ---- and finalized
 
@@ -130,18 +150,24 @@ module _ (l : Layout) (s : List ℕ) (id : ℕ) (body out : List ℕ) (r : Answe
       go (made new) g = let z : _≡_ {A = ℕ} 0 1 = cc in absurd (omega arith)
 
   module _ (n : ℕ) (f : r ≡ answer.Length n) where
-    made-so : (patchBody l s id body ≡ made (patchedBody l s id body)) × (n ≡ length (patchedBody l s id body))
-    made-so = makes l s id body n (sym f ∙ e)
-
     pub no-room : length out < n → Answers outcome (answer.Refused 13) out out
-    no-room h = rw (made-so .0, roomed-short (length out) (patchedBody l s id body) (omega (arith, made-so .1))) (refl, refl)
+    no-room h =
+        let m = makes l s id body n (sym f ∙ e) in
+        rw (m .0, roomed-short (length out) (patchedBody l s id body) (omega (arith, m .1))) (refl, refl)
 
-    module _ (h : n ≤ length out) where
-      pub room-made : ((i : ℕ) → getD s i 0 < 256) → Accepted l s id body (length (take (n - 0) (drop 0 out)))
-      room-made bytes = rw (sub-zero, length-take-le n out h) (accepted l s id body n (sym f ∙ e) bytes)
+-- the result has length n, and there is room for it
+pub record PatchRoomy (l : Layout) (s : List ℕ) (id : ℕ) (body out : List ℕ) (n : ℕ) : Type 0 where
+  pub measured : answer.Length n ≡ answered (patchBody l s id body)
+  pub room : n ≤ length out
 
-      pub written-out : (q : Answer) (part : List ℕ) → Answers (made (patchedBody l s id body)) q (take (n - 0) (drop 0 out)) part
-          → Answers outcome q out (putMid 0 (n - 0) out part)
-      written-out q part a =
-          rw (sub-zero, made-so .0, roomed-fits (length out) (patchedBody l s id body) (omega (arith, made-so .1)))
-          (lent-front (patchedBody l s id body) out part n q (made-so .1) h (rw sub-zero at a))
+module _ {l : Layout} {s : List ℕ} {id : ℕ} {body out : List ℕ} {n : ℕ} (z : PatchRoomy l s id body out n) where
+  pub room-made : ((i : ℕ) → getD s i 0 < 256) → Accepted l s id body (length (take (n - 0) (drop 0 out)))
+  room-made bytes = rw (sub-zero, length-take-le n out (z .room)) (accepted l s id body n (z .measured) bytes)
+
+  pub written-out : (q : Answer) (part : List ℕ) → Answers (made (patchedBody l s id body)) q (take (n - 0) (drop 0 out)) part
+      → Answers (roomed (length out) (patchBody l s id body)) q out (putMid 0 (n - 0) out part)
+  written-out q part a =
+      let m : (patchBody l s id body ≡ made (patchedBody l s id body)) × (n ≡ length (patchedBody l s id body))
+      = makes l s id body n (z .measured) in
+      rw (sub-zero, m .0, roomed-fits (length out) (patchedBody l s id body) (omega (arith, m .1, z .room)))
+      (lent-front (patchedBody l s id body) out part n q (m .1) (z .room) (rw sub-zero at a))

@@ -53,45 +53,51 @@ byPlaces n stated right sealed from p =
     ∷ p .footer
     ∷ []
 
-module _ (s : List ℕ) (p : Places) (h : p ≡ placesOf (p .layout) s) (stated right sealed from : ℕ) where
-  pub facts-are : stated ≡ wordAt s (table.fileLength .at)
-      → right ≡ flag (eqb stated (length s))
-      → sealed ≡ flag (verified s)
-      → from ≡ recordAt (p .layout) 0
-      → byPlaces (length s) stated right sealed from p ≡ factsOf (p .layout) s
-  unfolding factsOf placesOf
-  facts-are e₁ e₂ e₃ e₄ = ap (byPlaces (length s) stated right sealed from) h ∙ rw (e₄, e₃, e₂, e₁)
+-- the places of the image, and the numbers read beside them
+pub record Gathered (s : List ℕ) (p : Places) (stated right sealed from : ℕ) : Type 0 where
+  pub places : p ≡ placesOf (p .layout) s
+  pub header : stated ≡ wordAt s (table.fileLength .at)
+  pub judged : right ≡ flag (eqb stated (length s))
+  pub footer : sealed ≡ flag (verified s)
+  pub records : from ≡ recordAt (p .layout) 0
 
-module _ (l : Layout) (s : List ℕ) (room : ℕ) (old : List ℕ) (r : Admission) (e : r ≡ admission l s) where
-  pub no-image : (k : ℕ) → r ≡ admission-is.Refused k → (n : ℕ) → n ≡ numberOf r
+pub facts-are : (s : List ℕ) (p : Places) (stated right sealed from : ℕ) → Gathered s p stated right sealed from
+    → byPlaces (length s) stated right sealed from p ≡ factsOf (p .layout) s
+unfolding factsOf placesOf
+facts-are s p stated right sealed from g =
+    ap (byPlaces (length s) stated right sealed from) (g .places) ∙ rw (g .records, g .footer, g .judged, g .header)
+
+module _ (l : Layout) (s : List ℕ) (room : ℕ) (old : List ℕ) where
+  pub no-image : (r : Admission) → r ≡ admission l s → (k : ℕ) → r ≡ admission-is.Refused k → (n : ℕ) → n ≡ numberOf r
       → Answers (roomed room (imageFacts l s)) (Refused n) old old
   unfolding imageFacts
-  no-image k f n g =
+  no-image r e k f n g =
       let (z, h) = refused-is l s r e k f in
       refused-read (refusal l s) n (factsOf l s) room old (omega arith, z ∙ sym (g ∙ ap numberOf f))
 
-  pub an-image : (p : Places) → r ≡ admission-is.Laid p → (facts : List ℕ) → facts ≡ factsOf (p .layout) s
+  pub an-image : (p : Places) → admission l s ≡ admission-is.Laid p → (facts : List ℕ) → facts ≡ factsOf (p .layout) s
       → (a : Answer) (new : List ℕ) → Answers (roomed room (made facts)) a old new
       → Answers (roomed room (imageFacts l s)) a old new
   unfolding imageFacts
   an-image p f facts g a new w =
-      let same : facts ≡ factsOf l s = g ∙ ap (λ (x : Layout). factsOf x s) (laid-layout l s r e p f) in
-      found-read (refusal l s) facts (factsOf l s) (roomed room) a old new (laid-is l s r e p f .0) same w
+      let same : facts ≡ factsOf l s = g ∙ ap (λ (x : Layout). factsOf x s) (laid-layout l s (admission l s) refl p f) in
+      found-read (refusal l s) facts (factsOf l s) (roomed room) a old new (laid-is l s (admission l s) refl p f .0) same w
 
 -- ---- of a string
 
-module _ (l : Layout) (s : List ℕ) (id room : ℕ) (old : List ℕ) (r : StringRead) (e : r ≡ stringRead l s id) where
-  pub no-facts : (k : ℕ) → r ≡ string-is.Refused k → (n : ℕ) → n ≡ stringNumber r
+module _ (l : Layout) (s : List ℕ) (id room : ℕ) (old : List ℕ) where
+  pub no-facts : (r : StringRead) → r ≡ stringRead l s id → (k : ℕ) → r ≡ string-is.Refused k → (n : ℕ)
+      → n ≡ stringNumber r
       → Answers (roomed room (stringFacts l s id)) (Refused n) old old
   unfolding stringFacts
-  no-facts k f n g =
+  no-facts r e k f n g =
       let (h, x) = string-out l s id r e k f in
       refused-read (idRefusal l s (stringsIn s) id) n (factsOfPlace (stringPlace l s id)) room old (h, x ∙ sym (g ∙ ap stringNumber f))
 
-  pub the-facts : (q : StringPlace) → r ≡ string-is.Found q → (facts : List ℕ) → facts ≡ factsOfPlace q
+  pub the-facts : (q : StringPlace) → stringRead l s id ≡ string-is.Found q → (facts : List ℕ) → facts ≡ factsOfPlace q
       → (a : Answer) (new : List ℕ) → Answers (roomed room (made facts)) a old new
       → Answers (roomed room (stringFacts l s id)) a old new
   unfolding stringFacts
   the-facts q f facts g a new w =
-      let (z, p) = string-at l s id r e q f in
+      let (z, p) = string-at l s id (stringRead l s id) refl q f in
       found-read (idRefusal l s (stringsIn s) id) facts _ (roomed room) a old new z (g ∙ ap factsOfPlace p) w

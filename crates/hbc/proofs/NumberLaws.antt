@@ -16,6 +16,11 @@ use Rattle.bits.specs.declared.Answer.{Answer}
 use Rattle.bits.specs.declared.Answer.the-variants.{Refused}
 use Rattle.hbc.specs.Numbers.{admitNumber, numbered, Codes, stated}
 
+-- the byte states this layout
+pub record States (byte : ℕ) (l : Layout) : Type 0 where
+  pub known : byte ≤ 4
+  pub is : l ≡ layoutOf byte
+
 -- a byte over 4
 pub no-layout : (byte : ℕ) (s : List ℕ) → 4 < byte → 15 ≡ admitNumber byte s
 unfolding admitNumber
@@ -30,12 +35,11 @@ number-of-answer l s = go (refusal l s) (eqb (refusal l s) 0) refl
     go n true e = rw e (sym (eqb-true n 0 e))
     go n false e = rw e refl
 
-pub layout-stated : (byte : ℕ) (s : List ℕ) → byte ≤ 4 → (l : Layout) → l ≡ layoutOf byte → (a : Admission)
-    → a ≡ admission l s
+pub layout-stated : (byte : ℕ) (s : List ℕ) (l : Layout) → States byte l → (a : Admission) → a ≡ admission l s
     → (r : ℕ) → r ≡ numberOf a → r ≡ admitNumber byte s
 unfolding admitNumber
-layout-stated byte s h l e a f r g =
-    rw (le-ltb 4 byte h) (g ∙ ap numberOf f ∙ number-of-answer l s ∙ ap (λ (x : Layout). refusal x s) e)
+layout-stated byte s l z a f r g =
+    rw (le-ltb 4 byte (z .known)) (g ∙ ap numberOf f ∙ number-of-answer l s ∙ ap (λ (x : Layout). refusal x s) (z .is))
 
 -- ---- functions that write
 
@@ -60,9 +64,8 @@ unfolding stated
 no-layout-codes byte o old h = rw (lt-ltb 4 byte h) (refl, refl)
 
 -- any other
-pub layout-codes : (byte : ℕ) (o : Layout → Outcome) (l : Layout) (a : Answer) (r : ℕ) (old new : List ℕ) → byte ≤ 4
-    → l ≡ layoutOf byte
+pub layout-codes : (byte : ℕ) (o : Layout → Outcome) (l : Layout) (a : Answer) (r : ℕ) (old new : List ℕ) → States byte l
     → Answers (o l) a old new → r ≡ numbered a → Codes (stated byte o) r old new
 unfolding stated
-layout-codes byte o l a r old new h e g f =
-    rw (le-ltb 4 byte h) (subst (λ (x : Layout). Codes (o x) r old new) e (codes (o l) a r old new g f))
+layout-codes byte o l a r old new z g f =
+    rw (le-ltb 4 byte (z .known)) (subst (λ (x : Layout). Codes (o x) r old new) (z .is) (codes (o l) a r old new g f))

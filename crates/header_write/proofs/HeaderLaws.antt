@@ -56,16 +56,10 @@ unfolding putAll
 putAll-append l [] qs s = refl
 putAll-append l (p ∷ ps) qs s = putAll-append l ps qs _
 
--- two runs of fields are one, and so are four
+-- two runs of fields are one
 pub parts : (l : Layout) (a b : List Put) (s s₁ s₂ : List ℕ) → s₁ ≡ putAll l a s → s₂ ≡ putAll l b s₁
     → s₂ ≡ putAll l (a ++ b) s
 parts l a b s s₁ s₂ p₁ p₂ = rw (putAll-append l a, ← p₁) p₂
-
-pub four-parts : (l : Layout) (a b c d : List Put) (s s₁ s₂ s₃ s₄ : List ℕ)
-    → s₁ ≡ putAll l a s → s₂ ≡ putAll l b s₁ → s₃ ≡ putAll l c s₂ → s₄ ≡ putAll l d s₃
-    → s₄ ≡ putAll l (a ++ (b ++ (c ++ d))) s
-four-parts l a b c d s s₁ s₂ s₃ s₄ p₁ p₂ p₃ p₄ =
-    parts l a (b ++ (c ++ d)) s s₁ s₄ p₁ (parts l b (c ++ d) s₁ s₂ s₄ p₂ (parts l c d s₂ s₃ s₄ p₃ p₄))
 
 -- a header keeps the length of its buffer
 pub length-putAll : (l : Layout) (ps : List Put) (s : List ℕ) → length (putAll l ps s) ≡ length s
@@ -93,18 +87,25 @@ options-put l f s at x e r h =
 
 -- ---- a turn of the loop, and its end
 
+-- the row of turn i is f, a word, and its value was stored in buf
+pub record RowStored (l : Layout) (k i : ℕ) (vs buf : List ℕ) (f : Field) (buf′ : List ℕ) : Type 0 where
+  pub more : i < length vs
+  pub row : f ≡ rowOf (k + i)
+  pub word : f .width ≡ 4
+  pub stored : buf′ ≡ sets buf (placeIn l f) (bytesOf 4 (getD vs i 0))
+
 module _ (l : Layout) (k i : ℕ) (vs buf : List ℕ) (x : List ℕ) (inv : putAll l (run (k + i) (drop i vs)) buf ≡ x) where
-  pub run-next : (f : Field) (buf′ : List ℕ) → f ≡ rowOf (k + i) → f .width ≡ 4 → i < length vs
-      → buf′ ≡ sets buf (placeIn l f) (bytesOf 4 (getD vs i 0)) → putAll l (run (k + (i + 1)) (drop (i + 1) vs)) buf′ ≡ x
+  pub run-next : (f : Field) (buf′ : List ℕ) → RowStored l k i vs buf f buf′
+      → putAll l (run (k + (i + 1)) (drop (i + 1) vs)) buf′ ≡ x
   unfolding putAll run
-  run-next f buf′ r w h e =
+  run-next f buf′ t =
       let a : k + (i + 1) ≡ suc (k + i) = omega arith in
       let g : sets buf (placeIn l (rowOf (k + i))) (bytesOf (rowOf (k + i) .width) (getD vs i 0)) ≡ buf′
-      = subst (λ (y : Field). sets buf (placeIn l y) (bytesOf (y .width) (getD vs i 0)) ≡ buf′) r
-      (ap (λ (n : ℕ). sets buf (placeIn l f) (bytesOf n (getD vs i 0))) w ∙ sym e) in
+      = subst (λ (y : Field). sets buf (placeIn l y) (bytesOf (y .width) (getD vs i 0)) ≡ buf′) (t .row)
+      (ap (λ (n : ℕ). sets buf (placeIn l f) (bytesOf n (getD vs i 0))) (t .word) ∙ sym (t .stored)) in
       rw (a, add-one)
       (ap (λ (b : List ℕ). putAll l (run (suc (k + i)) (drop (suc i) vs)) b) (sym g)
-      ∙ ap (λ (d : List ℕ). putAll l (run (k + i) d) buf) (sym (drop-cons vs i 0 h))
+      ∙ ap (λ (d : List ℕ). putAll l (run (k + i) d) buf) (sym (drop-cons vs i 0 (t .more)))
       ∙ inv)
 
   pub run-end : length vs ≤ i → buf ≡ x

@@ -44,6 +44,11 @@ nth [] k = put table.magic 0
 nth (q ∷ qs) zero = q
 nth (q ∷ qs) (suc k) = nth qs k
 
+-- fields that share no byte, in a list that is long enough for them
+record Spread (l : Layout) (ps : List Put) (s : List ℕ) (end : ℕ) : Type 0 where
+  tidied : tidy l ps end ≡ true
+  room : end ≤ length s
+
 module _ (l : Layout) where
   below-putAll : (ps : List Put) (s : List ℕ) → AllBelow 256 s → AllBelow 256 (putAll l ps s)
   unfolding putAll
@@ -73,22 +78,25 @@ module _ (l : Layout) where
   number-off ps s p n c = numberAt-ext (putAll l ps s) s n p p (λ j h. put-off ps s p n (p + j) c (omega arith) (omega arith))
 
   -- field k is read back
-  field-back : (ps : List Put) (s : List ℕ) (end k : ℕ) → tidy l ps end ≡ true → end ≤ length s → k < length ps
+  field-back : (ps : List Put) (s : List ℕ) (end k : ℕ) → Spread l ps s end → k < length ps
       → nth ps k .value < 256 ^ nth ps k .field .width
       → numberAt (putAll l ps s) (table.placeIn l (nth ps k .field)) (nth ps k .field .width) ≡ nth ps k .value
   unfolding putAll
-  field-back [] s end k t e h b = absurd (not-suc-le-zero h)
-  field-back (q ∷ qs) s end zero t e h b =
+  field-back [] s end k z h b = absurd (not-suc-le-zero h)
+  field-back (q ∷ qs) s end zero z h b =
+      let t : tidy l (q ∷ qs) end ≡ true = z .tidied in
       let at : ℕ = table.placeIn l (q .field) in
       let w : ℕ = q .field .width in
       let c : clearOf l qs at w ≡ true = both-0 (clearOf l qs at w) _ t in
       let r : leb (at + w) end ≡ true = both-0 (leb (at + w) end) (tidy l qs end) (both-1 (clearOf l qs at w) _ t) in
-      number-off qs (sets s at (bytesOf w (q .value))) at w c ∙ numberAt-back s at w (q .value) (omega (arith, leb-true (at + w) end r)) b
-  field-back (q ∷ qs) s end (suc k) t e h b =
+      number-off qs (sets s at (bytesOf w (q .value))) at w c
+      ∙ numberAt-back s at w (q .value) (omega (arith, leb-true (at + w) end r, z .room)) b
+  field-back (q ∷ qs) s end (suc k) z h b =
+      let t : tidy l (q ∷ qs) end ≡ true = z .tidied in
       let at : ℕ = table.placeIn l (q .field) in
       let w : ℕ = q .field .width in
       let r : tidy l qs end ≡ true = both-1 (leb (at + w) end) (tidy l qs end) (both-1 (clearOf l qs at w) _ t) in
-      field-back qs (sets s at (bytesOf w (q .value))) end k r (rw length-sets e) (omega arith) b
+      field-back qs (sets s at (bytesOf w (q .value))) end k (record { tidied = r; room = rw length-sets (z .room) }) (omega arith) b
 
 -- ---- the modern header, in a buffer of 128 bytes or more
 
@@ -103,6 +111,15 @@ pub record Headed (v f k i n z : ℕ) (h : List ℕ) : Type 0 where
   pub overflows : wordAt h (table.overflowCount .at) ≡ 0
   pub storage : wordAt h (table.storageSize .at) ≡ z
   pub debug : wordAt h (table.modernDebug .at) ≡ 0
+
+-- the numbers of a header fit their words
+pub record Words (v f k i n z : ℕ) : Type 0 where
+  pub version : v < 2 ^ 32
+  pub functions : f < 2 ^ 32
+  pub kinds : k < 2 ^ 32
+  pub identifiers : i < 2 ^ 32
+  pub strings : n < 2 ^ 32
+  pub storage : z < 2 ^ 32
 
 module _ (v : ℕ) (hash : List ℕ) (f k i n z : ℕ) (s : List ℕ) where
   abbrev rows : List Put
@@ -132,22 +149,27 @@ module _ (v : ℕ) (hash : List ℕ) (f k i n z : ℕ) (s : List ℕ) where
     row-back : (j : ℕ) → j < 19 → nth rows j .value < 256 ^ nth rows j .field .width
         → numberAt header (nth rows j .field .at) (nth rows j .field .width) ≡ nth rows j .value
     unfolding modernHeader identity
-    row-back j h b = field-back Modern rows (identity v hash s) 128 j refl (simp (length-sets, length-putAll) room) h b
+    row-back j h b =
+        field-back Modern rows (identity v hash s) 128 j
+        (record { tidied = refl; room = simp (length-sets, length-putAll) room }) h b
+
+    opening-spread : Spread Modern opening s 128
+    opening-spread = record { tidied = refl; room = room }
 
     -- all of them, where the numbers fit their words
-    pub header-read : v < 2 ^ 32 → f < 2 ^ 32 → k < 2 ^ 32 → i < 2 ^ 32 → n < 2 ^ 32 → z < 2 ^ 32 → Headed v f k i n z header
-    header-read hv hf hk hi hn hz = record {
+    pub header-read : Words v f k i n z → Headed v f k i n z header
+    header-read w = record {
       magic =
           numberAt-ext header (putAll Modern opening s) 8 0 0 (λ j h. opening-kept (0 + j) (omega arith))
-          ∙ field-back Modern opening s 128 0 refl room (omega arith) (omega arith);
+          ∙ field-back Modern opening s 128 0 opening-spread (omega arith) (omega arith);
       version =
           numberAt-ext header (putAll Modern opening s) 4 8 8 (λ j h. opening-kept (8 + j) (omega arith))
-          ∙ field-back Modern opening s 128 1 refl room (omega arith) hv;
-      functions = row-back 0 (omega arith) hf;
-      kinds = row-back 1 (omega arith) hk;
-      identifiers = row-back 2 (omega arith) hi;
-      strings = row-back 3 (omega arith) hn;
+          ∙ field-back Modern opening s 128 1 opening-spread (omega arith) (w .version);
+      functions = row-back 0 (omega arith) (w .functions);
+      kinds = row-back 1 (omega arith) (w .kinds);
+      identifiers = row-back 2 (omega arith) (w .identifiers);
+      strings = row-back 3 (omega arith) (w .strings);
       overflows = row-back 4 (omega arith) (omega arith);
-      storage = row-back 5 (omega arith) hz;
+      storage = row-back 5 (omega arith) (w .storage);
       debug = row-back 17 (omega arith) (omega arith);
     }

@@ -8,7 +8,7 @@ use native.Mathlib.Omega.{arith}
 use borrow.Author.Tests.{ltb-true, lt-ltb, eqb-false, ne-eqb, not-true}
 use lib.ListN.{length}
 use Rattle.bits.proofs.TestLaws.{below-or, either-true}
-use Rattle.bits.proofs.JudgeLaws.{rising, given, Shows, Shows.nothing, Shows._also_, judge-most, judged-exactly, judged-none}
+use Rattle.bits.proofs.JudgeLaws.{rising, given, Shows, Shows.nothing, Shows._also_, judge-most, Named, judged-exactly, judged-none}
 use Rattle.format.specs.declared.Layout.{Layout}
 use Rattle.format.specs.declared.Layout.the-variants.{Modern, Legacy}
 use Rattle.format.specs.Table as table
@@ -24,8 +24,8 @@ use Rattle.image.proofs.CheckLaws.{bodies-in, infos-in, debug-in, heade
 
 -- ---- a byte in common, and two starts that each lie before the other's end
 
-pub share : (p m q n : ℕ) → 0 < m → 0 < n → p < q + n → q < p + m → ShareByte p m q n
-share p m q n a b h k =
+pub share : (p m q n : ℕ) → 0 < m → 0 < n → (p < q + n) × (q < p + m) → ShareByte p m q n
+share p m q n a b (h, k) =
     elim (below-or p q) [
       | inl t ↦ (q, (omega arith, omega arith), (omega arith, omega arith))
       | inr t
@@ -57,10 +57,10 @@ module _ (l : Layout) (s : List ℕ) where
       also (λ t. let (i, h, (f, w)) = infos-in l s .wrong (not-true _ t) in info i h f w)
       also (λ t. let (f, w) = debug-in l s .wrong (not-true _ t) in debug f w)
       also (λ t.
-      let (i, h, (j, k, (d, (f, (g, (a, b)))))) = headers-apart l s .wrong (not-true _ t) in
-      headers i j h k d f g (share _ _ _ _ (some-words l) (some-words l) a b))
-      also (λ t. let (i, h, (j, k, (z, (g, (a, b))))) = bodies-apart l s .wrong (not-true _ t) in bodies j i k h g
-      (share _ _ _ _ (some-words l) z a b))
+      let (i, h, (j, k, (d, (f, (g, w))))) = headers-apart l s .wrong (not-true _ t) in
+      headers i j h k d f g (share _ _ _ _ (some-words l) (some-words l) w))
+      also (λ t. let (i, h, (j, k, (z, (g, w)))) = bodies-apart l s .wrong (not-true _ t) in bodies j i k h g
+      (share _ _ _ _ (some-words l) z w))
       also nothing
 
   -- and a fault's check is met
@@ -89,15 +89,18 @@ module _ (l : Layout) (s : List ℕ) where
   unfolding checks
   numbers-rise = refl
 
+  named : Named (Fault l s) 6 (checks l s)
+  named = record { up = numbers-rise; shows = shows; gives = gives }
+
   -- for each number but 0: refused with n, exactly where fault n is there and none before it
   pub refused-exactly : (n : ℕ) → 0 < n → refusal l s ≡ n ↔ (Fault l s n × ((m : ℕ) → m < n → Fault l s m → ⊥))
   unfolding refusal
-  refused-exactly = judged-exactly (Fault l s) 6 (checks l s) numbers-rise shows gives
+  refused-exactly = judged-exactly (Fault l s) 6 (checks l s) named
 
   -- not refused, exactly where there is no fault
   pub faultless-exactly : refusal l s ≡ 0 ↔ ((n : ℕ) → Fault l s n → ⊥)
   unfolding refusal
-  faultless-exactly = judged-none (Fault l s) 6 (checks l s) numbers-rise shows gives
+  faultless-exactly = judged-none (Fault l s) 6 (checks l s) named
 
   -- there are no other numbers
   pub refusal-most : refusal l s ≤ 6

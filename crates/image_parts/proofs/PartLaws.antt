@@ -29,7 +29,7 @@ use Rattle.edits.proofs.RebuildLaws.{Valid}
 use Rattle.edits.proofs.TableLaws.{smalls-below, pairs-below}
 use Rattle.edits.proofs.RegionLaws.{length-region, Bears}
 use Rattle.edits.proofs.KeepLaws.{Tabled, PlacedIn, bears-tabled, admitted-of}
-use Rattle.image_parts.specs.Parts.{Parts, front, sections, laid, joined, Fits}
+use Rattle.image_parts.specs.Parts.{Parts, front, sections, laid, joined, PartsFit}
 
 -- ---- bytes in joined lists
 
@@ -45,6 +45,23 @@ module _ (xs ys : List ℕ) where
 
   lies-last : Lies (xs ++ ys) (length xs) ys
   lies-last j k = getD-past xs ys (length xs) j refl
+
+-- ---- parts
+
+-- the words of the kinds
+abbrev pub kindOf : Parts → ℕ → ℕ
+kindOf x k = getD (x .kinds) k 0
+
+-- the strings are f's and valid, the kinds count them and the identifiers among them, and all else is bytes
+pub record Matches (x : Parts) (f : ℕ → Str) : Type 0 where
+  pub carries : Carries (x .count) f (x .strings)
+  pub valid : (i : ℕ) → i < x .count → Valid (f i)
+  pub words : AllBelow (2 ^ 32) (x .kinds)
+  pub covers : covered (kindOf x) (length (x .kinds)) ≡ x .count
+  pub names : identified (kindOf x) (length (x .kinds)) ≡ length (x .hashes)
+  pub header : AllBelow 256 (x .header)
+  pub records : AllBelow 256 (x .records)
+  pub tail : AllBelow 256 (x .tail)
 
 module _ (x : Parts) where
   -- the words of tables and storage, by their lengths
@@ -101,10 +118,9 @@ module _ (x : Parts) where
 
   -- ---- bytes
 
-  laid-below : AllBelow 256 (x .header) → AllBelow 256 (x .records) → AllBelow 256 (x .strings .store) → AllBelow 256 (x .tail)
-      → AllBelow 256 (laid x)
+  laid-below : (f : ℕ → Str) → Matches x f → AllBelow 256 (laid x)
   unfolding laid sections front padded region
-  laid-below h r c t =
+  laid-below f m =
       let ks : List ℕ = wordsOf (x .kinds) in
       let hs : List ℕ = wordsOf (x .hashes) in
       let ws : List ℕ = smalls (x .strings .place) (x .count) in
@@ -114,20 +130,21 @@ module _ (x : Parts) where
       let pad : ℕ = up4 (length fr + length rg) - (length fr + length rg) in
       joins (fr ++ (rg ++ replicate pad 0)) (x .tail)
       (joins fr (rg ++ replicate pad 0)
-      (joins (x .header) (x .records ++ (ks ++ hs)) h
-      (joins (x .records) (ks ++ hs) r (joins ks hs (words-below (x .kinds)) (words-below (x .hashes)))))
+      (joins (x .header) (x .records ++ (ks ++ hs)) (m .header)
+      (joins (x .records) (ks ++ hs) (m .records) (joins ks hs (words-below (x .kinds)) (words-below (x .hashes)))))
       (joins rg (replicate pad 0)
       (joins ws (vs ++ x .strings .store) (smalls-below (x .strings .place) (x .count))
-      (joins vs (x .strings .store) (pairs-below (x .strings .place) (x .count)) c))
+      (joins vs (x .strings .store) (pairs-below (x .strings .place) (x .count))
+      (m .carries .bytes 256 (omega arith) (λ i g. m .valid i g .bytes))))
       (below-zeros 256 (omega arith) pad)))
-      t
+      (m .tail)
     where
       joins : (xs ys : List ℕ) → AllBelow 256 xs → AllBelow 256 ys → AllBelow 256 (xs ++ ys)
       joins = below-append 256 (omega arith)
 
 -- ---- the image
 
-module _ (l : Layout) (x : Parts) (ok : Fits l x) where
+module _ (l : Layout) (x : Parts) (ok : PartsFit l x) where
   abbrev s : List ℕ
   s = joined x
 
@@ -237,12 +254,8 @@ module _ (l : Layout) (x : Parts) (ok : Fits l x) where
       (front-in a (x .records) (omega (arith, ok .long)) (omega (arith, length-front x)) (records-lie x) (i * w + j)
       (omega arith)))
 
-  -- the words of the kinds
-  abbrev pub kindOf : ℕ → ℕ
-  kindOf k = getD (x .kinds) k 0
-
   module _ (words : AllBelow (2 ^ 32) (x .kinds)) where
-    kind-is : (k : ℕ) → k < length (x .kinds) → kindIn l s k ≡ kindOf k
+    kind-is : (k : ℕ) → k < length (x .kinds) → kindIn l s k ≡ kindOf x k
     unfolding kindIn
     kind-is k h =
         let a : ℕ = length (x .header) + (length (x .records) + 0) in
@@ -255,9 +268,9 @@ module _ (l : Layout) (x : Parts) (ok : Fits l x) where
         (front-in a ks (omega (arith, ok .long)) (omega (arith, length-front x)) (kinds-lie x) (k * 4 + j) (omega arith)))
         ∙ words-at (x .kinds) k h (λ q g. words q)
 
-    pub flag-is : (i : ℕ) → isIdentifier l s i ≡ flagOf kindOf (length (x .kinds)) i
+    pub flag-is : (i : ℕ) → isIdentifier l s i ≡ flagOf (kindOf x) (length (x .kinds)) i
     unfolding isIdentifier
-    flag-is i = rw kinds-is (flag-ext (kindIn l s) kindOf (length (x .kinds)) i kind-is)
+    flag-is i = rw kinds-is (flag-ext (kindIn l s) (kindOf x) (length (x .kinds)) i kind-is)
 
   -- ---- the tail
 
@@ -268,7 +281,7 @@ module _ (l : Layout) (x : Parts) (ok : Fits l x) where
 
   -- ---- strings
 
-  module _ (f : ℕ → Str) (carries : Carries (x .count) f (x .strings)) (valid : (i : ℕ) → i < x .count → Valid (f i)) where
+  module _ (f : ℕ → Str) (m : Matches x f) where
     pub bears : Bears l f (x .strings) s
     bears = record {
       overflows = rw strings-is overflows-is;
@@ -276,26 +289,27 @@ module _ (l : Layout) (x : Parts) (ok : Fits l x) where
       bytes = rw (strings-is, small-at)
           (lies-in (length (front x)) (region (x .count) (x .strings)) (omega (arith, long)) laid-long (region-lies x));
       limit = rw strings-is (omega (arith, laid-long, ok .limit));
-      carries = rw strings-is carries;
-      strings = rw strings-is valid;
+      carries = rw strings-is (m .carries);
+      strings = rw strings-is (m .valid);
     }
 
     -- ---- admitted
 
-    module _ (words : AllBelow (2 ^ 32) (x .kinds)) (covers : covered kindOf (length (x .kinds)) ≡ x .count)
-        (names : identified kindOf (length (x .kinds)) ≡ length (x .hashes)) where
-      tabled : Tabled l s
-      tabled =
-          bears-tabled l f (x .strings) s bears
-          (rw (kinds-is, strings-is) (covered-ext (kindIn l s) kindOf (length (x .kinds)) (kind-is words) ∙ covers))
-          (rw (kinds-is, identifiers-is) (identified-ext (kindIn l s) kindOf (length (x .kinds)) (kind-is words) ∙ names))
+    tabled : Tabled l s
+    tabled =
+        bears-tabled l f (x .strings) s bears
+        (rw (kinds-is, strings-is) (covered-ext (kindIn l s) (kindOf x) (length (x .kinds)) (kind-is (m .words)) ∙ m .covers))
+        (rw (kinds-is, identifiers-is) (identified-ext (kindIn l s) (kindOf x) (length (x .kinds)) (kind-is (m .words)) ∙ m .names))
 
-      pub joined-admitted : AllBelow 256 (x .header) → AllBelow 256 (x .records) → AllBelow 256 (x .tail) → PlacedIn l s
-          → Admitted l s
-      joined-admitted h r t pl =
-          let b : AllBelow 256 (laid x) = laid-below x h r (carries .bytes 256 (omega arith) (λ i g. valid i g .bytes)) t in
-          let z : AllBelow 256 (replicate footerLength 0) = below-zeros 256 (omega arith) footerLength in
-          admitted-of l s (finalize-below raw s done (below-append 256 (omega arith) (laid x) (replicate footerLength 0) b z))
-          (omega (arith, length-joined, laid-long, length-front x, ok .long)) (omega (arith, length-joined, ok .limit))
-          (header-number 0 8 (omega arith) (λ q. absurd (omega arith)) ∙ ok .magic)
-          (omega (arith, length-joined, tail-at, length-laid x)) tabled pl
+    pub joined-admitted : PlacedIn l s → Admitted l s
+    joined-admitted pl =
+        let b : AllBelow 256 (laid x) = laid-below x f m in
+        let z : AllBelow 256 (replicate footerLength 0) = below-zeros 256 (omega arith) footerLength in
+        admitted-of l s
+        (record {
+          bytes = finalize-below raw s done (below-append 256 (omega arith) (laid x) (replicate footerLength 0) b z);
+          least = omega (arith, length-joined, laid-long, length-front x, ok .long);
+          most = omega (arith, length-joined, ok .limit);
+          magic = header-number 0 8 (omega arith) (λ q. absurd (omega arith)) ∙ ok .magic;
+          room = omega (arith, length-joined, tail-at, length-laid x);
+        }) tabled pl

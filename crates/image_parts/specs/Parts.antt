@@ -41,7 +41,7 @@ unfoldable pub joined : Parts → List ℕ
 joined x = sealed (lengthed (laid x ++ replicate footerLength 0))
 
 -- the header says of the parts what they are, and the image is not over the limit
-pub record Fits (l : Layout) (x : Parts) : Type 0 where
+pub record PartsFit (l : Layout) (x : Parts) : Type 0 where
   pub long : length (x .header) ≡ table.headerLength
   pub magic : numberHeld table.magic (x .header) ≡ table.magicNumber
   pub functions : length (x .records) ≡ functionsIn (x .header) * table.recordRow l .width

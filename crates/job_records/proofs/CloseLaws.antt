@@ -34,19 +34,25 @@ finalized-long s t e = go (ltb (length s) leastLength) (ltb sizeLimit (length s)
     go false true h q = let z : _≡_ {A = ℕ} 0 1 = cc in absurd (omega arith)
     go false false h q = let z : sealed (lengthed s) ≡ t = cc in rw (← z) (length-finalized s (ltb-false (length s) leastLength h))
 
-module _ (n k h : ℕ) (s : List ℕ) (e : h ≡ pick (ltb n (length s)) n (length s)) (most : h ≤ length s) where
+-- the h bytes of a buffer that are held: n, or all
+pub record Held (n h : ℕ) (s : List ℕ) : Type 0 where
+  pub part : h ≡ pick (ltb n (length s)) n (length s)
+  pub most : h ≤ length s
+
+module _ (n k h : ℕ) (s : List ℕ) (hd : Held n h s) where
   front : take h s ≡ take n s
-  front = held-part n h s e
+  front = held-part n h s (hd .part)
 
   front-long : length (take n s) ≡ h
-  front-long = rw (← front) (length-take-le h s most)
+  front-long = rw (← front) (length-take-le h s (hd .most))
 
   closes : (u : List ℕ) → length u ≡ h → Closes u h s (u ++ drop h s)
-  closes u z = (sym z, rw z, most)
+  closes u z = (sym z, rw z, hd .most)
 
   pub close-kept : (k ≡ 1 → ⊥) → Closes (heldAtEnd n k s) h s s
   close-kept d =
-      rw (ne-eqb k 1 d) (sym front-long, rw front-long (sym (take-append-drop h s) ∙ ap (λ (u : List ℕ). u ++ drop h s) front), most)
+      rw (ne-eqb k 1 d)
+      (sym front-long, rw front-long (sym (take-append-drop h s) ∙ ap (λ (u : List ℕ). u ++ drop h s) front), hd .most)
 
   pub close-sealed : (r : Answer) (part : List ℕ) → k ≡ 1 → Answers (finalizeOf (take (h - 0) s)) r (take (h - 0) s) part
       → Closes (heldAtEnd n k s) h s (part ++ drop (h - 0) s)
@@ -67,9 +73,9 @@ module _ (p : Progress) (s new : List ℕ) (r : ℕ) where
   pub close-as : (l : Layout) (n k : ℕ) → p ≡ Under l n k → Closes (heldAtEnd n k s) r s new → Closes (closing p s) r s new
   close-as l n k e c = subst⁻¹ (λ (x : Progress). Closes (closing x s) r s new) e c
 
-  pub close-refused : (k m : ℕ) → p ≡ Refused k m → Wrote s 0 (refusedAtLine k m) r new → r ≤ 50 → 50 ≤ length s
+  pub close-refused : (k m : ℕ) → p ≡ Refused k m → Wrote s 0 (refusedAtLine k m) r new → r ≤ length s
       → Closes (closing p s) r s new
-  close-refused k m e w h room =
+  close-refused k m e w h =
       let z : r ≡ length (refusedAtLine k m) = omega (arith, w .0) in
       subst⁻¹ (λ (x : Progress). Closes (closing x s) r s new) e
       (z, w .1 ∙ rw (sets-eq (refusedAtLine k m) s 0 (omega arith), zero-add), omega arith)

@@ -63,16 +63,16 @@ module _ (l : Layout) where
   turn n k m buffer rest (made t) next h f =
       rw (next-place k h) (f t (written (made t) buffer) (take-append-seam t (drop (length t) buffer)))
 
-  later : (n k : ℕ) (s buffer rest : List ℕ) → k + n < 2 ^ 64 → (k ≡ 1 → ⊥) → 0 < k → take (length s) buffer ≡ s
+  later : (n k : ℕ) (s buffer rest : List ℕ) → k + n < 2 ^ 64 → 1 < k → take (length s) buffer ≡ s
       → turns n (Under l (length s) k) buffer rest ≡ writtenBy (jobFrom l k s (recordsOf n rest))
   unfolding turns recordsOf jobFrom
-  later zero k s buffer rest h d z e = rw (ne-eqb k 1 d) e
-  later (suc n) k s buffer [] h d z e = rw (ne-eqb k 1 d) e
-  later (suc n) k s buffer (b ∷ bs) h d z e =
+  later zero k s buffer rest h d e = rw (ne-eqb k 1 (λ w. omega arith)) e
+  later (suc n) k s buffer [] h d e = rw (ne-eqb k 1 (λ w. omega arith)) e
+  later (suc n) k s buffer (b ∷ bs) h d e =
       rw e
       (turn n k (length s) buffer (restOf (b ∷ bs)) (recordOutcome l jobRoom s (recordOf (take 8 (b ∷ bs)) (contentOf (b ∷ bs))))
       (λ t. jobFrom l (suc k) t (recordsOf n (restOf (b ∷ bs)))) (omega arith)
-      (λ t buffer′ f. later n (suc k) t buffer′ (restOf (b ∷ bs)) (omega arith) (λ w. omega arith) (omega arith) f))
+      (λ t buffer′ f. later n (suc k) t buffer′ (restOf (b ∷ bs)) (omega arith) (omega arith) f))
 
   -- the first record, or none: "with no patch, the admitted one finalized"
   first : (n : ℕ) (s buffer rest : List ℕ) → suc n < 2 ^ 64 → take (length s) buffer ≡ s
@@ -85,7 +85,7 @@ module _ (l : Layout) where
       rw e
       (turn n 1 (length s) buffer (restOf (b ∷ bs)) (recordOutcome l jobRoom s (recordOf (take 8 (b ∷ bs)) (contentOf (b ∷ bs))))
       (λ t. jobFrom l 2 t (recordsOf n (restOf (b ∷ bs)))) (omega arith)
-      (λ t buffer′ g. later n 2 t buffer′ (restOf (b ∷ bs)) (omega arith) (λ w. omega arith) (omega arith) g))
+      (λ t buffer′ g. later n 2 t buffer′ (restOf (b ∷ bs)) (omega arith) (omega arith) g))
 
 -- ---- more turns than bytes change nothing
 

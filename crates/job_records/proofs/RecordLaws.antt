@@ -83,22 +83,33 @@ pub begun-is : (head image : List ℕ) (h g : ImageHead) → h ≡ imageHead hea
 unfolding begun
 begun-is head image h g e f = ap (λ (x : ImageHead). begunHead x image) (sym f ∙ e)
 
+-- an image that is there whole, and how it is admitted
+pub record WholeImage (l : Layout) (n : ℕ) (image : List ℕ) (a : Admission) : Type 0 where
+  pub whole : n ≤ length image
+  pub judged : a ≡ admission l image
+
 module _ (l : Layout) (n : ℕ) (image : List ℕ) where
   pub cut-image : length image < n → Refused 0 15 ≡ begunHead (head-is.Image l n) image
   cut-image h = rw (lt-ltb (length image) n h)
 
-  module _ (whole : n ≤ length image) (a : Admission) (e : a ≡ admission l image) where
+  module _ (a : Admission) (im : WholeImage l n image a) where
     pub image-refused : (k m : ℕ) → a ≡ admission-is.Refused k → m ≡ numberOf a
         → Refused 0 m ≡ begunHead (head-is.Image l n) image
     image-refused k m f g =
-        let (z, h) = refused-is l image a e k f in
+        let (z, h) = refused-is l image a (im .judged) k f in
         let q : m ≡ k = g ∙ ap numberOf f in
-        rw (le-ltb (length image) n whole, z, ne-eqb k 0 (λ y. omega arith), q)
+        rw (le-ltb (length image) n (im .whole), z, ne-eqb k 0 (λ y. omega arith), q)
 
     pub image-laid : (p : Places) → a ≡ admission-is.Laid p → Under l (length image) 1 ≡ begunHead (head-is.Image l n) image
-    image-laid p f = rw (le-ltb (length image) n whole, laid-is l image a e p f .0)
+    image-laid p f = rw (le-ltb (length image) n (im .whole), laid-is l image a (im .judged) p f .0)
 
 -- ---- a patch record
+
+-- a patch record that is there whole, and its head
+pub record WholeRecord (head bytes : List ℕ) (n : ℕ) (h : PatchHead) : Type 0 where
+  pub stated : n ≡ statedOf (patchHead head)
+  pub whole : n ≤ length bytes
+  pub read : h ≡ patchHead head
 
 module _ (l : Layout) (image head bytes out : List ℕ) where
   abbrev Result : Answer → List ℕ → Type 0
@@ -108,29 +119,30 @@ module _ (l : Layout) (image head bytes out : List ℕ) where
   unfolding recordOf recordOutcome
   cut-record n e h = rw (lt-ltb (length bytes) (statedOf (patchHead head)) (omega arith)) (refl, refl)
 
-  module _ (n : ℕ) (e : n ≡ statedOf (patchHead head)) (whole : n ≤ length bytes) (h g : PatchHead) (f : h ≡ patchHead head)
-      (k : h ≡ g) where
-    record-is : recordOf head bytes ≡ asked g bytes
+  module _ (n : ℕ) (h : PatchHead) (rc : WholeRecord head bytes n h) where
+    record-is : (g : PatchHead) → h ≡ g → recordOf head bytes ≡ asked g bytes
     unfolding recordOf
-    record-is = rw (le-ltb (length bytes) (statedOf (patchHead head)) (omega arith)) (ap (λ (x : PatchHead). asked x bytes) (sym f ∙ k))
+    record-is g k =
+        rw (le-ltb (length bytes) (statedOf (patchHead head)) (omega (arith, rc .stated, rc .whole)))
+        (ap (λ (x : PatchHead). asked x bytes) (sym (rc .read) ∙ k))
 
-    as-asked : (r : Answer) (new : List ℕ) → Answers (recordOutcome l (length out) image (asked g bytes)) r out new → Result r new
-    as-asked r new a = subst⁻¹ (λ (x : Record). Answers (recordOutcome l (length out) image x) r out new) record-is a
+    as-asked : (g : PatchHead) → h ≡ g → (r : Answer) (new : List ℕ)
+        → Answers (recordOutcome l (length out) image (asked g bytes)) r out new → Result r new
+    as-asked g k r new a = subst⁻¹ (λ (x : Record). Answers (recordOutcome l (length out) image x) r out new) (record-is g k) a
 
-  module _ (n : ℕ) (e : n ≡ statedOf (patchHead head)) (whole : n ≤ length bytes) (h : PatchHead) (f : h ≡ patchHead head) where
     pub string-patched : (id m : ℕ) (r : Answer) (new : List ℕ) → h ≡ patch-is.String id m
         → Answers (roomed (length out) (patchById l image id bytes)) r out new → Result r new
     unfolding recordOutcome stepOf outcomeOf
-    string-patched id m r new k a = as-asked n e whole h (patch-is.String id m) f k r new a
+    string-patched id m r new k a = as-asked (patch-is.String id m) k r new a
 
     pub body-patched : (id m : ℕ) (r : Answer) (new : List ℕ) → h ≡ patch-is.Body id m
         → Answers (roomed (length out) (patchBody l image id bytes)) r out new → Result r new
     unfolding recordOutcome stepOf outcomeOf
-    body-patched id m r new k a = as-asked n e whole h (patch-is.Body id m) f k r new a
+    body-patched id m r new k a = as-asked (patch-is.Body id m) k r new a
 
     pub head-refused : (m : ℕ) → h ≡ patch-is.Refused m → Result (answer-is.Refused 15) out
     unfolding recordOutcome
-    head-refused m k = as-asked n e whole h (patch-is.Refused m) f k (answer-is.Refused 15) out (refl, refl)
+    head-refused m k = as-asked (patch-is.Refused m) k (answer-is.Refused 15) out (refl, refl)
 
 -- ---- a step: the image that is held, and the new one in its place
 
@@ -188,29 +200,40 @@ pub step-over : (room : ℕ) (p : Progress) (k m : ℕ) (held head bytes out : L
 step-over room p k m held head bytes out e =
     subst⁻¹ (λ (x : Progress). Steps (turnOf room x held head bytes) x x held held out out) e (refl, refl, refl)
 
-module _ (p : Progress) (l : Layout) (n k h : ℕ) (held head bytes out new : List ℕ) (r : Answer)
-    (e : p ≡ Under l n k) (f : h ≡ pick (ltb n (length held)) n (length held))
-    (a : Answers (recordOutcome l (length out) (take (h - 0) held) (recordOf head bytes)) r out new) where
-  of-held : Answers (turnOf (length out) (Under l n k) held head bytes) r out new
-  of-held = rw (sub-zero, held-part n h held f) at a
+-- record k of a job under way: the patch is asked of the h bytes that are held, and answered
+pub record Turn (p : Progress) (l : Layout) (n k h : ℕ) (held head bytes out new : List ℕ) (r : Answer) : Type 0 where
+  pub under : p ≡ Under l n k
+  pub part : h ≡ pick (ltb n (length held)) n (length held)
+  pub answers : Answers (recordOutcome l (length out) (take (h - 0) held) (recordOf head bytes)) r out new
 
-  pub stepped-refused : (m : ℕ) → r ≡ answer-is.Refused m
+-- it is answered with an image of m bytes, for which there is room
+pub record MadeTurn (p : Progress) (l : Layout) (n k h : ℕ) (held head bytes out new : List ℕ) (r : Answer) (m : ℕ) : Type 0 where
+  pub turn : Turn p l n k h held head bytes out new r
+  pub long : r ≡ answer-is.Length m
+  pub room : length out ≤ length held
+
+module _ (p : Progress) (l : Layout) (n k h : ℕ) (held head bytes out new : List ℕ) (r : Answer) where
+  of-held : Turn p l n k h held head bytes out new r → Answers (turnOf (length out) (Under l n k) held head bytes) r out new
+  of-held t = rw (sub-zero, held-part n h held (t .part)) at (t .answers)
+
+  pub stepped-refused : Turn p l n k h held head bytes out new r → (m : ℕ) → r ≡ answer-is.Refused m
       → Steps (turnOf (length out) p held head bytes) p (Refused k m) held held out new
-  stepped-refused m g =
-      subst⁻¹ (λ (x : Progress). Steps (turnOf (length out) x held head bytes) x (Refused k m) held held out new) e
-      (step-refused l n k held out new r (turnOf (length out) (Under l n k) held head bytes) m of-held g)
+  stepped-refused t m g =
+      subst⁻¹ (λ (x : Progress). Steps (turnOf (length out) x held head bytes) x (Refused k m) held held out new) (t .under)
+      (step-refused l n k held out new r (turnOf (length out) (Under l n k) held head bytes) m (of-held t) g)
 
-  module _ (m : ℕ) (g : r ≡ answer-is.Length m) (room : length out ≤ length held) where
+  module _ (m : ℕ) (t : MadeTurn p l n k h held head bytes out new r m) where
     pub new-fits : m ≤ length out
-    new-fits = answer-fits l (take (h - 0) held) (recordOf head bytes) out new r m a g
+    new-fits = answer-fits l (take (h - 0) held) (recordOf head bytes) out new r m (t .turn .answers) (t .long)
 
     pub part-fits : length new ≡ length out → 0 + length (take (m - 0) new) ≤ length held
-    part-fits z = rw sub-zero (omega (arith, new-fits, length-take-le m new (omega (arith, new-fits))))
+    part-fits z = rw sub-zero (omega (arith, new-fits, t .room, length-take-le m new (omega (arith, new-fits))))
 
     pub stepped-made : (x : ℕ) (held′ : List ℕ) → x ≡ nextPlace k → held′ ≡ sets held 0 (take (m - 0) new)
         → Steps (turnOf (length out) p held head bytes) p (Under l m x) held held′ out new
     stepped-made x held′ y w =
         rw (w, sub-zero, y)
         (subst⁻¹ (λ (z : Progress). Steps (turnOf (length out) z held head bytes) z (Under l m (nextPlace k)) held
-        (sets held 0 (take m new)) out new) e
-        (step-made l n k held out new r (turnOf (length out) (Under l n k) held head bytes) m of-held g (omega (arith, new-fits))))
+        (sets held 0 (take m new)) out new) (t .turn .under)
+        (step-made l n k held out new r (turnOf (length out) (Under l n k) held head bytes) m (of-held (t .turn)) (t .long)
+        (omega (arith, new-fits, t .room))))

@@ -22,12 +22,6 @@ starts-before p w q v h = rw (lt-ltb p (q + v) h)
 pub starts-past : (p w q v : ℕ) → q + v ≤ p → true ≡ apart p w q v
 starts-past p w q v h = rw (le-ltb p (q + v) h)
 
-pub clear-at : (l : Layout) (s : List ℕ) (j i w : ℕ) (g f : Func) (other r : Bool) → w ≡ table.largeRow l .width
-    → g ≡ funcOf l s j → f ≡ funcOf l s i
-    → other ≡ not (eqb i j) → r ≡ clearOf w other g f → r ≡ clearAt l s j i
-unfolding clearAt
-clear-at l s j i w g f other r d e h o k = rw (← d, ← e, ← h, ← o, k)
-
 -- ---- a header against all functions
 
 module _ (l : Layout) (s : List ℕ) (j : ℕ) (g : Func) (e : g ≡ funcOf l s j) where
@@ -35,16 +29,35 @@ module _ (l : Layout) (s : List ℕ) (j : ℕ) (g : Func) (e : g ≡ funcOf l s 
   unfolding headerClear
   no-header t = rw (← e, not-true (g .large) t)
 
-  module _ (t : not (g .large) ≡ false) (n : ℕ) (c : n ≡ functionsIn s) where
-    has-header : allBelow n (clearAt l s j) ≡ headerClear l s j
-    unfolding headerClear
-    has-header = rw (← e, not-false (g .large) t, c)
+-- g is function j of n, and has a large header
+pub record WithHeader (l : Layout) (s : List ℕ) (j n : ℕ) (g : Func) : Type 0 where
+  pub is : g ≡ funcOf l s j
+  pub large : not (g .large) ≡ false
+  pub count : n ≡ functionsIn s
 
-    pub header-not-clear : (i : ℕ) (r : Bool) → i < n → r ≡ clearAt l s j i → not r ≡ true → false ≡ headerClear l s j
-    header-not-clear i r k h z = pass-stop (clearAt l s j) n i r k h z ∙ has-header
+module _ {l : Layout} {s : List ℕ} {j n : ℕ} {g : Func} (z : WithHeader l s j n g) where
+  has-header : allBelow n (clearAt l s j) ≡ headerClear l s j
+  unfolding headerClear
+  has-header = rw (← z .is, not-false (g .large) (z .large), z .count)
 
-    pub header-clear : (i : ℕ) → i ≡ n → allBelow i (clearAt l s j) ≡ true → true ≡ headerClear l s j
-    header-clear i k a = pass-end (clearAt l s j) n i k a ∙ has-header
+  pub header-clear : (i : ℕ) → i ≡ n → allBelow i (clearAt l s j) ≡ true → true ≡ headerClear l s j
+  header-clear i k a = pass-end (clearAt l s j) n i k a ∙ has-header
+
+-- f is function i, and r says whether the header of g is clear of it
+pub record ClearTurn (l : Layout) (s : List ℕ) (j n i w : ℕ) (g f : Func) (other r : Bool) : Type 0 where
+  pub headed : WithHeader l s j n g
+  pub width : w ≡ table.largeRow l .width
+  pub is : f ≡ funcOf l s i
+  pub two : other ≡ not (eqb i j)
+  pub test : r ≡ clearOf w other g f
+
+module _ {l : Layout} {s : List ℕ} {j n i w : ℕ} {g f : Func} {other r : Bool} (z : ClearTurn l s j n i w g f other r) where
+  pub clear-at : r ≡ clearAt l s j i
+  unfolding clearAt
+  clear-at = rw (← z .width, ← z .headed .is, ← z .is, ← z .two, z .test)
+
+  pub header-not-clear : i < n → not r ≡ true → false ≡ headerClear l s j
+  header-not-clear k h = pass-stop (clearAt l s j) n i r k clear-at h ∙ has-header (z .headed)
 
 -- ---- all headers: the two tests of the definitions
 
@@ -81,9 +94,8 @@ module _ (l : Layout) (s : List ℕ) where
       ∙ all-both (λ j. allBelow (functionsIn s) (λ i. headers i j)) (λ j. allBelow (functionsIn s) (λ i. bodies i j)) (functionsIn s)
       ∙ rw (all-swap headers (functionsIn s) (functionsIn s), all-swap bodies (functionsIn s) (functionsIn s))
 
-  pub not-all-clear : (j n : ℕ) (r : Bool) → n ≡ functionsIn s → j < n → r ≡ headerClear l s j → not r ≡ true
-      → false ≡ allApart l s
-  not-all-clear j n r c k e h = pass-stop (headerClear l s) (functionsIn s) j r (rw c at k) e h ∙ all-clear
+  pub not-all-clear : (j : ℕ) (r : Bool) → j < functionsIn s → r ≡ headerClear l s j → not r ≡ true → false ≡ allApart l s
+  not-all-clear j r k e h = pass-stop (headerClear l s) (functionsIn s) j r k e h ∙ all-clear
 
   pub clear-end : (j n : ℕ) → n ≡ functionsIn s → j ≡ n → allBelow j (headerClear l s) ≡ true → true ≡ allApart l s
   clear-end j n c e h = pass-end (headerClear l s) (functionsIn s) j (e ∙ c) h ∙ all-clear

@@ -63,23 +63,28 @@ module _ (w : ℕ) (fs : ℕ → Func) (i : ℕ) (f : Func) (e : f ≡ fs i) whe
   unfolding headersEnd
   end-next m r h k = rw (add-one, ← h, ← e, k)
 
-  module _ (m : ℕ) (h : m ≡ headersEnd w fs i) (r : Bool) (k : r ≡ ascends m f) where
-    ascends-here : r ≡ ascendsAt w fs i
-    unfolding ascendsAt
-    ascends-here = rw (← h, ← e, k)
+-- f is function i, the headers before it end at m, and r says whether its own is behind them
+pub record OrderTurn (w : ℕ) (fs : ℕ → Func) (i : ℕ) (f : Func) (m : ℕ) (r : Bool) : Type 0 where
+  pub is : f ≡ fs i
+  pub end : m ≡ headersEnd w fs i
+  pub test : r ≡ ascends m f
 
-    pub ascends-next : not r ≡ false → allBelow i (ascendsAt w fs) ≡ true → allBelow (i + 1) (ascendsAt w fs) ≡ true
-    ascends-next t a = pass-next (ascendsAt w fs) i r ascends-here t a
+module _ {w : ℕ} {fs : ℕ → Func} {i : ℕ} {f : Func} {m : ℕ} {r : Bool} (z : OrderTurn w fs i f m r) where
+  ascends-here : r ≡ ascendsAt w fs i
+  unfolding ascendsAt
+  ascends-here = rw (← z .end, ← z .is, z .test)
 
-    pub not-behind : (n : ℕ) → not r ≡ true → i < n → false ≡ ordered w fs n
-    unfolding ordered
-    not-behind n t l = rw (← pass-stop (ascendsAt w fs) n i r l ascends-here t)
+  pub ascends-next : not r ≡ false → allBelow i (ascendsAt w fs) ≡ true → allBelow (i + 1) (ascendsAt w fs) ≡ true
+  ascends-next t a = pass-next (ascendsAt w fs) i r ascends-here t a
 
-pub order-end : (w : ℕ) (fs : ℕ → Func) (n i a b : ℕ) → i ≡ n → a ≡ bodiesEnd fs i → b ≡ headersStart fs i
-    → allBelow i (ascendsAt w fs) ≡ true
-    → leb a b ≡ ordered w fs n
+  pub not-behind : (n : ℕ) → not r ≡ true → i < n → false ≡ ordered w fs n
+  unfolding ordered
+  not-behind n t l = rw (← pass-stop (ascendsAt w fs) n i r l ascends-here t)
+
+pub order-end : (w : ℕ) (fs : ℕ → Func) (n a b : ℕ) → a ≡ bodiesEnd fs n → b ≡ headersStart fs n
+    → allBelow n (ascendsAt w fs) ≡ true → leb a b ≡ ordered w fs n
 unfolding ordered
-order-end w fs n i a b e g h k = rw (← e, g, h, k)
+order-end w fs n a b g h k = rw (g, h, k)
 
 pub image-order : (l : Layout) (s : List ℕ) (w n : ℕ) (r : Bool) → w ≡ table.largeRow l .width → n ≡ functionsIn s
     → r ≡ ordered w (funcOf l s) n → r ≡ inOrder l s
@@ -117,12 +122,28 @@ module _ (fs : ℕ → Func) where
       = most (ltb 0 (fs i .size)) (ltb (bodiesEnd fs i) (fs i .begin + fs i .size)) (fs i .begin + fs i .size) (bodiesEnd fs i) refl in
       elim (below j i h) [ inl e ↦ rw e (y .1 (lt-ltb 0 (fs i .size) (rw e at z))) | inr l ↦ omega (arith, y .0, end-past i j l z) ]
 
+-- function i of n has a large header
+record Header (fs : ℕ → Func) (n i : ℕ) : Type 0 where
+  known : i < n
+  large : fs i .large ≡ true
+
+-- two functions have
+record TwoHeaders (fs : ℕ → Func) (n i j : ℕ) : Type 0 where
+  first : Header fs n i
+  second : Header fs n j
+  two : i ≢ j
+
+-- function i of n has a body that is not empty
+record SomeBody (fs : ℕ → Func) (n i : ℕ) : Type 0 where
+  known : i < n
+  some : 0 < fs i .size
+
 module _ (w : ℕ) (fs : ℕ → Func) (n : ℕ) (o : ordered w fs n ≡ true) where
-  behind : (i : ℕ) → i < n → fs i .large ≡ true → headersEnd w fs i ≤ fs i .ptr
+  behind : (i : ℕ) → Header fs n i → headersEnd w fs i ≤ fs i .ptr
   unfolding ordered ascendsAt
-  behind i h t =
+  behind i x =
       let a : allBelow n (ascendsAt w fs) ≡ true = both-0 (allBelow n (ascendsAt w fs)) (leb (bodiesEnd fs n) (headersStart fs n)) o in
-      leb-true (headersEnd w fs i) (fs i .ptr) (imp-use (fs i .large) _ (all-at (ascendsAt w fs) n i a h) t)
+      leb-true (headersEnd w fs i) (fs i .ptr) (imp-use (fs i .large) _ (all-at (ascendsAt w fs) n i a (x .known)) (x .large))
 
   bodies-first : bodiesEnd fs n ≤ headersStart fs n
   unfolding ordered
@@ -130,13 +151,14 @@ module _ (w : ℕ) (fs : ℕ → Func) (n : ℕ) (o : ordered w fs n ≡ true) w
       leb-true (bodiesEnd fs n) (headersStart fs n) (both-1 (allBelow n (ascendsAt w fs)) (leb (bodiesEnd fs n) (headersStart fs n)) o)
 
   -- each large header ends where the pass says, or before
-  ends : (i j : ℕ) → i ≤ n → j < i → fs j .large ≡ true → fs j .ptr + w ≤ headersEnd w fs i
+  ends : (i j : ℕ) → i ≤ n → Header fs i j → fs j .ptr + w ≤ headersEnd w fs i
   unfolding headersEnd
-  ends zero j h k t = absurd (not-suc-le-zero k)
-  ends (suc i) j h k t =
-      elim (below j i k) [
-        | inl q ↦ rw q (own (fs i .large) (rw q at t))
-        | inr l ↦ later (fs i .large) (ends i j (omega arith) l t) (λ u. behind i (omega arith) u)
+  ends zero j h x = absurd (not-suc-le-zero (x .known))
+  ends (suc i) j h x =
+      elim (below j i (x .known)) [
+        | inl q ↦ rw q (own (fs i .large) (rw q at (x .large)))
+        | inr l ↦ later (fs i .large) (ends i j (omega arith) (record { known = l; large = x .large }))
+            (λ u. behind i (record { known = omega arith; large = u }))
       ]
     where
       own : (b : Bool) → b ≡ true → fs i .ptr + w ≤ pick b (fs i .ptr + w) (headersEnd w fs i)
@@ -147,25 +169,31 @@ module _ (w : ℕ) (fs : ℕ → Func) (n : ℕ) (o : ordered w fs n ≡ true) w
       later true r u = omega (arith, u refl)
       later false r u = r
 
-  headers-off : (i : ℕ) → i < n → (j : ℕ) → j < n → i ≢ j → fs i .large ≡ true → fs j .large ≡ true
-      → Disjoint (fs i .ptr) w (fs j .ptr) w
-  headers-off i h j k ne t u z =
+  headers-off : (i j : ℕ) → TwoHeaders fs n i j → Disjoint (fs i .ptr) w (fs j .ptr) w
+  headers-off i j x z =
+      let a : Header fs n i = x .first in
+      let b : Header fs n j = x .second in
       elim (below-or i j) [
-        | inl l ↦ omega (arith, ends j i (omega arith) l t, behind j k u)
+        | inl l ↦ omega (arith, ends j i (omega arith) (record { known = l; large = a .large }), behind j b)
         | inr l ↦ elim (below j i (omega arith)) [
-          | inl e ↦ absurd (ne (sym e))
-          | inr m ↦ absurd (omega (arith, ends i j (omega arith) m u, behind i h t))
+          | inl e ↦ absurd (x .two (sym e))
+          | inr m ↦ absurd (omega (arith, ends i j (omega arith) (record { known = m; large = b .large }), behind i a))
         ]
       ]
 
-  bodies-off : (i : ℕ) → i < n → (j : ℕ) → j < n → 0 < fs i .size → fs j .large ≡ true
-      → Disjoint (fs j .ptr) w (fs i .begin) (fs i .size)
-  bodies-off i h j k z t y = absurd (omega (arith, start-before fs n j k t, end-past fs n i h z, bodies-first))
+  bodies-off : (i j : ℕ) → SomeBody fs n i → Header fs n j → Disjoint (fs j .ptr) w (fs i .begin) (fs i .size)
+  bodies-off i j b a y =
+      absurd (omega (arith, start-before fs n j (a .known) (a .large), end-past fs n i (b .known) (b .some), bodies-first))
 
 -- THE LAW OF THE PASS: functions in order meet both conditions
 pub in-order-apart : (l : Layout) (s : List ℕ) → inOrder l s ≡ true → true ≡ allApart l s
 unfolding inOrder allApart
 in-order-apart l s o =
+    let w : ℕ = table.largeRow l .width in
+    let fs : ℕ → Func = funcOf l s in
+    let n : ℕ = functionsIn s in
     sym (both-of (headersApart l s) (bodiesApart l s)
-    (headers-apart l s .passed (headers-off (table.largeRow l .width) (funcOf l s) (functionsIn s) o))
-    (bodies-apart l s .passed (bodies-off (table.largeRow l .width) (funcOf l s) (functionsIn s) o)))
+    (headers-apart l s .passed (λ i h j k two t u. headers-off w fs n o i j
+    (record { first = record { known = h; large = t }; second = record { known = k; large = u }; two = two })))
+    (bodies-apart l s .passed (λ i h j k z t. bodies-off w fs n o i j (record { known = h; some = z })
+    (record { known = k; large = t }))))

@@ -30,6 +30,12 @@ length-units s start wide (suc n) i = ap suc (length-units s start wide n (suc i
 
 -- ---- the loop: unit i of n is written at its place, and the rest is left to write; `x` is what the loop is to give
 
+-- a turn of it: unit i is u, and was written
+pub record UnitPut (s : List ℕ) (start : ℕ) (wide : Bool) (first n : ℕ) (out out′ : List ℕ) (at i u : ℕ) : Type 0 where
+  pub left : i < n
+  pub unit : u ≡ unitAt s start wide (first + i)
+  pub wrote : out′ ≡ sets out (at + i * 4) (hex4 u)
+
 module _ (s : List ℕ) (start : ℕ) (wide : Bool) (first n : ℕ) where
   -- unit i lies in the image
   pub unit-room : (i len : ℕ) → i < n → start + (first + n) * unitSize wide ≤ len
@@ -56,18 +62,17 @@ module _ (s : List ℕ) (start : ℕ) (wide : Bool) (first n : ℕ) where
       let c : n - 0 ≡ n = omega arith in
       rw (a, b, c)
 
-  pub put-turn : (out out′ x : List ℕ) (at i u : ℕ) → i < n → u ≡ unitAt s start wide (first + i)
-      → out′ ≡ sets out (at + i * 4) (hex4 u)
+  pub put-turn : (out out′ x : List ℕ) (at i u : ℕ) → UnitPut s start wide first n out out′ at i u
       → sets out (at + i * 4) (hexes (unitsShown s start wide (first + i) (n - i))) ≡ x
       → sets out′ (at + (i + 1) * 4) (hexes (unitsShown s start wide (first + (i + 1)) (n - (i + 1)))) ≡ x
   unfolding hexes unitsShown
-  put-turn out out′ x at i u h e f g =
+  put-turn out out′ x at i u z g =
       let rest : List ℕ = hexes (unitsShown s start wide (first + (i + 1)) (n - (i + 1))) in
-      let m : n - i ≡ suc (n - (i + 1)) = omega arith in
+      let m : n - i ≡ suc (n - (i + 1)) = omega (arith, z .left) in
       let j : suc (first + i) ≡ first + (i + 1) = omega arith in
-      let k : hexes (unitsShown s start wide (first + i) (n - i)) ≡ hex4 u ++ rest = rw (m, e, ← j) in
+      let k : hexes (unitsShown s start wide (first + i) (n - i)) ≡ hex4 u ++ rest = rw (m, z .unit, ← j) in
       let p : at + (i + 1) * 4 ≡ at + i * 4 + length (hex4 u) = omega (arith, length-hex u) in
-      rw (f, p, ← sets-append (hex4 u) rest out (at + i * 4), ← k) g
+      rw (z .wrote, p, ← sets-append (hex4 u) rest out (at + i * 4), ← k) g
 
   pub put-end : (out : List ℕ) (at i : ℕ) → n ≤ i
       → sets out (at + i * 4) (hexes (unitsShown s start wide (first + i) (n - i))) ≡ out

@@ -144,16 +144,21 @@ module _ (l : Layout) (n : ℕ) (input : List ℕ) where
   pub record-ends : (length input ≡ 7 + n → ⊥) → opened-is.Refused 15 ≡ openedRecord (head-is.Image l n) input
   record-ends h = rw (ne-eqb (length input) (7 + n) h)
 
-  module _ (e : length input ≡ 7 + n) (r : Admission) (a : r ≡ admission l (take (length input - 7) (drop 7 input))) where
-    answer-is : openedRecord (head-is.Image l n) input ≡ openedImage r
-    answer-is =
-        rw (eq-eqb (length input) (7 + n) e)
-        (ap openedImage (sym (a
-        ∙ ap (admission l) (take-all (length input - 7) (drop 7 input) (omega (arith, length-drop 7 input))))))
+-- the input ends where its head says, and r is the answer of admission for its image
+pub record RecordJudged (l : Layout) (n : ℕ) (input : List ℕ) (r : Admission) : Type 0 where
+  pub ends : length input ≡ 7 + n
+  pub answer : r ≡ admission l (take (length input - 7) (drop 7 input))
 
-    pub record-refused : (k m : ℕ) → r ≡ admission-is.Refused k → m ≡ numberOf r
-        → opened-is.Refused m ≡ openedRecord (head-is.Image l n) input
-    record-refused k m f g = ap opened-is.Refused (g ∙ ap numberOf f) ∙ ap openedImage (sym f) ∙ sym answer-is
+module _ {l : Layout} {n : ℕ} {input : List ℕ} {r : Admission} (z : RecordJudged l n input r) where
+  answer-is : openedRecord (head-is.Image l n) input ≡ openedImage r
+  answer-is =
+      rw (eq-eqb (length input) (7 + n) (z .ends))
+      (ap openedImage (sym (z .answer
+      ∙ ap (admission l) (take-all (length input - 7) (drop 7 input) (omega (arith, length-drop 7 input))))))
 
-    pub record-laid : (p : Places) → r ≡ admission-is.Laid p → opened-is.Listed p ≡ openedRecord (head-is.Image l n) input
-    record-laid p f = ap openedImage (sym f) ∙ sym answer-is
+  pub record-refused : (k m : ℕ) → r ≡ admission-is.Refused k → m ≡ numberOf r
+      → opened-is.Refused m ≡ openedRecord (head-is.Image l n) input
+  record-refused k m f g = ap opened-is.Refused (g ∙ ap numberOf f) ∙ ap openedImage (sym f) ∙ sym answer-is
+
+  pub record-laid : (p : Places) → r ≡ admission-is.Laid p → opened-is.Listed p ≡ openedRecord (head-is.Image l n) input
+  record-laid p f = ap openedImage (sym f) ∙ sym answer-is

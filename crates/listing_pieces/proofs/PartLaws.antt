@@ -127,6 +127,12 @@ pub record Copying (p : Places) (s out₀ : List ℕ) (from limit : ℕ) (out : 
   pub text : sets out at (part skip (limit - at) (left (p .layout) s (spotOf x))) ≡ sets out₀ 0 (part from limit (listed (p .layout) s))
   pub size : at + length (part skip (limit - at) (left (p .layout) s (spotOf x))) ≡ length (part from limit (listed (p .layout) s))
 
+-- a turn of it: a batch of pieces is made in the room, and of its text what is asked for is copied
+pub record Copies (p : Places) (s out out′ room room′ : List ℕ) (x : Point) (r : Piece) (limit skip at at′ : ℕ) : Type 0 where
+  pub made : GivesAll p s room x r room′
+  pub same : length out′ ≡ length out
+  pub wrote : Wrote out at (part skip (limit - at) (take (r .end) room′)) at′ out′
+
 module _ (p : Places) (s out₀ : List ℕ) (from limit : ℕ) where
   pub copying-first : Copying p s out₀ from limit out₀ Counts from 0
   copying-first =
@@ -143,28 +149,27 @@ module _ (p : Places) (s out₀ : List ℕ) (from limit : ℕ) where
       rw (w, n) (take-append-seam ps (drop (0 + length ps) room))
 
   pub copying-next : (out : List ℕ) (x : Point) (skip at : ℕ) → Copying p s out₀ from limit out x skip at
-      → (room room′ : List ℕ) (r : Piece) → GivesAll p s room x r room′
-      → (text out′ : List ℕ) (at′ : ℕ) → text ≡ take (r .end) room′ → length out′ ≡ length out
-      → Wrote out at (part skip (limit - at) text) at′ out′
+      → (room room′ out′ : List ℕ) (r : Piece) (at′ : ℕ) → Copies p s out out′ room room′ x r limit skip at at′
       → Copying p s out₀ from limit out′ (r .next) (skip - r .end) at′
-  copying-next out x skip at c room room′ r g text out′ at′ t k w =
+  copying-next out x skip at c room room′ out′ r at′ t =
+      let g : GivesAll p s room x r room′ = t .made in
       let l : Layout = p .layout in
       let a : List ℕ = pieces l s batch (spotOf x) in
       let b : List ℕ = left l s (spotOf (r .next)) in
       let n : ℕ = limit - at in
-      let ta : text ≡ a = t ∙ batch-front room room′ x r g in
+      let ta : take (r .end) room′ ≡ a = batch-front room room′ x r g in
       let ea : r .end ≡ length a = g .wrote .0 ∙ zero-add (length a) in
       let ab : left l s (spotOf x) ≡ a ++ b = pieces-left l s batch (spotOf x) ∙ ap (λ (y : Spot). a ++ left l s y) (sym (g .next)) in
       let u : List ℕ = part skip n a in
       let v : List ℕ = part (skip - length a) (n - length u) b in
       let uv : part skip n (left l s (spotOf x)) ≡ u ++ v = ap (part skip n) ab ∙ part-both skip n a b in
-      let w0 : at′ ≡ at + length u = w .0 ∙ ap (λ (y : List ℕ). at + length (part skip n y)) ta in
-      let w1 : out′ ≡ sets out at u = w .1 ∙ ap (λ (y : List ℕ). sets out at (part skip n y)) ta in
+      let w0 : at′ ≡ at + length u = t .wrote .0 ∙ ap (λ (y : List ℕ). at + length (part skip n y)) ta in
+      let w1 : out′ ≡ sets out at u = t .wrote .1 ∙ ap (λ (y : List ℕ). sets out at (part skip n y)) ta in
       let room-left : limit - at′ ≡ n - length u = omega (arith, w0) in
       let short : length u ≤ n = part-short skip n a in
       let sv : part (skip - r .end) (limit - at′) b ≡ v = rw (ea, room-left) in
       record {
-        same = k ∙ c .same;
+        same = t .same ∙ c .same;
         room = omega (arith, w0, short, c .room);
         good = g .good;
         text = rw (sv, w1, w0) (sym (sets-append u v out at) ∙ ap (sets out at) (sym uv) ∙ c .text);
@@ -230,15 +235,16 @@ module _ (l : Layout) (s : List ℕ) (r : Admission) (e : r ≡ admission l s) (
       let m : n ≡ k = g ∙ ap numberOf f in
       rw (z, ne-eqb k 0 (λ y. omega arith), m) (refl, refl)
 
-  pub part-listed : (p : Places) → r ≡ admission-is.Laid p → (n : ℕ) (new : List ℕ) → room ≤ length old
-      → Wrote old 0 (part from room (listed (p .layout) s)) n new → Answers (listingPart room from l s) (Length n) old new
-  unfolding listingPart
-  part-listed p f n new h w =
-      let z : refusal l s ≡ 0 = laid-is l s r e p f .0 in
-      let t : List ℕ = part from room (listed (p .layout) s) in
-      let m : n ≡ length t = w .0 ∙ zero-add (length t) in
-      let k : new ≡ t ++ drop (length t) old
-      =
-      w .1 ∙ sets-eq t old 0 (omega (arith, part-short from room (listed (p .layout) s)))
-      ∙ ap (λ (j : ℕ). t ++ drop j old) (zero-add (length t)) in
-      rw (z, ← laid-layout l s r e p f) (ap Length m, k)
+pub part-listed : (l : Layout) (s : List ℕ) (p : Places) → admission l s ≡ admission-is.Laid p → (room from n : ℕ)
+    (old new : List ℕ) → room ≤ length old → Wrote old 0 (part from room (listed (p .layout) s)) n new
+    → Answers (listingPart room from l s) (Length n) old new
+unfolding listingPart
+part-listed l s p f room from n old new h w =
+    let z : refusal l s ≡ 0 = laid-is l s (admission l s) refl p f .0 in
+    let t : List ℕ = part from room (listed (p .layout) s) in
+    let m : n ≡ length t = w .0 ∙ zero-add (length t) in
+    let k : new ≡ t ++ drop (length t) old
+    =
+    w .1 ∙ sets-eq t old 0 (omega (arith, part-short from room (listed (p .layout) s)))
+    ∙ ap (λ (j : ℕ). t ++ drop j old) (zero-add (length t)) in
+    rw (z, ← laid-layout l s (admission l s) refl p f) (ap Length m, k)

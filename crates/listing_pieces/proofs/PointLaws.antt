@@ -8,7 +8,7 @@ use native.Mathlib.Omega.{arith}
 use borrow.Author.Tests.{not-true, lt-ltb, le-ltb}
 use lib.Dec.{ltb}
 use lib.ListN.{length, take, drop, length-drop, length-append}
-use lib.Seq.{drop-cons, take-all, sets}
+use lib.Seq.{drop-cons, take-all, sets, length-sets}
 use Rattle.bits.specs.Choice.{pick}
 use Rattle.bits.proofs.TestLaws.{below-or}
 use Rattle.bits.proofs.WriteLaws.{sets-append}
@@ -43,19 +43,33 @@ same-start : (i : ℕ) (w w′ b b′ : Bool) (n n′ : ℕ) → w ≡ w′ → 
     → spaced (stringWords i w b n) ≡ spaced (stringWords i w′ b′ n′)
 same-start i w w′ b b′ n n′ e f g = rw (e, f, g)
 
+-- line 1 is put, and the pass over the strings begins
+pub record CountsPut (p : Places) (s old new : List ℕ) (at end : ℕ) (c : Cursor) : Type 0 where
+  pub wrote : Wrote old at (countsLine (length s) (p .strings) (p .functions)) end new
+  pub most : end ≤ at + 69
+  pub cursor : CursorOf p s c
+  pub first : c .id ≡ 0
+
+-- the start of a string's line is put: q is the string, and next the cursor behind it
+pub record StringPut (p : Places) (s old new : List ℕ) (at end : ℕ) (c next : Cursor) (q : StringPlace) : Type 0 where
+  pub known : c .id < p .strings
+  pub read : ReadAs (p .layout) s (c .id) q
+  pub cursor : CursorOf p s next
+  pub id : next .id ≡ c .id + 1
+  pub wrote : Wrote old at (spaced (stringWords (c .id) (q .wide) (q .identifier) (q .count))) end new
+  pub most : end ≤ at + 48
+
 module _ (p : Places) (s : List ℕ) (h : Placed p s) (old new : List ℕ) (at end : ℕ) where
   -- ---- line 1
 
-  pub gives-counts : Wrote old at (countsLine (length s) (p .strings) (p .functions)) end new → end ≤ at + 69 → (c : Cursor)
-      → CursorOf p s c → c .id ≡ 0
-      → Gives p s old at Counts (piece end (Strings c)) new
-  gives-counts w m c g e =
+  pub gives-counts : (c : Cursor) → CountsPut p s old new at end c → Gives p s old at Counts (piece end (Strings c)) new
+  gives-counts c x =
       let z = sectioned p s h in
       record {
         wrote = subst (λ (n : ℕ). Wrote old at (countsLine (length s) (stringsIn s) n) end new) (z .functions)
-            (subst (λ (n : ℕ). Wrote old at (countsLine (length s) n (p .functions)) end new) (z .strings) w);
-        next = ap strings e;
-        good = g;
+            (subst (λ (n : ℕ). Wrote old at (countsLine (length s) n (p .functions)) end new) (z .strings) (x .wrote));
+        next = ap strings (x .first);
+        good = x .cursor;
         most = omega arith;
       }
 
@@ -66,112 +80,143 @@ module _ (p : Places) (s : List ℕ) (h : Placed p s) (old new : List ℕ) (at e
       let e : ltb (c .id) (stringsIn s) ≡ false = le-ltb (c .id) (stringsIn s) (omega (arith, sectioned p s h .strings)) in
       record { wrote = rw e (omega arith, refl); next = rw e; good = tt; most = omega arith }
 
-  pub gives-string : (c next : Cursor) (q : StringPlace) → c .id < p .strings → ReadAs (p .layout) s (c .id) q → CursorOf p s next
-      → next .id ≡ c .id + 1
-      → Wrote old at (spaced (stringWords (c .id) (q .wide) (q .identifier) (q .count))) end new → end ≤ at + 48
+  pub gives-string : (c next : Cursor) (q : StringPlace) → StringPut p s old new at end c next q
       → Gives p s old at (Strings c) (piece end (Units q 0 next)) new
   unfolding stringStart
-  gives-string c next q k r g n w m =
+  gives-string c next q x =
+      let r : ReadAs (p .layout) s (c .id) q = x .read in
       let e : ltb (c .id) (stringsIn s) ≡ true = lt-ltb (c .id) (stringsIn s) (omega (arith, sectioned p s h .strings)) in
       let i : c .id ≡ next .id - 1 = omega arith in
       let wd : q .wide ≡ stringOf (p .layout) s (c .id) .wide = ap (λ (t : Str). t .wide) (read-string (p .layout) s (c .id) q r) in
       record {
         wrote = rw e (subst (λ (x : List ℕ). Wrote old at x end new)
-            (same-start (c .id) _ _ _ _ _ _ wd (read-flag (p .layout) s (c .id) q r) (read-count (p .layout) s (c .id) q r)) w);
+            (same-start (c .id) _ _ _ _ _ _ wd (read-flag (p .layout) s (c .id) q r) (read-count (p .layout) s (c .id) q r)) (x .wrote));
         next = rw e (ap (λ (j : ℕ). units j 0) (sym i));
-        good = (subst (λ (j : ℕ). ReadAs (p .layout) s j q) i r, g, omega arith);
+        good = (subst (λ (j : ℕ). ReadAs (p .layout) s j q) i r, x .cursor, omega arith);
         most = omega arith;
       }
 
-  -- ---- the units of a string
+-- ---- the units of a string
 
-  module _ (q : StringPlace) (j : ℕ) (next : Cursor) (g : Good p s (Units q j next)) where
-    abbrev us : List ℕ
-    us = unitsIn (p .layout) s (next .id - 1)
+-- those of the string before a cursor
+abbrev us : Places → List ℕ → Cursor → List ℕ
+us p s next = unitsIn (p .layout) s (next .id - 1)
 
-    count-is : q .count ≡ length us
-    count-is = read-count (p .layout) s (next .id - 1) q (g .0)
+module _ (p : Places) (s : List ℕ) (q : StringPlace) (j : ℕ) (next : Cursor) (g : Good p s (Units q j next)) where
+  count-is : q .count ≡ length (us p s next)
+  count-is = read-count (p .layout) s (next .id - 1) q (g .0)
 
-    pub gives-closing : q .count ≤ j → Wrote old at (closing (q .count)) end new → end ≤ at + 2
-        → Gives p s old at (Units q j next) (piece end (Strings next)) new
-    gives-closing k w m =
-        let e : ltb j (length us) ≡ false = le-ltb j (length us) (omega (arith, count-is)) in
-        record {
-          wrote = rw (e, ← count-is) w;
-          next = rw e (ap strings (let i : next .id ≡ next .id - 1 + 1 = omega (arith, g .2) in i));
-          good = g .1;
-          most = omega arith;
-        }
+  -- units one by one are those of the string
+  listed-units : (n i : ℕ) → i + n ≤ q .count → unitsShown s (q .start) (q .wide) i n ≡ take n (drop i (us p s next))
+  unfolding unitsShown
+  listed-units zero i k = refl
+  listed-units (suc n) i k =
+      rw (
+        drop-cons (us p s next) i 0 (omega (arith, count-is)),
+        ← read-unit (p .layout) s (next .id - 1) q (g .0) i (omega arith),
+        listed-units n
+            (suc i) (omega arith),
+      )
 
-    -- units one by one are those of the string
-    listed-units : (n i : ℕ) → i + n ≤ q .count → unitsShown s (q .start) (q .wide) i n ≡ take n (drop i us)
-    unfolding unitsShown
-    listed-units zero i k = refl
-    listed-units (suc n) i k =
-        rw (
-          drop-cons us i 0 (omega (arith, count-is)),
-          ← read-unit (p .layout) s (next .id - 1) q (g .0) i (omega arith),
-          listed-units n
-              (suc i) (omega arith),
-        )
+  left-length : length (drop j (us p s next)) ≡ q .count - j
+  left-length = length-drop j (us p s next) ∙ ap (λ (n : ℕ). n - j) (sym count-is)
 
-    left-length : length (drop j us) ≡ q .count - j
-    left-length = length-drop j us ∙ ap (λ (n : ℕ). n - j) (sym count-is)
+  -- there is room for them, and they lie in the image
+  pub units-in : (n : ℕ) → j + n ≤ q .count → q .start + (j + n) * unitSize (q .wide) ≤ length s
+  units-in n k = go (q .wide) (read-size (p .layout) s (next .id - 1) q (g .0))
+    where
+      go : (w : Bool) → q .size ≡ q .count * unitSize w → q .start + (j + n) * unitSize w ≤ length s
+      go true e = omega (arith, g .0 .inside)
+      go false e = omega (arith, g .0 .inside)
 
-    -- at most a chunk of them
-    pub least-units : (n : ℕ) → j < q .count → n ≡ pick (ltb (q .count - j) chunk) (q .count - j) chunk
-        → (n ≤ chunk) × (j + n ≤ q .count) × (unitsShown s (q .start) (q .wide) j n ≡ take chunk (drop j us))
-    least-units n k e = go (below-or (q .count - j) chunk)
-      where
-        go : (q .count - j < chunk) ⊎ (chunk ≤ q .count - j) → (n ≤ chunk) × (j + n ≤ q .count)
-            × (unitsShown s (q .start) (q .wide) j n ≡ take chunk (drop j us))
-        go (inl b) =
-            let m : n ≡ q .count - j = e ∙ rw (lt-ltb (q .count - j) chunk b) in (
-              omega arith,
-              omega arith,
-              listed-units n j (omega arith) ∙ take-all n (drop j us) (omega (arith, left-length))
-                  ∙ sym (take-all chunk (drop j us) (omega (arith, left-length))),
-            )
-        go (inr b) =
-            let m : n ≡ chunk = e ∙ rw (le-ltb (q .count - j) chunk b) in
-            (omega arith, omega arith, listed-units n j (omega arith) ∙ ap (λ (a : ℕ). take a (drop j us)) m)
+-- no unit is left, and the end of the line is put
+pub record ClosingPut (p : Places) (s old new : List ℕ) (at end : ℕ) (q : StringPlace) (j : ℕ) (next : Cursor) : Type 0 where
+  pub good : Good p s (Units q j next)
+  pub none : q .count ≤ j
+  pub wrote : Wrote old at (closing (q .count)) end new
+  pub most : end ≤ at + 2
 
-    -- there is room for them, and they lie in the image
-    pub units-in : (n : ℕ) → j + n ≤ q .count → q .start + (j + n) * unitSize (q .wide) ≤ length s
-    units-in n k = go (q .wide) (read-size (p .layout) s (next .id - 1) q (g .0))
-      where
-        go : (w : Bool) → q .size ≡ q .count * unitSize w → q .start + (j + n) * unitSize w ≤ length s
-        go true e = omega (arith, g .0 .inside)
-        go false e = omega (arith, g .0 .inside)
+pub gives-closing : (p : Places) (s old new : List ℕ) (at end : ℕ) (q : StringPlace) (j : ℕ) (next : Cursor)
+    → ClosingPut p s old new at end q j next
+    → Gives p s old at (Units q j next) (piece end (Strings next)) new
+gives-closing p s old new at end q j next x =
+    let c : q .count ≡ length (us p s next) = count-is p s q j next (x .good) in
+    let e : ltb j (length (us p s next)) ≡ false = le-ltb j (length (us p s next)) (omega (arith, c)) in
+    record {
+      wrote = rw (e, ← c) (x .wrote);
+      next = rw e (ap strings (let i : next .id ≡ next .id - 1 + 1 = omega (arith, x .good .2) in i));
+      good = x .good .1;
+      most = omega arith;
+    }
 
-    pub gives-units : (n : ℕ) → j < q .count → n ≡ pick (ltb (q .count - j) chunk) (q .count - j) chunk
-        → Wrote old at (hexes (unitsShown s (q .start) (q .wide) j n)) end new → end ≡ at + n * 4
-        → Gives p s old at (Units q j next) (piece end (Units q (j + 64) next)) new
-    gives-units n k m w v =
-        let e : ltb j (length us) ≡ true = lt-ltb j (length us) (omega (arith, count-is)) in
-        let u = least-units n k m in
-        record {
-          wrote = rw (e, ← u .2) w;
-          next = rw e;
-          good = g;
-          most = omega (arith, u .0);
-        }
+-- n units are to be put from unit j on: as many as are left, and at most a chunk
+pub record Chunk (p : Places) (s : List ℕ) (q : StringPlace) (j : ℕ) (next : Cursor) (n : ℕ) : Type 0 where
+  pub good : Good p s (Units q j next)
+  pub some : j < q .count
+  pub least : n ≡ pick (ltb (q .count - j) chunk) (q .count - j) chunk
 
-  -- ---- functions
+module _ {p : Places} {s : List ℕ} {q : StringPlace} {j : ℕ} {next : Cursor} {n : ℕ} (x : Chunk p s q j next n) where
+  pub least-units : (n ≤ chunk) × (j + n ≤ q .count)
+      × (unitsShown s (q .start) (q .wide) j n ≡ take chunk (drop j (us p s next)))
+  least-units = go (below-or (q .count - j) chunk)
+    where
+      shown : j + n ≤ q .count → unitsShown s (q .start) (q .wide) j n ≡ take n (drop j (us p s next))
+      shown h = listed-units p s q j next (x .good) n j h
 
+      few : length (drop j (us p s next)) ≡ q .count - j
+      few = left-length p s q j next (x .good)
+
+      go : (q .count - j < chunk) ⊎ (chunk ≤ q .count - j) → (n ≤ chunk) × (j + n ≤ q .count)
+          × (unitsShown s (q .start) (q .wide) j n ≡ take chunk (drop j (us p s next)))
+      go (inl b) =
+          let m : n ≡ q .count - j = x .least ∙ rw (lt-ltb (q .count - j) chunk b) in (
+            omega arith,
+            omega (arith, x .some),
+            shown (omega (arith, x .some)) ∙ take-all n (drop j (us p s next)) (omega (arith, few))
+                ∙ sym (take-all chunk (drop j (us p s next)) (omega (arith, few))),
+          )
+      go (inr b) =
+          let m : n ≡ chunk = x .least ∙ rw (le-ltb (q .count - j) chunk b) in (
+            omega arith,
+            omega (arith, x .some),
+            shown (omega (arith, x .some)) ∙ ap (λ (a : ℕ). take a (drop j (us p s next))) m,
+          )
+
+  pub gives-units : (old new : List ℕ) (at end : ℕ) → Wrote old at (hexes (unitsShown s (q .start) (q .wide) j n)) end new
+      → end ≡ at + n * 4
+      → Gives p s old at (Units q j next) (piece end (Units q (j + 64) next)) new
+  gives-units old new at end w v =
+      let e : ltb j (length (us p s next)) ≡ true
+      = lt-ltb j (length (us p s next)) (omega (arith, x .some, count-is p s q j next (x .good))) in
+      record {
+        wrote = rw (e, ← least-units .2) w;
+        next = rw e;
+        good = x .good;
+        most = omega (arith, least-units .0);
+      }
+
+-- ---- functions
+
+-- the line of function i, read as f, is put
+pub record FunctionPut (p : Places) (s old new : List ℕ) (at end i : ℕ) (f : Function) : Type 0 where
+  pub known : i < p .functions
+  pub is : asFunc f ≡ funcOf (p .layout) s i
+  pub wrote : Wrote old at (functionLine i (f .large) (f .begin) (f .size)) end new
+  pub most : end ≤ at + 67
+
+module _ (p : Places) (s : List ℕ) (h : Placed p s) (old new : List ℕ) (at end : ℕ) where
   pub no-function : (i : ℕ) → p .functions ≤ i → Gives p s old at (Functions i) (piece at End) old
   no-function i k =
       let e : ltb i (functionsIn s) ≡ false = le-ltb i (functionsIn s) (omega (arith, sectioned p s h .functions)) in
       record { wrote = rw e (omega arith, refl); next = rw e; good = tt; most = omega arith }
 
-  pub gives-function : (i : ℕ) (f : Function) → i < p .functions → asFunc f ≡ funcOf (p .layout) s i
-      → Wrote old at (functionLine i (f .large) (f .begin) (f .size)) end new
-      → end ≤ at + 67 → Gives p s old at (Functions i) (piece end (Functions (i + 1))) new
+  pub gives-function : (i : ℕ) (f : Function) → FunctionPut p s old new at end i f
+      → Gives p s old at (Functions i) (piece end (Functions (i + 1))) new
   unfolding functionLineIn
-  gives-function i f k r w m =
-      let e : ltb i (functionsIn s) ≡ true = lt-ltb i (functionsIn s) (omega (arith, sectioned p s h .functions)) in
+  gives-function i f x =
+      let e : ltb i (functionsIn s) ≡ true = lt-ltb i (functionsIn s) (omega (arith, x .known, sectioned p s h .functions)) in
       record {
-        wrote = rw e (subst (λ (g : Func). Wrote old at (functionLine i (g .large) (g .begin) (g .size)) end new) r w);
+        wrote = rw e (subst (λ (g : Func). Wrote old at (functionLine i (g .large) (g .begin) (g .size)) end new) (x .is) (x .wrote));
         next = rw e;
         good = tt;
         most = omega arith;
@@ -196,10 +241,10 @@ module _ (p : Places) (s out₀ : List ℕ) (x₀ : Point) where
   going-first h g = record { few = omega arith; same = refl; room = omega arith; good = g; text = refl; size = omega arith; to = refl }
 
   pub going-next : (out : List ℕ) (x : Point) (at i : ℕ) → Going p s out₀ x₀ out x at i → i < batch
-      → (out′ : List ℕ) (r : Piece) → length out′ ≡ length out
-      → Gives p s out at x r out′ → Going p s out₀ x₀ out′ (r .next) (r .end) (i + 1)
+      → (out′ : List ℕ) (r : Piece) → Gives p s out at x r out′ → Going p s out₀ x₀ out′ (r .next) (r .end) (i + 1)
   unfolding pieces after
-  going-next out x at i g h out′ r k v =
+  going-next out x at i g h out′ r v =
+      let k : length out′ ≡ length out = ap length (v .wrote .1) ∙ length-sets out at (pieceAt (p .layout) s (spotOf x)) in
       let m : ℕ = batch - (i + 1) in
       let e : batch - i ≡ suc m = omega arith in
       let a : List ℕ = pieceAt (p .layout) s (spotOf x) in

@@ -24,19 +24,29 @@ field-row k h = (
       (both-0 (leb (table.rowOf k .width) 32) _ (both-1 (ltb k table.rowCount) _ h)),
 )
 
-module _ (mv : ℕ → ℕ) (f : Func) (k b i : ℕ) (e : b ≡ mv (f .begin)) where
+-- a function without a large header: its body's moved offset b, and whether row k has too few bits for it
+pub record OffsetTested (mv : ℕ → ℕ) (f : Func) (k b : ℕ) (x : Bool) : Type 0 where
+  pub begin : b ≡ mv (f .begin)
+  pub small : f .large ≡ false
+  pub over : x ≡ beyond (table.rowOf k) b
+
+-- it has not: the moved info place i, and whether its row has
+pub record InfoTested (mv : ℕ → ℕ) (f : Func) (k b : ℕ) (x : Bool) (i : ℕ) (y : Bool) : Type 0 where
+  pub offset : OffsetTested mv f k b x
+  pub holds : x ≡ false
+  pub info : i ≡ mv (f .info)
+  pub over : y ≡ beyond table.legacyInfo i
+
+module _ (mv : ℕ → ℕ) (f : Func) (k b : ℕ) (x : Bool) where
   abbrev test : Field → Bool
   test row = not (both (not (f .large)) (either (beyond row (mv (f .begin))) (beyond table.legacyInfo (mv (f .info)))))
 
-  pub fit-large : f .large ≡ true → true ≡ test (table.rowOf k)
-  fit-large t = rw t
+  pub fit-not : OffsetTested mv f k b x → x ≡ true → false ≡ test (table.rowOf k)
+  fit-not te h = rw (te .small, ← te .begin, ← te .over, h)
 
-  module _ (t : f .large ≡ false) (x : Bool) (g : x ≡ beyond (table.rowOf k) b) where
-    pub fit-not : x ≡ true → false ≡ test (table.rowOf k)
-    fit-not h = rw (t, ← e, ← g, h)
-
-    pub fit-info : x ≡ false → i ≡ mv (f .info) → (y : Bool) → y ≡ beyond table.legacyInfo i → not y ≡ test (table.rowOf k)
-    fit-info h d y c = rw (t, ← e, ← g, h, ← d, ← c)
+  pub fit-info : (i : ℕ) (y : Bool) → InfoTested mv f k b x i y → not y ≡ test (table.rowOf k)
+  fit-info i y te =
+      rw (te .offset .small, ← te .offset .begin, ← te .offset .over, te .holds, ← te .info, ← te .over)
 
 -- ---- all functions
 
@@ -52,10 +62,9 @@ module _ (l : Layout) (s : List ℕ) (mv : ℕ → ℕ) where
       g ∙ ap (λ (x : Field). not (both (not (f .large)) (either (beyond x (mv (f .begin))) (beyond table.legacyInfo (mv (f .info)))))) e
       ∙ ap (λ (x : Func). not (isBeyond l mv x)) h
 
-  pub fields-stop : (i n : ℕ) (r : Bool) → n ≡ functionsIn s → i < n → r ≡ fitsAt i → not r ≡ true
-      → false ≡ fieldsFit l s mv
+  pub fields-stop : (i : ℕ) (r : Bool) → i < functionsIn s → r ≡ fitsAt i → not r ≡ true → false ≡ fieldsFit l s mv
   unfolding fieldsFit
-  fields-stop i n r c k e h = pass-stop fitsAt (functionsIn s) i r (rw c at k) e h
+  fields-stop i r k e h = pass-stop fitsAt (functionsIn s) i r k e h
 
   pub fields-end : (i n : ℕ) → n ≡ functionsIn s → i ≡ n → allBelow i fitsAt ≡ true → true ≡ fieldsFit l s mv
   unfolding fieldsFit

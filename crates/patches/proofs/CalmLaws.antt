@@ -44,59 +44,72 @@ pub record Calm (l : Layout) (s t : List ℕ) : Type 0 where
 
 -- ---- an image that differs only in file length, hash slots and footer
 
-module _ (l : Layout) (s t : List ℕ) (ad : Admitted l s) (long : length t ≡ length s) (below : AllBelow 256 t)
-    (front : Agree s t 0 (table.fileLength .at)) (head : Agree s t (table.fileLength .at + table.fileLength .width) (hashesAt l s))
-    (rest : Agree s t (smallAt l s) (length s - footerLength)) where
+pub record Nearly (l : Layout) (s t : List ℕ) : Type 0 where
+  pub admitted : Admitted l s
+  pub long : length t ≡ length s
+  pub bytes : AllBelow 256 t
+  pub front : Agree s t 0 (table.fileLength .at)
+  pub head : Agree s t (table.fileLength .at + table.fileLength .width) (hashesAt l s)
+  pub rest : Agree s t (smallAt l s) (length s - footerLength)
+
+module _ (l : Layout) (s t : List ℕ) (nr : Nearly l s t) where
+  ad : Admitted l s
+  ad = nr .admitted
+
   same : Same l s t
   same =
       let o = ordered l s in
       record {
-        long = long;
-        bytes = below;
-        magic = λ p h k. front p (omega arith) (omega arith);
-        words = λ p h k. head p (omega arith) (omega (arith, o .kinds, o .hashes));
+        long = nr .long;
+        bytes = nr .bytes;
+        magic = λ p h k. nr .front p (omega arith) (omega arith);
+        tabled = record {
+          words = λ p h k. nr .head p (omega arith) (omega (arith, o .kinds, o .hashes));
+          kinds = λ p h k. nr .head p (omega (arith, o .kinds)) k;
+          tables = λ p h k. nr .rest p h (omega (arith, o .tail, ad .room));
+          ascii = λ i h w j k.
+              let c : sizeOf (placeAt l s i) ≡ placeAt l s i .count * 1 = rw w in
+              rw
+              (nr .rest (storageAt l s + placeAt l s i .at + j) (omega (arith, o .over, o .storage))
+              (omega (arith, string-in ad i h, ad .room)))
+              (ad .narrow i h w j k);
+        };
         debug =
             let d = table.placeIn l (table.debugRow l) in
             let w = table.debugRow l .width in
-            number-agree s t 36 (hashesAt l s) head d w (omega (arith, debug-past l)) (omega (arith, debug-at l, o .kinds, o .hashes));
-        records = λ p h k. head p (omega (arith, records-at l)) (omega (arith, o .hashes));
-        kinds = λ p h k. head p (omega (arith, o .kinds)) k;
-        tables = λ p h k. rest p h (omega (arith, o .tail, ad .room));
-        ascii = λ i h w j k.
-            let c : sizeOf (placeAt l s i) ≡ placeAt l s i .count * 1 = rw w in
-            rw
-            (rest (storageAt l s + placeAt l s i .at + j) (omega (arith, o .over, o .storage)) (omega (arith, string-in ad i h, ad .room)))
-            (ad .narrow i h w j k);
+            number-agree s t 36 (hashesAt l s) (nr .head) d w (omega (arith, debug-past l))
+            (omega (arith, debug-at l, o .kinds, o .hashes));
+        records = λ p h k. nr .head p (omega (arith, records-at l)) (omega (arith, o .hashes));
         headers = λ i h u p f k.
-            rest p (omega (arith, o .over, o .storage, o .tail, ad .header i h u .0)) (omega (arith, ad .header i h u .1));
+            nr .rest p (omega (arith, o .over, o .storage, o .tail, ad .header i h u .0)) (omega (arith, ad .header i h u .1));
       }
 
   pub calm : Calm l s t
   unfolding bodyOf
   calm =
       let o = ordered l s in
-      let counts = counts-of l s t (same .words) in
+      let counts = counts-of l s t (same .tabled .words) in
       record {
         admitted = same-admitted l s t ad same;
-        long = long;
+        long = nr .long;
         functions = functions-same l s t counts;
         kinds = kindCount-same l s t counts;
         identifiers = identifierCount-same l s t counts;
         strings = stringCount-same l s t counts;
-        tail = tailAt-same l s t (same .words);
+        tail = tailAt-same l s t (same .tabled .words);
         string = λ i h.
-            string-same l s t (same .words) (same .tables) (ad .overflows) i h
-            (λ p f k. rest p (omega (arith, o .over, o .storage)) (omega (arith, string-in ad i h, ad .room)));
+            string-same l s t (record { words = same .tabled .words; tables = same .tabled .tables; counted = ad .overflows }) i h
+            (λ p f k. nr .rest p (omega (arith, o .over, o .storage)) (omega (arith, string-in ad i h, ad .room)));
         body = λ i h.
             let (x, y) = ad .body i h in
             ap (λ (f : Func). bytesAt t (f .begin) (f .size)) (funcs-same l s t ad same i h)
-            ∙ bytes-agree s t (smallAt l s) (length s - footerLength) rest (funcOf l s i .begin) (funcOf l s i .size)
+            ∙ bytes-agree s t (smallAt l s) (length s - footerLength) (nr .rest) (funcOf l s i .begin) (funcOf l s i .size)
             (omega (arith, o .over, o .storage, o .tail)) (omega arith);
-        flag = identifier-same l s t counts (same .kinds);
-        rank = rank-same l s t counts (same .kinds);
+        flag = identifier-same l s t counts (same .tabled .kinds);
+        rank = rank-same l s t counts (same .tabled .kinds);
         function = funcs-same l s t ad same;
         debug = same .debug;
-        bytes = λ p h k. rest p (omega (arith, o .over, o .storage, o .tail)) k;
+        bytes = λ p h k. nr .rest p (omega (arith, o .over, o .storage, o .tail)) k;
       }
 
 -- ---- finalize
@@ -122,9 +135,15 @@ module _ (l : Layout) (s : List ℕ) (ad : Admitted l s) where
   pub final-calm : Calm l s t
   final-calm =
       let o = ordered l s in
-      calm l s t ad final-long (finalize-below s t done (ad .bytes)) (keeps 0 32 (omega (arith, long)) (λ q. absurd (omega arith)))
-      (keeps 36 (hashesAt l s) (omega (arith, o .small, o .over, o .storage, o .tail, ad .room)) (λ q. omega arith))
-      (keeps (smallAt l s) (length s - footerLength) (omega arith) (λ q. omega (arith, o .kinds, o .hashes, o .small)))
+      calm l s t
+      (record {
+        admitted = ad;
+        long = final-long;
+        bytes = finalize-below s t done (ad .bytes);
+        front = keeps 0 32 (omega (arith, long)) (λ q. absurd (omega arith));
+        head = keeps 36 (hashesAt l s) (omega (arith, o .small, o .over, o .storage, o .tail, ad .room)) (λ q. omega arith);
+        rest = keeps (smallAt l s) (length s - footerLength) (omega arith) (λ q. omega (arith, o .kinds, o .hashes, o .small));
+      })
 
   pub final-hash : (r : ℕ) → r < identifiersIn s → hashIn l t r ≡ hashIn l s r
   final-hash r h =

@@ -35,7 +35,7 @@ use Rattle.patches.specs.Faults.{orderOf, goesTo, PatchFault}
 use Rattle.patches.specs.Faults.PatchFault.{badValue, badOld, badNew, shares, within, infoInside, debugBelow, wasEmpty}
 use Rattle.patches.specs.Faults.PatchFault.{absent, overLimit, overField, overSize, noRoom, badImage, noString, noFunction}
 use Rattle.patches.proofs.StepLaws.{patch-promise}
-use Rattle.patches.proofs.OrderLaws.{inTurns, not-zero, some, judged-in-order}
+use Rattle.patches.proofs.OrderLaws.{inTurns, InOrder, not-zero, some, judged-in-order}
 use Rattle.patches.proofs.FindLaws.{find-least, find-none}
 use Rattle.patches.proofs.RefusalLaws.{size-wrong, size-failed, fields-wrong, fields-failed, alone-wrong, alone-failed}
 use Rattle.patches.proofs.RefusalLaws.{infos-decide, debug-decide, new-length, patch-wrong, patch-failed}
@@ -161,15 +161,18 @@ module _ (l : Layout) (s : List ℕ) (room : ℕ) where
   rises (byValue old new) = refl
   rises (toBody id body) = refl
 
+  in-order : (p : Patch) → InOrder (orderOf p) (PatchFault l s room p) (allChecks p)
+  in-order p = record { rises = rises p; shows = all-shows p; gives = own-gives p }
+
   -- so that no fault has the number 0
   pub fault-numbered : (p : Patch) (n : ℕ) → PatchFault l s room p n → 0 < n
-  fault-numbered p = not-zero (orderOf p) (PatchFault l s room p) (allChecks p) (rises p) (all-shows p) (own-gives p)
+  fault-numbered p = not-zero (orderOf p) (PatchFault l s room p) (allChecks p) (in-order p)
 
   fault-judged : (p : Patch) (n : ℕ) → PatchFault l s room p n → 0 < judge (allChecks p)
-  fault-judged p = some (orderOf p) (PatchFault l s room p) (allChecks p) (rises p) (all-shows p) (own-gives p)
+  fault-judged p = some (orderOf p) (PatchFault l s room p) (allChecks p) (in-order p)
 
   first-judged : (p : Patch) (n : ℕ) → 0 < n → judge (allChecks p) ≡ n ↔ FirstFault l s (record { patch = p; room = room }) n
-  first-judged p = judged-in-order (orderOf p) (PatchFault l s room p) (allChecks p) (rises p) (all-shows p) (own-gives p)
+  first-judged p = judged-in-order (orderOf p) (PatchFault l s room p) (allChecks p) (in-order p)
 
 -- ---- the outcome of a step, and what is judged
 

@@ -1,10 +1,9 @@
 -- A list of patches: the promise of each step, joined by induction.
-use mathlib.Core.Path.{_≡_, refl, _∙_, ap}
+use mathlib.Core.Path.{refl, _∙_, ap}
 use mathlib.Core.Logic.{_⊎_, inl, inr}
 use mathlib.Core.List.{List, [], _∷_}
 use Prim.Native.Nat.{ℕ}
 use native.Mathlib.Omega.{arith}
-use Rattle.bits.specs.Outcome.{refused, made}
 use Rattle.format.specs.declared.Layout.{Layout}
 use Rattle.image.specs.Strings.{Str}
 use Rattle.image.specs.Functions.{Func}
@@ -13,7 +12,7 @@ use Rattle.patches.specs.Patches.{Step, Target, stepOf, imageAfter, run,
 use Rattle.patches.specs.Promise.{Promise, placeAfter, stringAfter, bodyAfter, hashAfter}
 use Rattle.patches.specs.Lists.{AllInBytes, SomeAccepted, Judged, placeAlong, functionAlong, Promised}
 use Rattle.patches.proofs.StepLaws.{step-promise}
-use Rattle.patches.proofs.TailLaws.{Known, known, zero-stays, headers-after}
+use Rattle.patches.proofs.TailLaws.{Stepped, known, zero-stays, headers-after}
 use Rattle.patches.proofs.ExactLaws.{either-way, not-both, step-judged}
 
 some-or-none : (l : Layout) (ps : List Step) (s : List ℕ) → SomeAccepted l ps s ⊎ (SomeAccepted l ps s → ⊥)
@@ -74,7 +73,7 @@ promised l (p ∷ ps) s ad b = elim (either-way (stepOf l s p)) [
       let c : Target = targetOf l s (p .patch) in
       let m : Promise l s u c = step-promise l s ad p u (b .0) e in
       let k = m .kept in
-      let there : Known l s c = known l s (p .room) (p .patch) (judged .accepted .0 (u, e)) in
+      let stepped : Stepped l s c = record { admitted = ad; known = known l s (p .room) (p .patch) (judged .accepted .0 (u, e)) } in
       let r : Promised l ps u (run l ps u) = promised l ps u (k .admitted) (b .1) in
       record {
         admitted = rw e (r .admitted);
@@ -90,13 +89,14 @@ promised l (p ∷ ps) s ad b = elim (either-way (stepOf l s p)) [
         hash = λ j h. rw e (r .hash j (rw (k .identifiers) h) ∙ ap (λ (x : ℕ). carried l (hashAfter l j) ps u x) (m .hash j h));
         function = λ i h. rw e (r .function i (rw (k .functions) h) ∙ ap (λ (x : Func). functionAlong l ps u i x) (k .function i h));
         debug = rw e (r .debug ∙ ap (λ (x : ℕ). placeAlong l ps u x) (k .debug));
-        zero = rw e (ap (λ (x : ℕ). placeAlong l ps u x) (zero-stays l s ad c there) ∙ r .zero);
+        zero = rw e (ap (λ (x : ℕ). placeAlong l ps u x) (zero-stays l s c stepped) ∙ r .zero);
         long = rw e (r .long ∙ ap (λ (x : ℕ). placeAlong l ps u x) (k .long));
         tail = λ q h o w.
             let (x, y, z) = k .tail q (h .0) (omega (arith, h .1)) (w .0 (u, e)) o in
             let (in-tail, same)
             =
-            r .tail (placeAfter l s c q) (x, omega (arith, y)) (headers-after l s ad u c k there q (h .0) (w .0 (u, e)) o)
+            r .tail (placeAfter l s c q) (x, omega (arith, y))
+            (headers-after l s u c k stepped q (record { tail = h .0; body = w .0 (u, e); headers = o }))
             (rw e at (w .1)) in
             rw e (in-tail, same ∙ z);
         sealed = λ x. rw e (elim (some-or-none l ps u) [ inl y ↦ r .sealed y | inr f ↦ rw (r .unchanged f) (m .sealed) ]);

@@ -9,24 +9,26 @@ use native.Mathlib.Omega.{arith}
 use borrow.Author.Tests.{eqb-true, eq-eqb}
 use lib.Dec.{eqb}
 use lib.ListN.{length}
-use Rattle.refusals.specs.Order.{oneMore, turnIn}
+use Rattle.refusals.specs.Order.{turnIn}
 use Rattle.bits.specs.Choice.{pick, both, Check, check, judge}
-use Rattle.bits.proofs.TestLaws.{below-or, both-0, both-1, either-or, either-true}
+use Rattle.bits.proofs.TestLaws.{which, below-or, both-0, both-1, either-or, either-true}
 use Rattle.bits.proofs.JudgeLaws.{rising, given, Shows, judge-shows, judge-least, judge-most}
 
 -- no two numbers of an order have one turn
 turn-one : (o : List ℕ) (a b : ℕ) → turnIn o a ≡ turnIn o b → turnIn o a < length o → a ≡ b
 unfolding turnIn
 turn-one [] a b e h = absurd (omega arith)
-turn-one (k ∷ ks) a b e h = go (eqb k a) refl (eqb k b) refl (turn-one ks a b) e h
-  where
-    go : (p : Bool) → eqb k a ≡ p → (q : Bool) → eqb k b ≡ q
-        → (turnIn ks a ≡ turnIn ks b → turnIn ks a < length ks → a ≡ b)
-        → oneMore p (turnIn ks a) ≡ oneMore q (turnIn ks b) → oneMore p (turnIn ks a) < suc (length ks) → a ≡ b
-    go true p true q r e h = sym (eqb-true k a p) ∙ eqb-true k b q
-    go true p false q r e h = absurd (omega arith)
-    go false p true q r e h = absurd (omega arith)
-    go false p false q r e h = r (omega arith) (omega arith)
+turn-one (k ∷ ks) a b e h =
+    elim (which (eqb k a)) [
+      | inl p ↦ elim (which (eqb k b)) [
+        | inl q ↦ sym (eqb-true k a p) ∙ eqb-true k b q
+        | inr q ↦ absurd (omega (arith, rw (p, q) at e))
+      ]
+      | inr p ↦ elim (which (eqb k b)) [
+        | inl q ↦ absurd (omega (arith, rw (p, q) at e))
+        | inr q ↦ turn-one ks a b (omega (arith, rw (p, q) at e)) (omega (arith, rw p at h))
+      ]
+    ]
 
 module _ (o : List ℕ) where
   -- turns counted from 1, so that 0 is still "no number"
@@ -61,41 +63,46 @@ module _ (o : List ℕ) where
         | inr h ↦ simp (given-turns n cs h, either-true)
       ]
 
-  -- ---- exactly: F names what is wrong, number by number
+-- ---- exactly: F names what is wrong, number by number
 
-  module _ (F : ℕ → Type 0) (cs : List Check) (up : rising 1 (length o) (inTurns cs) ≡ true) (shows : Shows F cs)
-      (gives : (n : ℕ) → F n → given n cs ≡ true) where
-    least : (n : ℕ) → F n → (1 ≤ turn (judge cs)) × (turn (judge cs) ≤ turn n)
-    least n x = rw (judge-turns cs) at (judge-least (length o) 1 (turn n) (inTurns cs) up (given-turns n cs (gives n x)))
+-- checks in the order o that are met exactly where F names what is wrong
+pub record InOrder (o : List ℕ) (F : ℕ → Type 0) (cs : List Check) : Type 0 where
+  pub rises : rising 1 (length o) (inTurns o cs) ≡ true
+  pub shows : Shows F cs
+  pub gives : (n : ℕ) → F n → given n cs ≡ true
 
-    most : turn (judge cs) ≤ length o
-    most = rw (judge-turns cs) at (judge-most (length o) 1 (inTurns cs) up)
+module _ (o : List ℕ) (F : ℕ → Type 0) (cs : List Check) (ok : InOrder o F cs) where
+  least : (n : ℕ) → F n → (1 ≤ turn o (judge cs)) × (turn o (judge cs) ≤ turn o n)
+  least n x = rw (judge-turns o cs) at (judge-least (length o) 1 (turn o n) (inTurns o cs) (ok .rises) (given-turns o n cs (ok .gives n x)))
 
-    -- where F holds of some number, that is not 0, and something is answered
-    pub not-zero : (n : ℕ) → F n → 0 < n
-    not-zero n x = elim (below-or 0 n) [
-      | inl h ↦ h
-      | inr h ↦ let z : n ≡ 0 = omega arith in absurd (omega (arith, ap turn z, least n x .0, least n x .1))
-    ]
+  most : turn o (judge cs) ≤ length o
+  most = rw (judge-turns o cs) at (judge-most (length o) 1 (inTurns o cs) (ok .rises))
 
-    pub some : (n : ℕ) → F n → 0 < judge cs
-    some n x = elim (below-or 0 (judge cs)) [
-      | inl h ↦ h
-      | inr h ↦ let z : judge cs ≡ 0 = omega arith in absurd (omega (arith, ap turn z, least n x .0))
-    ]
+  -- where F holds of some number, that is not 0, and something is answered
+  pub not-zero : (n : ℕ) → F n → 0 < n
+  not-zero n x = elim (below-or 0 n) [
+    | inl h ↦ h
+    | inr h ↦ let z : n ≡ 0 = omega arith in absurd (omega (arith, ap (turn o) z, least n x .0, least n x .1))
+  ]
 
-    -- the answer is n where F holds of n, and of no number that is due before
-    pub judged-in-order : (n : ℕ) → 0 < n → judge cs ≡ n ↔ (F n × ((k : ℕ) → turnIn o k < turnIn o n → F k → ⊥))
-    judged-in-order n h = (
-      λ e. (
-        rw e at (judge-shows F cs shows (omega arith)),
-        λ k t x. omega (arith, least k x .1, ap turn e, turn-is n h, turn-is k (not-zero k x)),
-      ),
-      λ x.
-          let j = some n (x .0) in
-          let a : turn (judge cs) ≡ suc (turnIn o (judge cs)) = turn-is (judge cs) j in
-          elim (below-or (turnIn o (judge cs)) (turnIn o n)) [
-            | inl t ↦ absurd (x .1 (judge cs) t (judge-shows F cs shows j))
-            | inr t ↦ turn-one o (judge cs) n (omega (arith, least n (x .0) .1, a, turn-is n h)) (omega (arith, most, a))
-          ],
-    )
+  pub some : (n : ℕ) → F n → 0 < judge cs
+  some n x = elim (below-or 0 (judge cs)) [
+    | inl h ↦ h
+    | inr h ↦ let z : judge cs ≡ 0 = omega arith in absurd (omega (arith, ap (turn o) z, least n x .0))
+  ]
+
+  -- the answer is n where F holds of n, and of no number that is due before
+  pub judged-in-order : (n : ℕ) → 0 < n → judge cs ≡ n ↔ (F n × ((k : ℕ) → turnIn o k < turnIn o n → F k → ⊥))
+  judged-in-order n h = (
+    λ e. (
+      rw e at (judge-shows F cs (ok .shows) (omega arith)),
+      λ k t x. omega (arith, least k x .1, ap (turn o) e, turn-is o n h, turn-is o k (not-zero k x)),
+    ),
+    λ x.
+        let j = some n (x .0) in
+        let a : turn o (judge cs) ≡ suc (turnIn o (judge cs)) = turn-is o (judge cs) j in
+        elim (below-or (turnIn o (judge cs)) (turnIn o n)) [
+          | inl t ↦ absurd (x .1 (judge cs) t (judge-shows F cs (ok .shows) j))
+          | inr t ↦ turn-one o (judge cs) n (omega (arith, least n (x .0) .1, a, turn-is o n h)) (omega (arith, most, a))
+        ],
+  )

@@ -46,9 +46,9 @@ size-bits (Legacy big sources) = refl
 -- a small record holds its own places
 small-most : (l : Layout) (s : List ℕ) (j : ℕ) → funcOf l s j .large ≡ false → (funcOf l s j .begin ≤ 33_554_431)
     × (funcOf l s j .info ≤ 33_554_431)
-small-most Modern s j t = (omega (arith, small-fits Modern s j t .2), omega (arith, modern-info s j))
+small-most Modern s j t = (omega (arith, small-fits Modern s j t .begin), omega (arith, modern-info s j))
 small-most (Legacy big sources) s j t =
-    (omega (arith, small-fits (Legacy big sources) s j t .2), omega (arith, small-fits (Legacy big sources) s j t .4))
+    (omega (arith, small-fits (Legacy big sources) s j t .begin), omega (arith, small-fits (Legacy big sources) s j t .info))
 
 -- a small record that cannot hold a moved place
 abbrev pub Beyond : Layout → List ℕ → (ℕ → ℕ) → Type 0
@@ -121,7 +121,7 @@ module _ (l : Layout) (s : List ℕ) (id : ℕ) where
         h,
         eqb-false j id (not-true (eqb j id) d),
         elim (below-or 0 (g .size)) [
-          | inl m ↦ inl (share (f₀ .begin) (f₀ .size) (g .begin) (g .size) z m y x)
+          | inl m ↦ inl (share (f₀ .begin) (f₀ .size) (g .begin) (g .size) z m (y, x))
           | inr m ↦ inr (omega arith, omega arith, x)
         ],
       )

@@ -51,8 +51,13 @@ module _ (l : Layout) (s : List ℕ) (ad : Admitted l s) where
   result id value known bytes e =
       let (limit, e₁) = judge-pass _ _ (omega arith) e in
       let (field, e₂) = judge-pass _ _ (omega arith) e₁ in
-      string-promise l s ad id value known bytes (ltb-false sizeLimit (string.newLength l s id value) limit)
-      (not-false (string.patchFits l s id value) field)
+      string-promise l s id value (record {
+        admitted = ad;
+        known = known;
+        bytes = bytes;
+        limit = ltb-false sizeLimit (string.newLength l s id value) limit;
+        field = not-false (string.patchFits l s id value) field;
+      })
 
   by-id : (id : ℕ) (value t : List ℕ) → AllBelow 256 value → strings.patchById l s id value ≡ made t
       → Promise l s t (aString id value)
@@ -91,11 +96,18 @@ module _ (l : Layout) (s : List ℕ) (ad : Admitted l s) where
       let (size, f₇) = judge-pass _ _ (omega arith) f₆ in
       let (field, f₈) = judge-pass _ _ (omega arith) f₇ in
       subst (λ (x : List ℕ). Promise l s x (aBody id body)) p
-      (body-promise l s ad id body (leb-false (functionsIn s) id known) bytes (not-false (functions.bodyAlone l s id) alone)
-      (not-false (functions.infosOutside l s id) infos)
-      (not-false (functions.debugPast l s id) debug) empty (ltb-false sizeLimit (functions.movedPastBody l s id body (length s)) limit)
-      (not-false (functions.sizeFits l s id body) size)
-      (not-false (fieldsFit l s (functions.movedPastBody l s id body)) field))
+      (body-promise l s id body (record {
+        admitted = ad;
+        known = leb-false (functionsIn s) id known;
+        bytes = bytes;
+        alone = not-false (functions.bodyAlone l s id) alone;
+        infos = not-false (functions.infosOutside l s id) infos;
+        debug = not-false (functions.debugPast l s id) debug;
+        empty = empty;
+        limit = ltb-false sizeLimit (functions.movedPastBody l s id body (length s)) limit;
+        size = not-false (functions.sizeFits l s id body) size;
+        field = not-false (fieldsFit l s (functions.movedPastBody l s id body)) field;
+      }))
 
   -- a patch that is accepted, whatever the room
   pub patch-promise : (p : Patch) (t : List ℕ) → InBytes p → outcomeOf l s p ≡ made t → Promise l s t (targetOf l s p)

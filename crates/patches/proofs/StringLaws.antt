@@ -16,7 +16,6 @@ use Rattle.bits.proofs.ListLaws.{AllBelow, below-sets, below-bytesOf}
 use Rattle.bits.proofs.ByteLaws.{length-bytesOf}
 use Rattle.bits.proofs.WriteLaws.{sets-off}
 use Rattle.format.specs.declared.Layout.{Layout}
-use Rattle.format.specs.Table as table
 use Rattle.format.specs.Hash.{hashOf}
 use Rattle.format.specs.Move.{moved}
 use Rattle.format.proofs.MoveLaws.{moved-low, moved-high}
@@ -53,13 +52,25 @@ use Rattle.patches.proofs.ValueLaws.{ascii-below, value-valid, with-val
 pub moved-still : (a p : ℕ) → moved a a p ≡ p
 moved-still a p = elim (below-or p a) [ inl h ↦ moved-low a a p h | inr h ↦ moved-high a a p h ∙ omega arith ]
 
-module _ (l : Layout) (s : List ℕ) (ad : Admitted l s) (id : ℕ) (value : List ℕ) (known : id < stringsIn s)
-    (bytes : AllBelow 256 value) where
+-- a string patch of an admitted image that no check refuses
+pub record StringPassed (l : Layout) (s : List ℕ) (id : ℕ) (value : List ℕ) : Type 0 where
+  pub admitted : Admitted l s
+  pub known : id < stringsIn s
+  pub bytes : AllBelow 256 value
+  -- 11
+  pub limit : newLength l s id value ≤ sizeLimit
+  -- 12
+  pub field : patchFits l s id value ≡ true
+
+module _ (l : Layout) (s : List ℕ) (id : ℕ) (value : List ℕ) (ok : StringPassed l s id value) where
   abbrev c : Target
   c = aString id value
 
   abbrev p₀ : ℕ
   p₀ = storageAt l s + placeAt l s id .at
+
+  ad : Admitted l s
+  ad = ok .admitted
 
   -- ---- in place: "entry narrow, value ASCII, byte lengths equal, and no other entry overlaps"
 
@@ -94,7 +105,7 @@ module _ (l : Layout) (s : List ℕ) (ad : Admitted l s) (id : ℕ) (value : Lis
         (all-at (λ k. implies (not (eqb k id)) (not (overlap (placeAt l s id) (placeAt l s k)))) (stringsIn s) j t h) (rw (ne-eqb j id d)))
 
     written : InPlace l s p₀ value
-    written = string-in-place l s ad (placeAt l s id .at) value (rw sized (ad .stored id known)) (ascii-below value plain)
+    written = string-in-place l s ad (placeAt l s id .at) value (rw sized (ad .stored id (ok .known))) (ascii-below value plain)
 
     still : (p : ℕ) → placeAfter l s c p ≡ p
     still p = rw fits (moved-still (tailAt l s) p)
@@ -102,14 +113,14 @@ module _ (l : Layout) (s : List ℕ) (ad : Admitted l s) (id : ℕ) (value : Lis
     own : stringOf l w id ≡ asString value
     unfolding asString
     own =
-        own-string l s ad p₀ value written id known refl (sym sized)
+        own-string l s p₀ value written id (record { known = ok .known; place = refl; size = sym sized })
         ∙ rw plain (ap (λ (b : Bool). record { wide = b; bytes = value }) narrow)
 
     string-put : (i : ℕ) → i < stringsIn s → stringOf l w i ≡ stringAfter i c (stringOf l s i)
     string-put i h = elim (which (eqb i id)) [
       | inl t ↦ let e : i ≡ id = eqb-true i id t in rw (e, eq-eqb id id refl) own
       | inr f ↦ rw f
-          (put-string l s ad p₀ value written i h
+          (put-string l s p₀ value written i h
           (λ q.
           let a = placeAt l s id in
           let b = placeAt l s i in
@@ -123,24 +134,30 @@ module _ (l : Layout) (s : List ℕ) (ad : Admitted l s) (id : ℕ) (value : Lis
     unfolding inPlace
     in-place-kept =
         let o = ordered l s in
-        let end : p₀ + length value ≤ tailAt l s = omega (arith, sized, string-in ad id known) in
-        let words = put-same l s ad p₀ value written .words in
+        let end : p₀ + length value ≤ tailAt l s = omega (arith, sized, string-in ad id (ok .known)) in
+        let words = put-same l s p₀ value written .tabled .words in
         let counts = counts-of l s w words in
         record {
-          admitted = put-admitted l s ad p₀ value written;
+          admitted = put-admitted l s p₀ value written;
           functions = functions-same l s w counts;
           kinds = kindCount-same l s w counts;
           identifiers = identifierCount-same l s w counts;
           strings = stringCount-same l s w counts;
           string = string-put;
-          body = λ i h. put-body l s ad p₀ value written i h (λ q. omega (arith, end, ad .body i h .0));
-          flag = put-identifier l s ad p₀ value written;
-          rank = put-rank l s ad p₀ value written;
+          body = λ i h. put-body l s p₀ value written i h (λ q. omega (arith, end, ad .body i h .0));
+          flag = put-identifier l s p₀ value written;
+          rank = put-rank l s p₀ value written;
           function = λ i h.
-              put-func l s ad p₀ value written i h
-              ∙ func-eq (funcOf l s i) (functionAfter l s c i (funcOf l s i)) refl (sym (still (funcOf l s i .ptr)))
-              (sym (still (funcOf l s i .begin))) refl (sym (still (funcOf l s i .info)));
-          debug = put-same l s ad p₀ value written .debug ∙ sym (still (debugIn l s));
+              put-func l s p₀ value written i h
+              ∙ func-eq (funcOf l s i) (functionAfter l s c i (funcOf l s i))
+              (record {
+                large = refl;
+                ptr = sym (still (funcOf l s i .ptr));
+                begin = sym (still (funcOf l s i .begin));
+                size = refl;
+                info = sym (still (funcOf l s i .info));
+              });
+          debug = put-same l s p₀ value written .debug ∙ sym (still (debugIn l s));
           long = length-sets s p₀ value ∙ sym (still (length s));
           tail = λ p h f b q. (
             rw (still p, tailAt-same l s w words) h,
@@ -152,12 +169,11 @@ module _ (l : Layout) (s : List ℕ) (ad : Admitted l s) (id : ℕ) (value : Lis
     pub in-place-hash : (r : ℕ) → r < identifiersIn s → hashIn l (inPlace l s id value) r ≡ hashIn l s r
     unfolding inPlace
     in-place-hash r h =
-        put-hash l s ad p₀ value written r (λ q. absurd (let o = ordered l s in omega (arith, hash-in l s r h, o .over, o .storage)))
+        put-hash l s p₀ value written r (λ q. absurd (let o = ordered l s in omega (arith, hash-in l s r h, o .over, o .storage)))
 
   -- ---- otherwise by a rebuild
 
-  module _ (no : fitsInPlace l s id value ≡ false) (limit : newLength l s id value ≤ sizeLimit)
-      (field : patchFits l s id value ≡ true) where
+  module _ (no : fitsInPlace l s id value ≡ false) where
     abbrev f : ℕ → Str
     f = stringWith l s id (asString value)
 
@@ -177,9 +193,9 @@ module _ (l : Layout) (s : List ℕ) (ad : Admitted l s) (id : ℕ) (value : Lis
     unfolding newLength patchFits stringsWith
     rebuilds = record {
       carries = carries f (stringsIn s);
-      strings = with-valid l s id (asString value) ad (value-valid value bytes);
-      limit = rw (long, goes (length s)) (rw no at limit);
-      field = fields-use l s (rebuiltPlace l ts s) (rw no at field);
+      strings = with-valid l s id (asString value) ad (value-valid value (ok .bytes));
+      limit = rw (long, goes (length s)) (rw no at (ok .limit));
+      field = fields-use l s (rebuiltPlace l ts s) (rw no at (ok .field));
     }
 
     same-string : (i : ℕ) → i < stringsIn s → stringOf l v i ≡ stringAfter i c (stringOf l s i)
@@ -201,8 +217,14 @@ module _ (l : Layout) (s : List ℕ) (ad : Admitted l s) (id : ℕ) (value : Lis
           rank = rebuilt-rank l ts s ad;
           function = λ i h.
               rebuilt-func l ts s ad f rebuilds i h
-              ∙ func-eq _ (functionAfter l s c i (funcOf l s i)) refl (sym (goes (funcOf l s i .ptr))) (sym (goes (funcOf l s i .begin)))
-              refl (sym (goes (funcOf l s i .info)));
+              ∙ func-eq _ (functionAfter l s c i (funcOf l s i))
+              (record {
+                large = refl;
+                ptr = sym (goes (funcOf l s i .ptr));
+                begin = sym (goes (funcOf l s i .begin));
+                size = refl;
+                info = sym (goes (funcOf l s i .info));
+              });
           debug = rebuilt-debug l ts s ad f rebuilds ∙ sym (goes (debugIn l s));
           long = long;
           tail = λ p h e b q.
@@ -230,7 +252,7 @@ module _ (l : Layout) (s : List ℕ) (ad : Admitted l s) (id : ℕ) (value : Lis
 
     module _ (named : isIdentifier l s id ≡ true) where
       slot : r₀ < identifiersIn x
-      slot = rw (k .identifiers) (rank-lt ad id known named)
+      slot = rw (k .identifiers) (rank-lt ad id (ok .known) named)
 
       wrote : InPlace l x (hashesAt l x + r₀ * 4) (bytesOf 4 (hashOf (utf16 value)))
       wrote = hash-in-place l x (k .admitted) r₀ (hashOf (utf16 value)) slot
@@ -242,17 +264,22 @@ module _ (l : Layout) (s : List ℕ) (ad : Admitted l s) (id : ℕ) (value : Lis
           let n = length-bytesOf 4 (hashOf (utf16 value)) in
           let at = hashesAt l x + r₀ * 4 in
           let vs = bytesOf 4 (hashOf (utf16 value)) in
-          calm l x u (k .admitted) (length-sets x at vs) (below-sets 256 (omega arith) vs x at (below-bytesOf 4 _) (k .admitted .bytes))
-          (λ p h f. sets-off vs x at p (λ g. absurd (omega (arith, o .kinds, o .hashes))))
-          (λ p h f. sets-off vs x at p (λ g. absurd (omega arith)))
-          (λ p h f. sets-off vs x at p (λ g. omega (arith, e, n)))
+          calm l x u
+          (record {
+            admitted = k .admitted;
+            long = length-sets x at vs;
+            bytes = below-sets 256 (omega arith) vs x at (below-bytesOf 4 _) (k .admitted .bytes);
+            front = λ p h f. sets-off vs x at p (λ g. absurd (omega (arith, o .kinds, o .hashes)));
+            head = λ p h f. sets-off vs x at p (λ g. absurd (omega arith));
+            rest = λ p h f. sets-off vs x at p (λ g. omega (arith, e, n));
+          })
 
       hash-own : hashIn l u r₀ ≡ hashOf (utf16 value)
       hash-own = own-hash l x (k .admitted) r₀ (hashOf (utf16 value)) slot (hash-lt (utf16 value))
 
       hash-other : (r : ℕ) → r < identifiersIn s → r ≢ r₀ → hashIn l u r ≡ hashIn l s r
       hash-other r h d =
-          put-hash l x (k .admitted) (hashesAt l x + r₀ * 4) (bytesOf 4 (hashOf (utf16 value))) wrote r
+          put-hash l x (hashesAt l x + r₀ * 4) (bytesOf 4 (hashOf (utf16 value))) wrote r
           (λ q. elim (below-or r r₀) [
             | inl g ↦ absurd (omega (arith, length-bytesOf 4 (hashOf (utf16 value))))
             | inr g ↦ elim (which (eqb r r₀)) [
@@ -296,14 +323,13 @@ module _ (l : Layout) (s : List ℕ) (ad : Admitted l s) (id : ℕ) (value : Lis
 
   -- ---- both ways
 
-  pub string-promise : newLength l s id value ≤ sizeLimit → patchFits l s id value ≡ true
-      → Promise l s (patchedString l s id value) c
+  pub string-promise : Promise l s (patchedString l s id value) c
   unfolding patchedString finished changed
-  string-promise limit field = go (fitsInPlace l s id value) refl
+  string-promise = go (fitsInPlace l s id value) refl
     where
       go : (b : Bool) → fitsInPlace l s id value ≡ b
           → Promise l s (sealed (lengthed
           (rehashed l s id (utf16 value) (pick b (inPlace l s id value) (rebuild l (stringsWith l s id (asString value)) s))))) c
       go true t = sealed-promise (inPlace l s id value) (in-place-kept t) (in-place-hash t)
       go false t =
-          sealed-promise (rebuild l (stringsWith l s id (asString value)) s) (rebuild-kept t limit field) (rebuild-hash t limit field)
+          sealed-promise (rebuild l (stringsWith l s id (asString value)) s) (rebuild-kept t) (rebuild-hash t)

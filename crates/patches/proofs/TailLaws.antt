@@ -1,6 +1,5 @@
 -- Places under one accepted step: 0 stays 0, and a tail byte outside the words of the large headers is outside them still.
 use mathlib.Core.Path.{_≡_}
-use mathlib.Core.Bool.{true}
 use mathlib.Core.Logic.{inl, inr}
 use mathlib.Core.List.{List}
 use Prim.Native.Nat.{ℕ, _+_, _-_, _≤_, _<_}
@@ -15,7 +14,7 @@ use Rattle.image.specs.Sections.{functionsIn, tailAt}
 use Rattle.image.specs.Functions.{funcOf}
 use Rattle.image.specs.Admitted.{Disjoint, Admitted}
 use Rattle.image.proofs.PlaceLaws.{ordered}
-use Rattle.functions.specs.Patch.{threshold}
+use Rattle.edits.proofs.RebuildLaws.{Large}
 use Rattle.patches.specs.Patches.{Patch, byId, byValue, toBody, Target, aString, aBody, targetOf}
 use Rattle.patches.specs.Promise.{movesFrom, movesTo, placeAfter, OutsideBody, OutsideHeaders, Kept}
 use Rattle.patches.specs.Faults.{PatchFault}
@@ -55,33 +54,44 @@ moved-clear a z n x w p clear out d g =
     high : (q : ℕ) → a + z ≤ q → moved (a + z) (a + n) q ≡ q - (a + z) + (a + n)
     high = moved-high (a + z) (a + n)
 
-module _ (l : Layout) (s : List ℕ) (ad : Admitted l s) where
-  pub zero-stays : (c : Target) → Known l s c → placeAfter l s c 0 ≡ 0
-  zero-stays c k = moved-low (movesFrom l s c) (movesTo l s c) 0 (past c k)
-    where
-      past : (c : Target) → Known l s c → 0 < movesFrom l s c
-      past (aString id value) k = let o = ordered l s in omega (arith, o .kinds, o .hashes, o .small, o .over, o .storage, o .tail)
-      past (aBody id body) k =
-          let o = ordered l s in omega (arith, o .kinds, o .hashes, o .small, o .over, o .storage, o .tail, ad .body id k .0)
+-- a step on an admitted image: the body that is set is there
+pub record Stepped (l : Layout) (s : List ℕ) (c : Target) : Type 0 where
+  pub admitted : Admitted l s
+  pub known : Known l s c
 
-  header-clear : (c : Target) → Known l s c → (j : ℕ) → j < functionsIn s → funcOf l s j .large ≡ true → (p : ℕ)
-      → tailAt l s ≤ p → OutsideBody l s c p
-      → Disjoint (funcOf l s j .ptr) (table.largeRow l .width) p 1
-      → Disjoint (placeAfter l s c (funcOf l s j .ptr)) (table.largeRow l .width) (placeAfter l s c p) 1
-  header-clear (aString id value) k j h t p q o d =
-      let from = tailAt l s in
-      let to = movesTo l s (aString id value) in
-      let x : ℕ = funcOf l s j .ptr in
-      let a = moved-high from to x (ad .header j h t .0) in
-      let b = moved-high from to p q in
-      λ g. rw (a, b) (omega (arith, ad .header j h t .0, d (omega (arith, a, b))))
-  header-clear (aBody id body) k j h t p q o d =
-      let f = funcOf l s id in
-      moved-clear (f .begin) (f .size) (length body) (funcOf l s j .ptr) (table.largeRow l .width) p (λ z. ad .clear id j k h z t) o d
+-- a byte of the tail, in no large header and not in the body that is set
+pub record TailByte (l : Layout) (s : List ℕ) (c : Target) (p : ℕ) : Type 0 where
+  pub tail : tailAt l s ≤ p
+  pub body : OutsideBody l s c p
+  pub headers : OutsideHeaders l s p
 
-  pub headers-after : (t : List ℕ) (c : Target) → Kept l s t c → Known l s c → (p : ℕ) → tailAt l s ≤ p
-      → OutsideBody l s c p → OutsideHeaders l s p → OutsideHeaders l t (placeAfter l s c p)
-  headers-after t c k known p q b o j h g =
-      let i : j < functionsIn s = rw (k .functions) at h in
-      let e = k .function j i in
-      rw e (header-clear c known j i (rw e at g) p q b (o j i (rw e at g)))
+pub zero-stays : (l : Layout) (s : List ℕ) (c : Target) → Stepped l s c → placeAfter l s c 0 ≡ 0
+zero-stays l s c st = moved-low (movesFrom l s c) (movesTo l s c) 0 (past c st)
+  where
+    past : (c : Target) → Stepped l s c → 0 < movesFrom l s c
+    past (aString id value) st = let o = ordered l s in omega (arith, o .kinds, o .hashes, o .small, o .over, o .storage, o .tail)
+    past (aBody id body) st =
+        let o = ordered l s in
+        omega (arith, o .kinds, o .hashes, o .small, o .over, o .storage, o .tail, st .admitted .body id (st .known) .0)
+
+header-clear : (l : Layout) (s : List ℕ) (c : Target) → Stepped l s c → (p : ℕ) → TailByte l s c p → (j : ℕ) → Large l s j
+    → Disjoint (placeAfter l s c (funcOf l s j .ptr)) (table.largeRow l .width) (placeAfter l s c p) 1
+header-clear l s (aString id value) st p tb j la =
+    let from = tailAt l s in
+    let to = movesTo l s (aString id value) in
+    let x : ℕ = funcOf l s j .ptr in
+    let h = st .admitted .header j (la .known) (la .large) .0 in
+    let a = moved-high from to x h in
+    let b = moved-high from to p (tb .tail) in
+    λ g. rw (a, b) (omega (arith, h, tb .tail, tb .headers j (la .known) (la .large) (omega (arith, a, b))))
+header-clear l s (aBody id body) st p tb j la =
+    let f = funcOf l s id in
+    moved-clear (f .begin) (f .size) (length body) (funcOf l s j .ptr) (table.largeRow l .width) p
+    (λ z. st .admitted .clear id j (st .known) (la .known) z (la .large)) (tb .body) (tb .headers j (la .known) (la .large))
+
+pub headers-after : (l : Layout) (s : List ℕ) (t : List ℕ) (c : Target) → Kept l s t c → Stepped l s c → (p : ℕ)
+    → TailByte l s c p → OutsideHeaders l t (placeAfter l s c p)
+headers-after l s t c k st p tb j h g =
+    let i : j < functionsIn s = rw (k .functions) at h in
+    let e = k .function j i in
+    rw e (header-clear l s c st p tb j (record { known = i; large = rw e at g }))

@@ -44,7 +44,7 @@ goes-small : (r : Reading) (b : ℕ) → Small r → 0 < r .need → Small (goes
 goes-small r b s h = elim (below-or b (r .lo)) [
   | inl g ↦ subst Small (goes-below r b g) small-wrong
   | inr g ↦ elim (below-or (r .hi) b)
-      [ inl k ↦ subst Small (goes-above r b g k) small-wrong | inr k ↦ small-as _ _ (goes-on r b s h g k) ]
+      [ inl k ↦ subst Small (goes-above r b g k) small-wrong | inr k ↦ small-as _ _ (goes-on r b s h (record { least = g; most = k })) ]
 ]
 
 next-small : (r : Reading) (b : ℕ) → Small r → Small (nextByte r b)

@@ -1,6 +1,5 @@
 -- What is read of a string or a function that was located is what the definitions say.
 use mathlib.Core.Path.{_≡_, _∙_, ap, subst⁻¹}
-use mathlib.Core.Bool.{Bool}
 use mathlib.Core.List.{List}
 use Prim.Native.Nat.{ℕ, _+_, _≤_, _<_}
 use native.Mathlib.Omega.{arith}
@@ -27,13 +26,12 @@ module _ (p : Places) (s : List ℕ) (h : Placed p s) (i : ℕ) (q : Place) (g :
   pub place-small : (q .count < 4294967296) × (p .«storage_at» + q .at < 4294967296)
   place-small = let z : Sectioned p s = sectioned p s h in (omega arith, omega arith)
 
-  pub read-as : (b : Bool) → b ≡ isIdentifier (p .layout) s i → (r : StringPlace) → r ≡ imagePlace p q b
-      → ReadAs (p .layout) s i r
+  pub read-as : (r : StringPlace) → r ≡ imagePlace p q (isIdentifier (p .layout) s i) → ReadAs (p .layout) s i r
   unfolding imagePlace stringPlace
-  read-as b f r e =
+  read-as r e =
       let z : Sectioned p s = sectioned p s h in
-      let same : imagePlace p q b ≡ stringPlace (p .layout) s i
-      = rw (z .storageFrom, f)
+      let same : imagePlace p q (isIdentifier (p .layout) s i) ≡ stringPlace (p .layout) s i
+      = rw (z .storageFrom)
       (ap (λ (y : entry.Place).
       record {
         start = storageAt (p .layout) s + y .at;

@@ -1,6 +1,5 @@
 -- The answers of the reader: one law for each way out, over the number of a reading by id.
-use mathlib.Core.Path.{_≡_, _∙_, ap}
-use mathlib.Core.Bool.{Bool}
+use mathlib.Core.Path.{_≡_, refl, _∙_, ap}
 use mathlib.Core.List.{List, [], _∷_, _++_}
 use Prim.Native.Nat.{ℕ, _≤_, _<_}
 use native.Mathlib.Omega.{arith}
@@ -44,78 +43,95 @@ read-is l s count id e =
     let (z, q) = judged-none l s (check 7 (leb count id) ∷ []) e in
     (z, leb-false count id (judge-pass (check 7 (leb count id)) [] (omega arith) q .0))
 
-module _ (l : Layout) (s : List ℕ) (count id : ℕ) (r : Admission) (e : r ≡ admission l s) {A : Type 0} (found : A)
-    (refused : ℕ → A) where
+module _ (l : Layout) (s : List ℕ) (count id : ℕ) {A : Type 0} (found : A) (refused : ℕ → A) where
   abbrev answered : A
   answered = pick (eqb (idRefusal l s count id) 0) found (refused (idRefusal l s count id))
 
-  pub not-admitted : (k : ℕ) → r ≡ Refused k → (n : ℕ) → n ≡ numberOf r → refused n ≡ answered
+  pub not-admitted : (r : Admission) → r ≡ admission l s → (k : ℕ) → r ≡ Refused k → (n : ℕ) → n ≡ numberOf r
+      → refused n ≡ answered
   unfolding idRefusal
-  not-admitted k f n g =
+  not-admitted r e k f n g =
       let i : judge (checks l s ++ (check 7 (leb count id) ∷ [])) ≡ k = refused-then l s r e k f (check 7 (leb count id) ∷ []) in
       let h : 0 < k = refused-is l s r e k f .1 in
       let j : n ≡ k = g ∙ ap numberOf f in
       rw (i, ne-eqb k 0 (λ y. omega arith)) (ap refused j)
 
-  module _ (p : Places) (f : r ≡ Laid p) where
+  module _ (p : Places) (f : admission l s ≡ Laid p) where
+    own : judge (checks l s ++ (check 7 (leb count id) ∷ [])) ≡ judge (check 7 (leb count id) ∷ [])
+    own = laid-then l s (admission l s) refl p f (check 7 (leb count id) ∷ [])
+
     pub no-such-id : count ≤ id → refused 7 ≡ answered
     unfolding idRefusal judge
-    no-such-id h = rw (laid-then l s r e p f (check 7 (leb count id) ∷ []), le-leb count id h)
+    no-such-id h = rw (own, le-leb count id h)
 
     pub id-found : id < count → found ≡ answered
     unfolding idRefusal judge
-    id-found h = rw (laid-then l s r e p f (check 7 (leb count id) ∷ []), lt-leb count id h)
+    id-found h = rw (own, lt-leb count id h)
 
 -- ---- strings, bodies, the debug offset
 
-module _ (l : Layout) (s : List ℕ) (r : Admission) (e : r ≡ admission l s) where
-  module _ (id k : ℕ) (f : r ≡ Refused k) (n : ℕ) (g : n ≡ numberOf r) where
-    pub string-refused : string-is.Refused n ≡ stringRead l s id
-    unfolding stringRead
-    string-refused = not-admitted l s (stringsIn s) id r e (string-is.Found (stringPlace l s id)) string-is.Refused k f n g
+module _ (l : Layout) (s : List ℕ) (r : Admission) (e : r ≡ admission l s) (id k : ℕ) (f : r ≡ Refused k) (n : ℕ)
+    (g : n ≡ numberOf r) where
+  pub string-refused : string-is.Refused n ≡ stringRead l s id
+  unfolding stringRead
+  string-refused = not-admitted l s (stringsIn s) id (string-is.Found (stringPlace l s id)) string-is.Refused r e k f n g
 
-    pub body-refused : function-is.Refused n ≡ bodyRead l s id
+  pub body-refused : function-is.Refused n ≡ bodyRead l s id
+  unfolding bodyRead
+  body-refused = not-admitted l s (functionsIn s) id (function-is.Found (asFunction (funcOf l s id))) function-is.Refused r e k f n g
+
+module _ (l : Layout) (s : List ℕ) (p : Places) (f : admission l s ≡ Laid p) where
+  counts : (p .strings ≡ stringsIn s) × (p .functions ≡ functionsIn s)
+  unfolding placesOf
+  counts =
+      let e : p ≡ placesOf l s = laid-is l s (admission l s) refl p f .1 in
+      (ap (λ (x : Places). x .strings) e, ap (λ (x : Places). x .functions) e)
+
+  own-layout : p .layout ≡ l
+  own-layout = laid-layout l s (admission l s) refl p f
+
+  module _ (id : ℕ) where
+    pub body-absent : p .functions ≤ id → function-is.Refused 7 ≡ bodyRead l s id
     unfolding bodyRead
-    body-refused = not-admitted l s (functionsIn s) id r e (function-is.Found (asFunction (funcOf l s id))) function-is.Refused k f n g
+    body-absent h =
+        no-such-id l s (functionsIn s) id (function-is.Found (asFunction (funcOf l s id))) function-is.Refused p f
+        (omega (arith, counts .1))
 
-  module _ (p : Places) (f : r ≡ Laid p) where
-    counts : (p .strings ≡ stringsIn s) × (p .functions ≡ functionsIn s)
-    unfolding placesOf
-    counts = (ap (λ (x : Places). x .strings) (laid-is l s r e p f .1), ap (λ (x : Places). x .functions) (laid-is l s r e p f .1))
+    pub body-found : id < p .functions → (q : Function) → asFunc q ≡ funcOf (p .layout) s id
+        → function-is.Found q ≡ bodyRead l s id
+    unfolding bodyRead
+    body-found h q g =
+        let w : asFunc q ≡ funcOf l s id = g ∙ ap (λ (x : Layout). funcOf x s id) own-layout in
+        ap (λ (y : Func). function-is.Found (asFunction y)) w
+        ∙ id-found l s (functionsIn s) id (function-is.Found (asFunction (funcOf l s id))) function-is.Refused p f
+        (omega (arith, counts .1))
 
-    module _ (id : ℕ) where
-      module _ (h : places.Laid p s) (loc : Location) (g : Locates p s id refusals.id loc) where
-        -- no such string
-        pub string-absent : (m : ℕ) → loc ≡ location-is.Refused m → (n : ℕ) → n ≡ location.numberOf loc
-            → string-is.Refused n ≡ stringRead l s id
-        unfolding stringRead
-        string-absent m u n v =
-            let (w, b) = located-none p s id refusals.id loc g m u in
-            ap string-is.Refused (v ∙ ap location.numberOf u ∙ w)
-            ∙ no-such-id l s (stringsIn s) id r e (string-is.Found (stringPlace l s id)) string-is.Refused p f (omega (arith, counts .0))
+-- the image is admitted with these places, and its string id was looked for
+pub record StringSought (l : Layout) (s : List ℕ) (id : ℕ) (p : Places) (loc : Location) : Type 0 where
+  pub answer : admission l s ≡ Laid p
+  pub laid : places.Laid p s
+  pub located : Locates p s id refusals.id loc
 
-        -- the string that was located
-        pub string-found : (i : ℕ) (q : Place) → loc ≡ location-is.At i q → (b : Bool) → b ≡ isIdentifier (p .layout) s id
-            → (x : StringPlace) → x ≡ imagePlace p q b → string-is.Found x ≡ stringRead l s id
-        unfolding stringRead
-        string-found i q u b v x y =
-            let (_, known, st) = located-at p s id refusals.id loc g i q u in
-            let w : x ≡ stringPlace l s id
-            = read-as p s (h .placed) id q st b v x y .is ∙ ap (λ (z : Layout). stringPlace z s id) (laid-layout l s r e p f) in
-            ap string-is.Found w
-            ∙ id-found l s (stringsIn s) id r e (string-is.Found (stringPlace l s id)) string-is.Refused p f (omega (arith, counts .0))
+module _ {l : Layout} {s : List ℕ} {id : ℕ} {p : Places} {loc : Location} (z : StringSought l s id p loc) where
+  -- no such string
+  pub string-absent : (m : ℕ) → loc ≡ location-is.Refused m → (n : ℕ) → n ≡ location.numberOf loc
+      → string-is.Refused n ≡ stringRead l s id
+  unfolding stringRead
+  string-absent m u n v =
+      let (w, b) = located-none p s id refusals.id loc (z .located) m u in
+      ap string-is.Refused (v ∙ ap location.numberOf u ∙ w)
+      ∙ no-such-id l s (stringsIn s) id (string-is.Found (stringPlace l s id)) string-is.Refused p (z .answer)
+      (omega (arith, counts l s p (z .answer) .0))
 
-      pub body-absent : p .functions ≤ id → function-is.Refused 7 ≡ bodyRead l s id
-      unfolding bodyRead
-      body-absent h =
-          no-such-id l s (functionsIn s) id r e (function-is.Found (asFunction (funcOf l s id))) function-is.Refused p f
-          (omega (arith, counts .1))
-
-      pub body-found : id < p .functions → (q : Function) → asFunc q ≡ funcOf (p .layout) s id
-          → function-is.Found q ≡ bodyRead l s id
-      unfolding bodyRead
-      body-found h q g =
-          let w : asFunc q ≡ funcOf l s id = g ∙ ap (λ (x : Layout). funcOf x s id) (laid-layout l s r e p f) in
-          ap (λ (y : Func). function-is.Found (asFunction y)) w
-          ∙ id-found l s (functionsIn s) id r e (function-is.Found (asFunction (funcOf l s id))) function-is.Refused p f
-          (omega (arith, counts .1))
+  -- the string that was located
+  pub string-found : (i : ℕ) (q : Place) → loc ≡ location-is.At i q → (x : StringPlace)
+      → x ≡ imagePlace p q (isIdentifier (p .layout) s id)
+      → string-is.Found x ≡ stringRead l s id
+  unfolding stringRead
+  string-found i q u x y =
+      let (_, known, st) = located-at p s id refusals.id loc (z .located) i q u in
+      let w : x ≡ stringPlace l s id
+      = read-as p s (z .laid .placed) id q st x y .is ∙ ap (λ (k : Layout). stringPlace k s id) (own-layout l s p (z .answer)) in
+      ap string-is.Found w
+      ∙ id-found l s (stringsIn s) id (string-is.Found (stringPlace l s id)) string-is.Refused p (z .answer)
+      (omega (arith, counts l s p (z .answer) .0))

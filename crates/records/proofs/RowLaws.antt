@@ -13,6 +13,7 @@ use Rattle.bits.specs.Fields.{fieldOf}
 use Rattle.format.specs.declared.Field.{Field}
 use Rattle.format.specs.Table.{rowOf, rowCount}
 use Rattle.format.specs.Record.{valueOf}
+use Rattle.format.proofs.RowLaws as rows
 use Rattle.bits.proofs.TestLaws.{both-0, both-1}
 use Rattle.records.specs.Records.{isRecordRow}
 
@@ -47,8 +48,7 @@ record-row k t =
 pub row-placed : (f g : Field) → f ≡ g → InOneWord (g .at) (g .width) → InOneWord (f .at) (f .width)
 row-placed f g e h = subst (λ (x : Field). InOneWord (x .at) (x .width)) (sym e) h
 
-pub row-value : (f g : Field) (n r : ℕ) → f ≡ g → r ≡ fieldOf n (f .at) (f .width) → r < 2 ^ f .width → g .width ≤ 32
+-- so is the value that it read, which fits 32 bits where the row does
+pub row-value : (f g : Field) (n r : ℕ) → f ≡ g → (r ≡ fieldOf n (f .at) (f .width)) × (r < 2 ^ f .width) → g .width ≤ 32
     → (r ≡ valueOf g n) × (r < 2 ^ g .width) × (r < 2 ^ 32)
-row-value f g n r e p q s =
-    let h : r < 2 ^ g .width = subst (λ (x : Field). r < 2 ^ x .width) e q in
-    (subst (λ (x : Field). r ≡ fieldOf n (x .at) (x .width)) e p, h, lt-of-lt-of-le h (pow-mono s))
+row-value f g n r e h s = let v = rows.row-value f g e n r h in (v .0, v .1, lt-of-lt-of-le (v .1) (pow-mono s))

@@ -30,10 +30,17 @@ pub counts-put : (o o₁ o₂ : List ℕ) (x y : ℕ) → o₁ ≡ withNumber ta
 unfolding writeAll
 counts-put o o₁ o₂ x y h k = rw (← h) k
 
-pub debug-put : (l : Layout) (s : List ℕ) (m : Move) (at x d : ℕ) (o o₁ : List ℕ) → at ≡ table.placeIn l (table.debugRow l)
-    → x ≡ debugIn l s → d ≡ movedPlace m x → o₁ ≡ sets o at (bytesOf 4 d) → o₁ ≡ writeAll (debugWord l s m ∷ []) o
+-- the debug offset x, where it goes, and the word put there
+pub record DebugPut (l : Layout) (s : List ℕ) (m : Move) (at x d : ℕ) (o o₁ : List ℕ) : Type 0 where
+  pub place : at ≡ table.placeIn l (table.debugRow l)
+  pub offset : x ≡ debugIn l s
+  pub goes : d ≡ movedPlace m x
+  pub word : o₁ ≡ sets o at (bytesOf 4 d)
+
+pub debug-put : (l : Layout) (s : List ℕ) (m : Move) (at x d : ℕ) (o o₁ : List ℕ) → DebugPut l s m at x d o o₁
+    → o₁ ≡ writeAll (debugWord l s m ∷ []) o
 unfolding writeAll
-debug-put l s m at x d o o₁ e h k j = rw (← h, ← k, ← e, debug-wide l) j
+debug-put l s m at x d o o₁ put = rw (← put .offset, ← put .goes, ← put .place, debug-wide l) (put .word)
 
 -- ---- the relocation, as code goes through it
 
@@ -44,25 +51,35 @@ header-there l s m room ok =
     let o = ordered l s in
     (omega (arith, ok .fits .room, o .kinds, o .hashes, o .small, o .over, o .storage, o .tail), omega (arith, ok .records, o .kinds))
 
-pub relocated-is : (l : Layout) (s : List ℕ) (m : Move) (room n : ℕ) → Movable l s m room → n ≡ functionsIn s
-    → (o o₁ o₂ : List ℕ)
-    → o₁ ≡ writeAll (debugWord l s m ∷ []) o → o₂ ≡ writeAll (groups n (functionGroup l s m)) o₁
+-- the debug word is written, then n functions one by one
+pub record OneByOne (l : Layout) (s : List ℕ) (m : Move) (n : ℕ) (o o₁ o₂ : List ℕ) : Type 0 where
+  pub all : n ≡ functionsIn s
+  pub debug : o₁ ≡ writeAll (debugWord l s m ∷ []) o
+  pub functions : o₂ ≡ writeAll (groups n (functionGroup l s m)) o₁
+
+pub relocated-is : (l : Layout) (s : List ℕ) (m : Move) (room n : ℕ) → Movable l s m room → (o o₁ o₂ : List ℕ)
+    → OneByOne l s m n o o₁ o₂
     → o₂ ≡ relocated l s m o
 unfolding relocated
-relocated-is l s m room n ok e o o₁ o₂ h k = rw (← h) (k ∙ rw e (functions-apart l s m room ok o₁))
+relocated-is l s m room n ok o o₁ o₂ by = rw (← by .debug) (by .functions ∙ rw (by .all) (functions-apart l s m room ok o₁))
 
 -- ---- the bytes around those that are replaced
 
-module _ (a b : ℕ) (new s o : List ℕ) (order : a ≤ b) (most : b ≤ length s)
-    (fits : length o ≡ length s - b + (a + length new)) where
+-- bytes for those from a to b of an image, in a buffer of just the new length
+pub record Replaces (a b : ℕ) (new s o : List ℕ) : Type 0 where
+  pub order : a ≤ b
+  pub most : b ≤ length s
+  pub fits : length o ≡ length s - b + (a + length new)
+
+module _ (a b : ℕ) (new s o : List ℕ) (ok : Replaces a b new s o) where
   -- and those that replace them
   pub around-filled : sets (around a b (a + length new) s o) a new ≡ splice a b new s
   unfolding around splice
   around-filled =
-      let t : length (take a s) ≡ a = length-take-le a s (omega arith) in
+      let t : length (take a s) ≡ a = length-take-le a s (omega (arith, ok .order, ok .most)) in
       let p : length (take a s ++ new) ≡ a + length new = length-append (take a s) new ∙ rw t in
       let q : length (take a s ++ new ++ drop b s) ≡ length o
-      = length-append (take a s ++ new) (drop b s) ∙ rw (p, length-drop) (omega arith) in
+      = length-append (take a s ++ new) (drop b s) ∙ rw (p, length-drop) (omega (arith, ok .most, ok .fits)) in
       let c : sets (sets o 0 (take a s)) a new ≡ sets o 0 (take a s ++ new) = sym (sets-append (take a s) new o 0 ∙ rw (zero-add, t)) in
       let d : sets (sets o 0 (take a s ++ new)) (a + length new) (drop b s) ≡ sets o 0 (take a s ++ new ++ drop b s)
       = sym (sets-append (take a s ++ new) (drop b s) o 0 ∙ rw (zero-add, p)) in

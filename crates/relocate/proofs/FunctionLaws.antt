@@ -48,17 +48,26 @@ module _ (mv : ℕ → ℕ) (f g : Func) (p : Cause) (i : ℕ) (e : g ≡ moveFu
 
 -- ---- its record
 
+-- the three fields of a legacy record, put one after the other
+pub record LegacyPut (f : Func) (n a b c : ℕ) : Type 0 where
+  pub begin : a ≡ withValue table.legacyOffset (f .begin) n
+  pub size : b ≡ withValue table.legacySize (f .size) a
+  pub info : c ≡ withValue table.legacyInfo (f .info) b
+
+-- the old pointer of a record, which is not p
+pub record PointsElsewhere (l : Layout) (p n old : ℕ) : Type 0 where
+  pub read : old ≡ pointer l n
+  pub other : p ≡ old → ⊥
+
 module _ (l : Layout) (f : Func) (n : ℕ) where
   pub small-modern : l ≡ Modern → (a b : ℕ) → a ≡ withValue table.modernOffset (f .begin) n
       → b ≡ withValue table.modernSize (f .size) a → b ≡ putSmall l f n
   unfolding putSmall
   small-modern e a b h k = rw (e, ← h) k
 
-  pub small-legacy : (x y : Bool) → l ≡ Legacy x y → (a b c : ℕ) → a ≡ withValue table.legacyOffset (f .begin) n
-      → b ≡ withValue table.legacySize (f .size) a
-      → c ≡ withValue table.legacyInfo (f .info) b → c ≡ putSmall l f n
+  pub small-legacy : (x y : Bool) → l ≡ Legacy x y → (a b c : ℕ) → LegacyPut f n a b c → c ≡ putSmall l f n
   unfolding putSmall
-  small-legacy x y e a b c h k j = rw (e, ← h, ← k) j
+  small-legacy x y e a b c put = rw (e, ← put .begin, ← put .size) (put .info)
 
 module _ (l : Layout) (p n : ℕ) where
   pub pointer-modern : l ≡ Modern → (r : ℕ) → r ≡ putPointer Modern p n → r ≡ putPointer l p n
@@ -78,31 +87,38 @@ module _ (l : Layout) (p n : ℕ) where
     unfolding pointed
     pointed-kept h old e k = rw (h, eq-eqb p (pointer l n) (k ∙ e))
 
-    pub pointed-moved : all ≡ false → (old : ℕ) → old ≡ pointer l n → (p ≡ old → ⊥) → (r : ℕ)
-        → r ≡ putPointer l p n → r ≡ pointed l all p n
+    pub pointed-moved : all ≡ false → (old : ℕ) → PointsElsewhere l p n old → (r : ℕ) → r ≡ putPointer l p n
+        → r ≡ pointed l all p n
     unfolding pointed
-    pointed-moved h old e k r g = rw (h, ne-eqb p (pointer l n) (λ q. k (q ∙ sym e))) g
+    pointed-moved h old el r g = rw (h, ne-eqb p (pointer l n) (λ q. el .other (q ∙ sym (el .read)))) g
+
+-- record i has room at its place
+pub record SlotRoomy (l : Layout) (o : List ℕ) (i at : ℕ) (f : Field) : Type 0 where
+  pub place : at ≡ recordAt l i
+  pub row : f ≡ table.recordRow l
+  pub fits : recordAt l i + table.recordRow l .width ≤ length o
 
 -- a record in its own part of the image
-module _ (l : Layout) (o : List ℕ) (i at n : ℕ) (f : Field) (e : at ≡ recordAt l i) (g : f ≡ table.recordRow l)
-    (h : recordAt l i + table.recordRow l .width ≤ length o) where
+module _ (l : Layout) (o : List ℕ) (i at n : ℕ) (f : Field) (ok : SlotRoomy l o i at f) where
   slot-width : f .width ≡ table.recordRow l .width
-  slot-width = ap (λ (x : Field). x .width) g
+  slot-width = ap (λ (x : Field). x .width) (ok .row)
 
   pub slot-ends : (at + f .width ≤ length o) × (f .width ≤ 16)
-  slot-ends = (omega (arith, slot-width), omega (arith, record-size l, slot-width))
+  slot-ends = (omega (arith, ok .place, ok .fits, slot-width), omega (arith, record-size l, slot-width))
 
   slot-count : at + f .width - at ≡ table.recordRow l .width
   slot-count = omega (arith, slot-width)
 
   pub slot-long : table.recordRow l .width ≤ length (take (at + f .width - at) (drop at o))
-  slot-long = rw (slot-count, length-take-le (table.recordRow l .width) (drop at o) (rw length-drop (omega arith))) (omega arith)
+  slot-long =
+      rw (slot-count, length-take-le (table.recordRow l .width) (drop at o) (rw length-drop (omega (arith, ok .place, ok .fits))))
+      (omega arith)
 
   pub slot-put : (new : List ℕ) → new ≡ sets (take (at + f .width - at) (drop at o)) 0 (bytesOf (table.recordRow l .width) n)
       → putMid at (at + f .width - at) o new ≡ sets o (recordAt l i) (bytesOf (table.recordRow l .width) n)
   slot-put new k =
-      rw (k, slot-count, e)
-      (part-sets o (bytesOf (table.recordRow l .width) n) (recordAt l i) (table.recordRow l .width) 0 h
+      rw (k, slot-count, ok .place)
+      (part-sets o (bytesOf (table.recordRow l .width) n) (recordAt l i) (table.recordRow l .width) 0 (ok .fits)
       (omega (arith, length-bytesOf (table.recordRow l .width) n))
       ∙ rw add-zero)
 
@@ -112,16 +128,23 @@ pub header-least : (l : Layout) → 16 ≤ table.largeRow l .width
 header-least Modern = omega arith
 header-least (Legacy x y) = omega arith
 
-module _ (l : Layout) (f : Func) (o o1 o2 : List ℕ)
-    (h : o1 ≡ sets o (f .ptr + table.largeOffset .at) (bytesFor table.largeOffset (f .begin))) where
-  pub header-modern : l ≡ Modern → o2 ≡ sets o1 (f .ptr + table.modernLargeSize .at) (bytesFor table.modernLargeSize (f .size))
-      → o2 ≡ writeAll (putHeader l f) o
-  unfolding putHeader writeAll
-  header-modern e k = rw (e, ← h) k
+-- the words of a modern one, put one after the other
+pub record ModernWords (f : Func) (o o1 o2 : List ℕ) : Type 0 where
+  pub begin : o1 ≡ sets o (f .ptr + table.largeOffset .at) (bytesFor table.largeOffset (f .begin))
+  pub size : o2 ≡ sets o1 (f .ptr + table.modernLargeSize .at) (bytesFor table.modernLargeSize (f .size))
 
-  pub header-legacy : (x y : Bool) → l ≡ Legacy x y
-      → o2 ≡ sets o1 (f .ptr + table.legacyLargeSize .at) (bytesFor table.legacyLargeSize (f .size))
-      → (o3 : List ℕ) → o3 ≡ sets o2 (f .ptr + table.legacyLargeInfo .at) (bytesFor table.legacyLargeInfo (f .info))
+-- those of a legacy one
+pub record LegacyWordsPut (f : Func) (o o1 o2 o3 : List ℕ) : Type 0 where
+  pub begin : o1 ≡ sets o (f .ptr + table.largeOffset .at) (bytesFor table.largeOffset (f .begin))
+  pub size : o2 ≡ sets o1 (f .ptr + table.legacyLargeSize .at) (bytesFor table.legacyLargeSize (f .size))
+  pub info : o3 ≡ sets o2 (f .ptr + table.legacyLargeInfo .at) (bytesFor table.legacyLargeInfo (f .info))
+
+module _ (l : Layout) (f : Func) (o o1 o2 : List ℕ) where
+  pub header-modern : l ≡ Modern → ModernWords f o o1 o2 → o2 ≡ writeAll (putHeader l f) o
+  unfolding putHeader writeAll
+  header-modern e put = rw (e, ← put .begin) (put .size)
+
+  pub header-legacy : (x y : Bool) → l ≡ Legacy x y → (o3 : List ℕ) → LegacyWordsPut f o o1 o2 o3
       → o3 ≡ writeAll (putHeader l f) o
   unfolding putHeader writeAll
-  header-legacy x y e k o3 j = rw (e, ← h, ← k) j
+  header-legacy x y e o3 put = rw (e, ← put .begin, ← put .size) (put .info)

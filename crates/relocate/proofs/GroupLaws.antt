@@ -28,7 +28,7 @@ use Rattle.edits.specs.Rebuild.{resized}
 use Rattle.edits.proofs.WriteLaws.{writes-append}
 use Rattle.image.proofs.PlaceLaws.{ordered, record-in}
 use Rattle.image.proofs.CheckLaws.{headers-in}
-use Rattle.function_table.proofs.ReadLaws.{small-is, is-small, header-is, is-large}
+use Rattle.function_table.proofs.ReadLaws.{SmallRead, LargeRead, small-is, is-small, header-is, is-large}
 use Rattle.relocate.specs.declared.Cause.{Cause}
 use Rattle.relocate.specs.declared.Cause.the-variants.{Strings, Body}
 use Rattle.relocate.specs.declared.Move.{Move}
@@ -54,6 +54,32 @@ after-pointer mv (Body id size) i f = go (eqb i id)
 
 -- ---- the writes of one function
 
+-- function i as it is read, by its record's number n and its flag b, and as it is to be
+pub record Moved (l : Layout) (s : List ℕ) (m : Move) (i n : ℕ) (b : Bool) (f₀ f : Func) : Type 0 where
+  pub number : n ≡ recordIn l s i
+  pub flag : b ≡ isLarge l n
+  pub after : f ≡ funcFor (movedPlace m) (m .cause) i f₀
+
+-- one without a large header
+pub record SmallMoved (l : Layout) (s : List ℕ) (m : Move) (i n : ℕ) (b : Bool) (f₀ f : Func) : Type 0 where
+  pub read : Moved l s m i n b f₀ f
+  pub without : not b ≡ true
+  pub own : f₀ ≡ small l n
+
+-- one with a large header at p
+pub record LargeMoved (l : Layout) (s : List ℕ) (m : Move) (i n : ℕ) (b : Bool) (f₀ f : Func) (p : ℕ) : Type 0 where
+  pub read : Moved l s m i n b f₀ f
+  pub large : not b ≡ false
+  pub place : p ≡ pointer l n
+  pub own : f₀ ≡ header l p s
+
+-- its record r, put into o, and then its large header
+pub record LargePut (l : Layout) (m : Move) (i n : ℕ) (f : Func) (r : ℕ) (all : Bool) (o o₁ o₂ : List ℕ) : Type 0 where
+  pub whole : all ≡ writesAll (m .cause)
+  pub number : r ≡ pointed l all (f .ptr) n
+  pub slot : o₁ ≡ sets o (recordAt l i) (bytesOf (table.recordRow l .width) r)
+  pub words : o₂ ≡ writeAll (putHeader l f) o₁
+
 module _ (l : Layout) (s : List ℕ) (m : Move) (i : ℕ) where
   -- by the function's flag
   abbrev writesBy : Bool → Func → List Write
@@ -69,35 +95,37 @@ module _ (l : Layout) (s : List ℕ) (m : Move) (i : ℕ) where
   unfolding recordGroup headerGroup
   group-of f b h z = ap (λ (g : Func). writesBy (g .large) g) (sym h) ∙ ap (λ (x : Bool). writesBy x f) z
 
-  module _ (n : ℕ) (e : n ≡ recordIn l s i) (b : Bool) (g : b ≡ isLarge l n) (f₀ f : Func)
-      (h : f ≡ funcFor (movedPlace m) (m .cause) i f₀) (r : ℕ) (o o₁ : List ℕ)
-      (j : o₁ ≡ sets o (recordAt l i) (bytesOf (table.recordRow l .width) r)) where
-    pub small-group : not b ≡ true → f₀ ≡ small l n → r ≡ putSmall l f n → o₁ ≡ writeAll (functionGroup l s m i) o
+  module _ (n : ℕ) (b : Bool) (f₀ f : Func) where
+    pub small-group : SmallMoved l s m i n b f₀ f → (r : ℕ) (o o₁ : List ℕ) → r ≡ putSmall l f n
+        → o₁ ≡ sets o (recordAt l i) (bytesOf (table.recordRow l .width) r) → o₁ ≡ writeAll (functionGroup l s m i) o
     unfolding writeAll
-    small-group t d k =
-        let q : f₀ ≡ funcOf l s i = small-is l s i n e b g (not-true b t) f₀ d in
-        let a : f ≡ funcAfter l s m i = h ∙ ap (funcFor (movedPlace m) (m .cause) i) q in
+    small-group got r o o₁ k j =
+        let y : SmallRead l s i n = record { number = got .read .number; flag = sym (got .read .flag) ∙ not-true b (got .without) } in
+        let a : f ≡ funcAfter l s m i = got .read .after ∙ ap (funcFor (movedPlace m) (m .cause) i) (small-is y f₀ (got .own)) in
         let z : f .large ≡ false
-        =
-        ap (λ (x : Func). x .large) a ∙ after-flag (movedPlace m) (m .cause) i (funcOf l s i)
-        ∙ is-small l s i n e b g (not-true b t) in
-        j ∙ ap (λ (x : ℕ). sets o (recordAt l i) (bytesOf (table.recordRow l .width) x)) (k ∙ ap (putSmall l f) e)
+        = ap (λ (x : Func). x .large) a ∙ after-flag (movedPlace m) (m .cause) i (funcOf l s i) ∙ is-small y in
+        j ∙ ap (λ (x : ℕ). sets o (recordAt l i) (bytesOf (table.recordRow l .width) x)) (k ∙ ap (putSmall l f) (got .read .number))
         ∙ ap (λ (ws : List Write). writeAll ws o) (sym (group-of f false a z))
 
-    module _ (t : not b ≡ false) (p : ℕ) (q : p ≡ pointer l n) (d : f₀ ≡ header l p s) where
-      is-after : f ≡ funcAfter l s m i
-      is-after = h ∙ ap (funcFor (movedPlace m) (m .cause) i) (header-is l s i n e b g (not-false b t) p q f₀ d)
+    module _ (p : ℕ) (got : LargeMoved l s m i n b f₀ f p) where
+      large-read : LargeRead l s i n p
+      large-read =
+          record { number = got .read .number; flag = sym (got .read .flag) ∙ not-false b (got .large); place = got .place }
 
-      pub large-group : (all : Bool) → all ≡ writesAll (m .cause) → r ≡ pointed l all (f .ptr) n → (o₂ : List ℕ)
-          → o₂ ≡ writeAll (putHeader l f) o₁
+      is-after : f ≡ funcAfter l s m i
+      is-after = got .read .after ∙ ap (funcFor (movedPlace m) (m .cause) i) (header-is large-read f₀ (got .own))
+
+      pub large-group : (r : ℕ) (all : Bool) (o o₁ o₂ : List ℕ) → LargePut l m i n f r all o o₁ o₂
           → o₂ ≡ writeAll (functionGroup l s m i) o
       unfolding writeAll
-      large-group all c k o₂ x =
-          let z : f .large ≡ true =
-          ap (λ (x : Func). x .large) is-after ∙ after-flag (movedPlace m) (m .cause) i (funcOf l s i)
-          ∙ is-large l s i n e b g (not-false b t) p q in
-          let y : r ≡ pointed l (writesAll (m .cause)) (f .ptr) (recordIn l s i) = k ∙ rw (c, e) in
-          x ∙ ap (writeAll (putHeader l f)) (j ∙ ap (λ (x : ℕ). sets o (recordAt l i) (bytesOf (table.recordRow l .width) x)) y)
+      large-group r all o o₁ o₂ put =
+          let z : f .large ≡ true
+          = ap (λ (x : Func). x .large) is-after ∙ after-flag (movedPlace m) (m .cause) i (funcOf l s i) ∙ is-large large-read in
+          let y : r ≡ pointed l (writesAll (m .cause)) (f .ptr) (recordIn l s i)
+          = put .number ∙ rw (put .whole, got .read .number) in
+          put .words
+          ∙ ap (writeAll (putHeader l f))
+          (put .slot ∙ ap (λ (x : ℕ). sets o (recordAt l i) (bytesOf (table.recordRow l .width) x)) y)
           ∙ ap (λ (ws : List Write). writeAll ws o) (sym (group-of f true is-after z))
 
       -- its large header has room where it goes
@@ -105,7 +133,7 @@ module _ (l : Layout) (s : List ℕ) (m : Move) (i : ℕ) where
       header-held room ok c =
           let z : f .ptr ≡ movedPlace m (funcOf l s i .ptr)
           = ap (λ (x : Func). x .ptr) is-after ∙ after-pointer (movedPlace m) (m .cause) i (funcOf l s i) in
-          rw z (ok .held i c (is-large l s i n e b g (not-false b t) p q))
+          rw z (ok .held i c (is-large large-read))
 
 -- ---- those of all functions
 

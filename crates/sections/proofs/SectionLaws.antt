@@ -52,31 +52,40 @@ pub debug-read : (l : Layout) (s : List ℕ) (at x : ℕ) → at ≡ table.place
     → x ≡ debugIn l s
 debug-read l s at x e h = rw (debug-wide l, ← e) h
 
--- what code derives, step by step
-pub derived : (l : Layout) (s : List ℕ) (f k i n o z ka ha sa oa st t : ℕ)
-    → f ≡ functionsIn s → k ≡ kindsIn s → i ≡ identifiersIn s → n ≡ stringsIn s → o ≡ overflowsIn s
-    → z ≡ storageIn s
-    → ka ≡ recordAt l f → ha ≡ ka + k * table.kindEntry .width → sa ≡ ha + i * table.hashEntry .width
-    → oa ≡ sa + n * table.smallEntry .width → st ≡ oa + o * table.overflowEntry .width → t ≡ up4 (st + z)
-    → record {
-      layout = l;
-      functions = f;
-      kinds = k;
-      identifiers = i;
-      strings = n;
-      overflows = o;
-      «storage_size» = z;
-      «kinds_at» = ka;
-      «hashes_at» = ha;
-      «small_at» = sa;
-      «over_at» = oa;
-      «storage_at» = st;
-      tail = t;
-      footer = length s - footerLength;
-    } ≡ placesOf l s
+-- what code derives, step by step: the counts from the header, then each place from those before it
+pub record Derived (p : Places) (s : List ℕ) : Type 0 where
+  pub functions : p .functions ≡ functionsIn s
+  pub kinds : p .kinds ≡ kindsIn s
+  pub identifiers : p .identifiers ≡ identifiersIn s
+  pub strings : p .strings ≡ stringsIn s
+  pub overflows : p .overflows ≡ overflowsIn s
+  pub storage : p .«storage_size» ≡ storageIn s
+  pub kindsFrom : p .«kinds_at» ≡ recordAt (p .layout) (p .functions)
+  pub hashesFrom : p .«hashes_at» ≡ p .«kinds_at» + p .kinds * table.kindEntry .width
+  pub smallFrom : p .«small_at» ≡ p .«hashes_at» + p .identifiers * table.hashEntry .width
+  pub overFrom : p .«over_at» ≡ p .«small_at» + p .strings * table.smallEntry .width
+  pub storageFrom : p .«storage_at» ≡ p .«over_at» + p .overflows * table.overflowEntry .width
+  pub tailFrom : p .tail ≡ up4 (p .«storage_at» + p .«storage_size»)
+  pub footerFrom : p .footer ≡ length s - footerLength
+
+pub derived : (p : Places) (s : List ℕ) → Derived p s → p ≡ placesOf (p .layout) s
 unfolding placesOf kindsAt hashesAt smallAt overAt storageAt tailAt
-derived l s f k i n o z ka ha sa oa st t hf hk hi hn ho hz hka hha hsa hoa hst ht =
-    rw (ht, hst, hoa, hsa, hha, hka, hf, hk, hi, hn, ho, hz)
+derived p s d =
+    rw (
+      d .footerFrom,
+      d .tailFrom,
+      d .storageFrom,
+      d .overFrom,
+      d .smallFrom,
+      d .hashesFrom,
+      d .kindsFrom,
+      d .functions,
+      d .kinds,
+      d .identifiers,
+      d .strings,
+      d .overflows,
+      d .storage,
+    )
 
 -- ---- sections that fit
 

@@ -41,6 +41,16 @@ module _ (ends : List ℕ) where
 
 -- ---- the loops over the ends
 
+-- where string i starts and ends
+pub record Span (ends : List ℕ) (i start end : ℕ) : Type 0 where
+  pub from : start ≡ startOf ends i
+  pub to : end ≡ startOf ends (i + 1)
+
+-- the same, of a string that does not start too far for a small entry
+pub record Near (ends : List ℕ) (i start end : ℕ) : Type 0 where
+  pub span : Span ends i start end
+  pub near : start < entry.far
+
 module _ (ends : List ℕ) where
   -- string i does not end before it starts
   abbrev pub ascending : ℕ → Bool
@@ -50,39 +60,42 @@ module _ (ends : List ℕ) where
   abbrev pub small : ℕ → Bool
   small i = not (isOver (placeOf ends i))
 
-  module _ (i start end : ℕ) (s : start ≡ startOf ends i) (e : end ≡ startOf ends (i + 1)) where
-    next : end ≡ startOf ends (suc i)
-    next = rw add-one at e
+  pub far : (i start : ℕ) → start ≡ startOf ends i → i < length ends → entry.far ≤ start → false ≡ allSmall ends
+  unfolding allSmall
+  far i start s h l = sym (all-fails small (length ends) i h (rw (le-leb entry.far (startOf ends i) (omega (arith, s)))))
 
-    pub falls : i < length ends → end < start → false ≡ endsAscend ends
+  module _ (i start end : ℕ) where
+    next : Span ends i start end → end ≡ startOf ends (suc i)
+    next s = rw add-one at (s .to)
+
+    pub falls : Span ends i start end → i < length ends → end < start → false ≡ endsAscend ends
     unfolding endsAscend
-    falls h l = sym (all-fails ascending (length ends) i h (lt-leb (startOf ends i) (startOf ends (suc i)) (omega (arith, s, next))))
+    falls s h l =
+        sym (all-fails ascending (length ends) i h
+        (lt-leb (startOf ends i) (startOf ends (suc i)) (omega (arith, s .from, next s))))
 
-    pub rises : start ≤ end → allBelow i ascending ≡ true → allBelow (i + 1) ascending ≡ true
-    rises l t =
+    pub rises : Span ends i start end → start ≤ end → allBelow i ascending ≡ true → allBelow (i + 1) ascending ≡ true
+    rises s l t =
         all-next ascending i
-        ∙ both-of (ascending i) (allBelow i ascending) (le-leb (startOf ends i) (startOf ends (suc i)) (omega (arith, s, next))) t
+        ∙ both-of (ascending i) (allBelow i ascending)
+        (le-leb (startOf ends i) (startOf ends (suc i)) (omega (arith, s .from, next s))) t
 
-    pub far : i < length ends → entry.far ≤ start → false ≡ allSmall ends
+    pub long : Near ends i start end → i < length ends → start + entry.long ≤ end → false ≡ allSmall ends
     unfolding allSmall
-    far h l = sym (all-fails small (length ends) i h (rw (le-leb entry.far (startOf ends i) (omega (arith, s)))))
-
-    pub long : i < length ends → start < entry.far → start + entry.long ≤ end → false ≡ allSmall ends
-    unfolding allSmall
-    long h g l =
+    long s h l =
         sym (all-fails small (length ends) i h
         (rw (
-          lt-leb entry.far (startOf ends i) (omega (arith, s)),
-          le-leb entry.long (startOf ends (suc i) - startOf ends i) (omega (arith, s, next)),
+          lt-leb entry.far (startOf ends i) (omega (arith, s .near, s .span .from)),
+          le-leb entry.long (startOf ends (suc i) - startOf ends i) (omega (arith, s .span .from, next (s .span))),
         )))
 
-    pub fits : start < entry.far → end < start + entry.long → allBelow i small ≡ true → allBelow (i + 1) small ≡ true
-    fits g l t =
+    pub fits : Near ends i start end → end < start + entry.long → allBelow i small ≡ true → allBelow (i + 1) small ≡ true
+    fits s l t =
         all-next small i
         ∙ both-of (small i) (allBelow i small)
         (rw (
-          lt-leb entry.far (startOf ends i) (omega (arith, s)),
-          lt-leb entry.long (startOf ends (suc i) - startOf ends i) (omega (arith, s, next)),
+          lt-leb entry.far (startOf ends i) (omega (arith, s .near, s .span .from)),
+          lt-leb entry.long (startOf ends (suc i) - startOf ends i) (omega (arith, s .span .from, next (s .span))),
         ))
         t
 
@@ -146,6 +159,25 @@ none-met j n new e = go (eqb j 0) refl e
 
 -- ---- the refusals, in order: what the tests so far have shown, and what the next one says
 
+-- the ends ascend, and none is past the text
+pub record EndsOrdered (text ends : List ℕ) : Type 0 where
+  pub ascends : endsAscend ends ≡ true
+  pub last : startOf ends (length ends) ≤ length text
+
+-- and the version is not too old
+pub record Current (v : ℕ) (text ends : List ℕ) : Type 0 where
+  pub ordered : EndsOrdered text ends
+  pub version : leastVersion ≤ v
+
+-- and the strings are ASCII
+pub record AsciiStrings (v : ℕ) (text ends : List ℕ) : Type 0 where
+  pub current : Current v text ends
+  pub plain : ascii (storageOf text ends) ≡ true
+
+ends-within : {text ends : List ℕ} → EndsOrdered text ends → endsWithin text ends ≡ true
+unfolding endsWithin endsAscend
+ends-within {text} {ends} o = within-all text ends (length ends) (o .ascends) (o .last)
+
 module _ (v : ℕ) (text ends body : List ℕ) where
   refuses : (n : ℕ) → judge (checks v text ends body) ≡ n → (n ≡ 0 → ⊥) → Refused n ≡ answered (built v text ends body)
   unfolding built
@@ -155,43 +187,42 @@ module _ (v : ℕ) (text ends body : List ℕ) where
   unfolding checks judge
   unordered a = refuses 15 (rw a) (λ e. omega arith)
 
-  module _ (a : endsAscend ends ≡ true) where
-    pub past-text : length text < startOf ends (length ends) → Refused 15 ≡ answered (built v text ends body)
-    unfolding checks judge endsWithin
-    past-text h = refuses 15 (rw (a, within-not text ends (length ends) h)) (λ e. omega arith)
+  pub past-text : endsAscend ends ≡ true → length text < startOf ends (length ends) → Refused 15 ≡ answered (built v text ends body)
+  unfolding checks judge endsWithin
+  past-text a h = refuses 15 (rw (a, within-not text ends (length ends) h)) (λ e. omega arith)
 
-    module _ (b : startOf ends (length ends) ≤ length text) where
-      ends-within : endsWithin text ends ≡ true
-      unfolding endsWithin endsAscend
-      ends-within = within-all text ends (length ends) a b
+  pub old-version : EndsOrdered text ends → v < leastVersion → Refused 15 ≡ answered (built v text ends body)
+  unfolding checks judge
+  old-version o h = refuses 15 (rw (o .ascends, ends-within o, lt-ltb v leastVersion h)) (λ e. omega arith)
 
-      pub old-version : v < leastVersion → Refused 15 ≡ answered (built v text ends body)
-      unfolding checks judge
-      old-version h = refuses 15 (rw (a, ends-within, lt-ltb v leastVersion h)) (λ e. omega arith)
+  pub not-ascii : Current v text ends → ascii (storageOf text ends) ≡ false → Refused 8 ≡ answered (built v text ends body)
+  unfolding checks judge
+  not-ascii d h =
+      let o : EndsOrdered text ends = d .ordered in
+      refuses 8 (rw (o .ascends, ends-within o, le-ltb v leastVersion (d .version), h)) (λ e. omega arith)
 
-      module _ (d : leastVersion ≤ v) where
-        pub not-ascii : ascii (storageOf text ends) ≡ false → Refused 8 ≡ answered (built v text ends body)
-        unfolding checks judge
-        not-ascii h = refuses 8 (rw (a, ends-within, le-ltb v leastVersion d, h)) (λ e. omega arith)
+  module _ (f : AsciiStrings v text ends) where
+    pub not-small : allSmall ends ≡ false → Refused 12 ≡ answered (built v text ends body)
+    unfolding checks judge
+    not-small h =
+        let o : EndsOrdered text ends = f .current .ordered in
+        refuses 12 (rw (o .ascends, ends-within o, le-ltb v leastVersion (f .current .version), f .plain, h)) (λ e. omega arith)
 
-        module _ (f : ascii (storageOf text ends) ≡ true) where
-          pub not-small : allSmall ends ≡ false → Refused 12 ≡ answered (built v text ends body)
-          unfolding checks judge
-          not-small h = refuses 12 (rw (a, ends-within, le-ltb v leastVersion d, f, h)) (λ e. omega arith)
-
-          pub by-length : allSmall ends ≡ true
-              → lengthAnswer (lengthOf (length ends) (startOf ends (length ends)) (length body)) ≡ answered (built v text ends body)
-          unfolding checks judge built
-          by-length h =
-              let k : length (storageOf text ends) ≡ startOf ends (length ends) = length-take-le (startOf ends (length ends)) text b in
-              let n : ℕ = lengthOf (length ends) (startOf ends (length ends)) (length body) in
-              let m : length (minimal v (storageOf text ends) ends body) ≡ n
-              = length-minimal v (storageOf text ends) ends body ∙ rw k in
-              rw (a, ends-within, le-ltb v leastVersion d, f, h, m) (by-limit (ltb sizeLimit n) _ _ (sym m))
+    pub by-length : allSmall ends ≡ true
+        → lengthAnswer (lengthOf (length ends) (startOf ends (length ends)) (length body)) ≡ answered (built v text ends body)
+    unfolding checks judge built
+    by-length h =
+        let o : EndsOrdered text ends = f .current .ordered in
+        let k : length (storageOf text ends) ≡ startOf ends (length ends) = length-take-le (startOf ends (length ends)) text (o .last) in
+        let n : ℕ = lengthOf (length ends) (startOf ends (length ends)) (length body) in
+        let m : length (minimal v (storageOf text ends) ends body) ≡ n
+        = length-minimal v (storageOf text ends) ends body ∙ rw k in
+        rw (o .ascends, ends-within o, le-ltb v leastVersion (f .current .version), f .plain, h, m)
+        (by-limit (ltb sizeLimit n) _ _ (sym m))
 
 -- ---- what is accepted
 
-pub record Accepted (v : ℕ) (text ends body : List ℕ) (n : ℕ) : Type 0 where
+pub record BuildAccepted (v : ℕ) (text ends body : List ℕ) (n : ℕ) : Type 0 where
   pub makes : built v text ends body ≡ made (minimal v (storageOf text ends) ends body)
   pub ascends : endsAscend ends ≡ true
   pub last : startOf ends (length ends) ≤ length text
@@ -201,7 +232,7 @@ pub record Accepted (v : ℕ) (text ends body : List ℕ) (n : ℕ) : Type 0 whe
   pub limit : n ≤ sizeLimit
 
 pub accepted : (v : ℕ) (text ends body : List ℕ) (n : ℕ) → Length n ≡ answered (built v text ends body)
-    → Accepted v text ends body n
+    → BuildAccepted v text ends body n
 unfolding built checks endsWithin
 accepted v text ends body n e =
     let new = minimal v (storageOf text ends) ends body in
@@ -222,49 +253,59 @@ accepted v text ends body n e =
       limit = omega (arith, z .1, ltb-false sizeLimit (length new) c₆);
     }
 
+-- the same, of an answer that was found to be a length
+pub fine : (v : ℕ) (text ends body : List ℕ) (r : Answer) (n : ℕ) → r ≡ answered (built v text ends body) → r ≡ Length n
+    → BuildAccepted v text ends body n
+fine v text ends body r n e f = accepted v text ends body n (sym f ∙ e)
+
 -- ---- the ways out of the builder
 
-module _ (v : ℕ) (text ends body out : List ℕ) (r : Answer) (e : r ≡ answered (built v text ends body)) where
+-- an accepted image has room in the buffer; `size` is what the code takes of the text
+pub record BuiltRoomy (v : ℕ) (text ends body out : List ℕ) (n size : ℕ) : Type 0 where
+  pub accepted : BuildAccepted v text ends body n
+  pub last : size ≡ startOf ends (length ends)
+  pub room : n ≤ length out
+
+module _ (v : ℕ) (text ends body out : List ℕ) where
   abbrev outcome : Outcome
   outcome = roomed (length out) (built v text ends body)
 
   -- a refusal goes out as it is
-  pub goes-out : (n : ℕ) → r ≡ Refused n → Answers outcome r out out
+  pub goes-out : (r : Answer) → r ≡ answered (built v text ends body) → (n : ℕ) → r ≡ Refused n → Answers outcome r out out
   unfolding roomed
-  goes-out n f = go (built v text ends body) e
+  goes-out r e n f = go (built v text ends body) e
     where
       go : (o : Outcome) → r ≡ answered o → Answers (roomed (length out) o) r out out
       go (refused m) g = (g, refl)
       go (made new) g = let z : _≡_ {A = ℕ} 0 1 = cc in absurd (omega arith)
 
-  module _ (n : ℕ) (f : r ≡ Length n) where
-    pub fine : Accepted v text ends body n
-    fine = accepted v text ends body n (sym f ∙ e)
+  new : List ℕ
+  new = minimal v (storageOf text ends) ends body
 
-    new : List ℕ
-    new = minimal v (storageOf text ends) ends body
+  long-as : (n : ℕ) → BuildAccepted v text ends body n → n ≡ length new
+  unfolding new
+  long-as n ok = ok .measured ∙ sym (length-minimal v (storageOf text ends) ends body)
 
-    long-as : n ≡ length new
+  pub no-room : (n : ℕ) → BuildAccepted v text ends body n → length out < n → Answers outcome (Refused 13) out out
+  unfolding new
+  no-room n ok h = rw (ok .makes, roomed-short (length out) new (omega (arith, long-as n ok))) (refl, refl)
+
+  -- the parts of the buffer and of the text that the code lends
+  module _ (n size : ℕ) (y : BuiltRoomy v text ends body out n size) where
+    pub room-made : (length (take (n - 0) (drop 0 out)) ≡ lengthOf (length ends) (length (take (size - 0) (drop 0 text))) (length body))
+        × ((length (take (n - 0) (drop 0 out)) ≤ sizeLimit) × (endsAscend ends ≡ true))
+    room-made =
+        rw (sub-zero, sub-zero, y .last, length-take-le n out (y .room))
+        (y .accepted .measured, (y .accepted .limit, y .accepted .ascends))
+
+    pub written-out : (q : Answer) (part : List ℕ)
+        → Answers (made (minimal v (take (size - 0) (drop 0 text)) ends body)) q (take (n - 0) (drop 0 out)) part
+        → Answers outcome q out (putMid 0 (n - 0) out part)
     unfolding new
-    long-as = fine .measured ∙ sym (length-minimal v (storageOf text ends) ends body)
-
-    pub no-room : length out < n → Answers outcome (Refused 13) out out
-    unfolding new
-    no-room h = rw (fine .makes, roomed-short (length out) new (omega (arith, long-as))) (refl, refl)
-
-    -- the parts of the buffer and of the text that the code lends
-    module _ (size : ℕ) (s : size ≡ startOf ends (length ends)) (h : n ≤ length out) where
-      pub room-made : (length (take (n - 0) (drop 0 out)) ≡ lengthOf (length ends) (length (take (size - 0) (drop 0 text))) (length body))
-          × ((length (take (n - 0) (drop 0 out)) ≤ sizeLimit) × (endsAscend ends ≡ true))
-      room-made = rw (sub-zero, sub-zero, s, length-take-le n out h) (fine .measured, (fine .limit, fine .ascends))
-
-      pub written-out : (q : Answer) (part : List ℕ)
-          → Answers (made (minimal v (take (size - 0) (drop 0 text)) ends body)) q (take (n - 0) (drop 0 out)) part
-          → Answers outcome q out (putMid 0 (n - 0) out part)
-      unfolding new
-      written-out q part a =
-          rw (sub-zero, fine .makes, roomed-fits (length out) new (omega (arith, long-as)))
-          (lent-front new out part n q long-as h (rw (sub-zero, sub-zero, s) at a))
+    written-out q part a =
+        let l = long-as n (y .accepted) in
+        rw (sub-zero, y .accepted .makes, roomed-fits (length out) new (omega (arith, l, y .room)))
+        (lent-front new out part n q l (y .room) (rw (sub-zero, sub-zero, y .last) at a))
 
 -- for one input a longer buffer changes no answer but 13
 pub longer-buffer : (v : ℕ) (text ends body : List ℕ) (room more : ℕ) → room ≤ more

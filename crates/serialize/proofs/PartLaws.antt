@@ -20,7 +20,7 @@ use Rattle.format.specs.Table.{headerLength, sourceHash}
 use Rattle.format.specs.Number.{numberHeld, bytesFor, withNumber}
 use Rattle.format.specs.Entry.{entry}
 use Rattle.format.proofs.RecordLaws.{Apart}
-use Rattle.format.proofs.NumberLaws.{number-put, number-kept, number-below, number-within}
+use Rattle.format.proofs.NumberLaws.{number-put, number-kept, number-below, Written, number-within}
 use Rattle.header_write.specs.declared.Wrote.{Wrote}
 use Rattle.header_write.specs.Slots.{Writes}
 use Rattle.header_write.specs.Headers.{modernHeader, onHeader}
@@ -82,11 +82,19 @@ header-is v n z r s w =
 
 -- ---- the record, in the part that is lent for it
 
-pub record-laid : (l new : List ℕ) (at end w p : ℕ) → at ≡ 128 → end ≡ 140 → 140 ≤ length l
-    → new ≡ sets (take (end - at) (drop at l)) 0 (bytesOf 12 w) → w ≡ recordOf p
+-- `new` is the part of l for the record, with the record w stored in it, which points to p
+pub record RecordStored (l new : List ℕ) (at end w p : ℕ) : Type 0 where
+  pub from : at ≡ 128
+  pub to : end ≡ 140
+  pub room : 140 ≤ length l
+  pub put : new ≡ sets (take (end - at) (drop at l)) 0 (bytesOf 12 w)
+  pub pointing : w ≡ recordOf p
+
+pub record-laid : (l new : List ℕ) (at end w p : ℕ) → RecordStored l new at end w p
     → putMid at (end - at) l new ≡ sets l 128 (bytesOf 12 (recordOf p))
-record-laid l new at end w p a b h e k =
-    rw (e, k, a, b) (part-sets l (bytesOf 12 (recordOf p)) 128 12 0 h (omega (arith, length-bytesOf 12 (recordOf p))))
+record-laid l new at end w p s =
+    rw (s .put, s .pointing, s .from, s .to)
+    (part-sets l (bytesOf 12 (recordOf p)) 128 12 0 (s .room) (omega (arith, length-bytesOf 12 (recordOf p))))
 
 -- ---- the small table: one entry more
 
@@ -94,12 +102,12 @@ pub small-none : (ends o : List ℕ) → o ≡ sets o 144 (smallTable ends 0)
 unfolding smallTable
 small-none ends o = refl
 
-pub small-more : (ends o o1 o2 : List ℕ) (i at w : ℕ) → o1 ≡ sets o 144 (smallTable ends i) → at ≡ storageAt i
+pub small-more : (ends o o1 : List ℕ) (i at w : ℕ) → o1 ≡ sets o 144 (smallTable ends i) → at ≡ storageAt i
     → w ≡ entry false (startOf ends i) (startOf ends (i + 1) - startOf ends i)
-    → o2 ≡ sets o1 at (bytesOf 4 w) → o2 ≡ sets o 144 (smallTable ends (i + 1))
+    → sets o1 at (bytesOf 4 w) ≡ sets o 144 (smallTable ends (i + 1))
 unfolding smallTable
-small-more ends o o1 o2 i at w p e k q =
-    rw add-one (sets-then o o1 o2 (smallTable ends i) _ 144 at p (omega (arith, length-smallTable ends i)) (q ∙ rw (k, add-one)))
+small-more ends o o1 i at w p e k =
+    rw add-one (sets-then o o1 _ (smallTable ends i) _ 144 at p (omega (arith, length-smallTable ends i)) (rw (k, add-one)))
 
 -- ---- the large header
 
@@ -152,41 +160,42 @@ module _ (begin size : ℕ) where
       (number-below table.modernLargeParams 1 a
       (number-below table.largeOffset begin z (below-zeros 256 (omega arith) (table.modernLargeWhole .width)))))))
 
--- zeros, then field by field
+-- zeros in o at this place, then field by field all but the flags
+pub record HeaderStored (o o0 o1 o2 o3 o4 o5 : List ℕ) (at begin size : ℕ) : Type 0 where
+  pub zeros : Written o at (replicate (table.modernLargeWhole .width) 0) o0
+  pub offset : o1 ≡ sets o0 (at + table.largeOffset .at) (bytesFor table.largeOffset begin)
+  pub params : o2 ≡ sets o1 (at + table.modernLargeParams .at) (bytesFor table.modernLargeParams 1)
+  pub sized : o3 ≡ sets o2 (at + table.modernLargeSize .at) (bytesFor table.modernLargeSize size)
+  pub regs : o4 ≡ sets o3 (at + table.modernLargeNonPtrRegs .at) (bytesFor table.modernLargeNonPtrRegs 1)
+  pub frame : o5 ≡ sets o4 (at + table.modernLargeFrame .at) (bytesFor table.modernLargeFrame 1)
+
 module _ (o o0 o1 o2 o3 o4 o5 : List ℕ) (at begin size : ℕ) where
-  pub large-laid : at + table.modernLargeWhole .width ≤ length o → o0 ≡ sets o at (replicate (table.modernLargeWhole .width) 0)
-      → o1 ≡ sets o0 (at + table.largeOffset .at) (bytesFor table.largeOffset begin)
-      → o2 ≡ sets o1 (at + table.modernLargeParams .at) (bytesFor table.modernLargeParams 1)
-      → o3 ≡ sets o2 (at + table.modernLargeSize .at) (bytesFor table.modernLargeSize size)
-      → o4 ≡ sets o3 (at + table.modernLargeNonPtrRegs .at) (bytesFor table.modernLargeNonPtrRegs 1)
-      → o5 ≡ sets o4 (at + table.modernLargeFrame .at) (bytesFor table.modernLargeFrame 1)
+  pub large-laid : HeaderStored o o0 o1 o2 o3 o4 o5 at begin size
       → sets o5 (at + table.modernLargeFlags .at) (bytesFor table.modernLargeFlags 2) ≡ sets o at (largeHeader begin size)
   unfolding largeHeader
-  large-laid h e0 e1 e2 e3 e4 e5 =
-      let f1 = number-within table.largeOffset begin o o0 o1 (z begin size) at h (omega arith) e0 e1 in
-      let f2 = next table.modernLargeParams 1 o1 o2 (a begin size) (simp length-sets) (omega arith) f1 e2 in
-      let f3 = next table.modernLargeSize size o2 o3 (b begin size) (simp length-sets) (omega arith) f2 e3 in
-      let f4 = next table.modernLargeNonPtrRegs 1 o3 o4 (c begin size) (simp length-sets) (omega arith) f3 e4 in
-      let f5 = next table.modernLargeFrame 1 o4 o5 (d begin size) (simp length-sets) (omega arith) f4 e5 in
-      next table.modernLargeFlags 2 o5 _ (e begin size) (simp length-sets) (omega arith) f5 refl
-    where
-      next : (f : Field) (x : ℕ) (l m s : List ℕ) → length s ≡ table.modernLargeWhole .width
-          → f .at + f .width ≤ table.modernLargeWhole .width → l ≡ sets o at s
-          → m ≡ sets l (at + f .at) (bytesFor f x) → m ≡ sets o at (withNumber f x s)
-      next f x l m s n k p q = number-within f x o l m s at (omega arith) (omega arith) p q
+  large-laid h =
+      let w1 = number-within table.largeOffset begin o o0 o1 (z begin size) at (h .zeros) (omega arith) (h .offset) in
+      let w2 = number-within table.modernLargeParams 1 o o1 o2 (a begin size) at w1 (simp length-sets (omega arith)) (h .params) in
+      let w3 = number-within table.modernLargeSize size o o2 o3 (b begin size) at w2 (simp length-sets (omega arith)) (h .sized) in
+      let w4 = number-within table.modernLargeNonPtrRegs 1 o o3 o4 (c begin size) at w3 (simp length-sets (omega arith)) (h .regs) in
+      let w5 = number-within table.modernLargeFrame 1 o o4 o5 (d begin size) at w4 (simp length-sets (omega arith)) (h .frame) in
+      number-within table.modernLargeFlags 2 o o5 _ (e begin size) at w5 (simp length-sets (omega arith)) refl .laid
 
 -- ---- parts behind each other
 
+-- what lies before the body, part by part in o
+pub record SectionsStored (v : ℕ) (storage ends : List ℕ) (p : ℕ) (o o1 o2 o3 o4 o5 o6 : List ℕ) : Type 0 where
+  pub header : o1 ≡ sets o 0 (headerOf v (length ends) (length storage))
+  pub pointing : o2 ≡ sets o1 128 (bytesOf 12 (recordOf p))
+  pub kinds : o3 ≡ sets o2 140 (bytesOf 4 (length ends))
+  pub small : o4 ≡ sets o3 144 (smallTable ends (length ends))
+  pub text : o5 ≡ sets o4 (storageAt (length ends)) storage
+  pub zeros : o6 ≡ sets o5 (storageAt (length ends) + length storage) (zerosTo4 (storageAt (length ends) + length storage))
+
 module _ (v : ℕ) (storage ends : List ℕ) (p : ℕ) (o o1 o2 o3 o4 o5 o6 : List ℕ) where
-  pub sections-laid : o1 ≡ sets o 0 (headerOf v (length ends) (length storage))
-      → o2 ≡ sets o1 128 (bytesOf 12 (recordOf p))
-      → o3 ≡ sets o2 140 (bytesOf 4 (length ends))
-      → o4 ≡ sets o3 144 (smallTable ends (length ends))
-      → o5 ≡ sets o4 (storageAt (length ends)) storage
-      → o6 ≡ sets o5 (storageAt (length ends) + length storage) (zerosTo4 (storageAt (length ends) + length storage))
-      → o6 ≡ sets o 0 (sections v storage ends p)
+  pub sections-laid : SectionsStored v storage ends p o o1 o2 o3 o4 o5 o6 → o6 ≡ sets o 0 (sections v storage ends p)
   unfolding sections
-  sections-laid e1 e2 e3 e4 e5 e6 =
+  sections-laid y =
       let a = headerOf v (length ends) (length storage) in
       let b = a ++ bytesOf 12 (recordOf p) in
       let c = b ++ bytesOf 4 (length ends) in
@@ -195,11 +204,11 @@ module _ (v : ℕ) (storage ends : List ℕ) (p : ℕ) (o o1 o2 o3 o4 o5 o6 : Li
       let b-is : length b ≡ 140 = simp (length-append, a-is, length-bytesOf) (omega arith) in
       let c-is : length c ≡ 144 = simp (length-append, a-is, length-bytesOf) (omega arith) in
       let d-is : length d ≡ storageAt (length ends) = simp (length-append, a-is, length-bytesOf, length-smallTable) (omega arith) in
-      let f2 = sets-then o o1 o2 a (bytesOf 12 (recordOf p)) 0 128 e1 (omega arith) e2 in
-      let f3 = sets-then o o2 o3 b (bytesOf 4 (length ends)) 0 140 f2 (omega arith) e3 in
-      let f4 = sets-then o o3 o4 c (smallTable ends (length ends)) 0 144 f3 (omega arith) e4 in
-      let f5 = sets-then o o4 o5 d storage 0 (storageAt (length ends)) f4 (omega arith) e5 in
-      sets-then o o5 o6 (d ++ storage) _ 0 _ f5 (omega (arith, length-append d storage)) e6
+      let f2 = sets-then o o1 o2 a (bytesOf 12 (recordOf p)) 0 128 (y .header) (omega arith) (y .pointing) in
+      let f3 = sets-then o o2 o3 b (bytesOf 4 (length ends)) 0 140 f2 (omega arith) (y .kinds) in
+      let f4 = sets-then o o3 o4 c (smallTable ends (length ends)) 0 144 f3 (omega arith) (y .small) in
+      let f5 = sets-then o o4 o5 d storage 0 (storageAt (length ends)) f4 (omega arith) (y .text) in
+      sets-then o o5 o6 (d ++ storage) _ 0 _ f5 (omega (arith, length-append d storage)) (y .zeros)
 
 module _ (o o1 o2 o3 : List ℕ) where
   pub tail-laid : (begin : ℕ) (body : List ℕ) → o1 ≡ sets o begin body
@@ -212,6 +221,13 @@ module _ (o o1 o2 o3 : List ℕ) where
       sets-then o o2 o3 (body ++ z) _ begin _ f2 (omega (arith, length-append body z, length-zerosTo4 (begin + length body))) e3
 
 -- ---- the image
+
+-- in a buffer o of the image's length all was laid but the footer: what lies before the body, then what lies from it on
+pub record ImageFilled (v : ℕ) (storage ends body o o1 o2 : List ℕ) : Type 0 where
+  pub long : length o ≡ lengthOf (length ends) (length storage) (length body)
+  pub limit : length o ≤ sizeLimit
+  pub front : o1 ≡ sets o 0 (sections v storage ends (largeAt (bodyAt (length ends) (length storage)) (length body)))
+  pub back : o2 ≡ sets o1 (bodyAt (length ends) (length storage)) (tailOf (bodyAt (length ends) (length storage)) body)
 
 module _ (v : ℕ) (storage ends body : List ℕ) where
   abbrev begin : ℕ
@@ -253,15 +269,13 @@ module _ (v : ℕ) (storage ends body : List ℕ) where
   unfolding minimal
   minimal-is s x e l = rw e (finalized-over (allButFooter v storage ends body) x (replicate footerLength 0) l refl)
 
-  pub image-made : (o o1 o2 o3 : List ℕ) (r : Answer) → length o ≡ lengthOf (length ends) (length storage) (length body)
-      → length o ≤ sizeLimit
-      → o1 ≡ sets o 0 (sections v storage ends large) → o2 ≡ sets o1 begin (tailOf begin body) → Answers (finalizeOf o2) r o2 o3
+  pub image-made : (o o1 o2 o3 : List ℕ) (r : Answer) → ImageFilled v storage ends body o o1 o2 → Answers (finalizeOf o2) r o2 o3
       → Answers (made (minimal v storage ends body)) r o o3
-  image-made o o1 o2 o3 r l h e1 e2 a =
+  image-made o o1 o2 o3 r y a =
       let m = allButFooter v storage ends body in
       let k = length-laid in
       let x = drop (length m) o in
-      let e : o2 ≡ m ++ x = all-laid o o1 o2 e1 e2 ∙ front m o (omega arith) in
+      let e : o2 ≡ m ++ x = all-laid o o1 o2 (y .front) (y .back) ∙ front m o (omega arith) in
       let n : length x ≡ footerLength = length-drop (length m) o ∙ omega arith in
       let f : length o2 ≡ length o = ap length e ∙ length-append m x ∙ omega arith in
       let g : finalizeOf o2 ≡ made (minimal v storage ends body)

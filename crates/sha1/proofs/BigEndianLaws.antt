@@ -58,11 +58,16 @@ unfolding digestBytes
 length-digestBytes h = simp (length-append, length-bigBytes)
 
 -- five words, stored one after the other over all of a list of 20 bytes
-pub five-words : (z o1 o2 o3 o4 o5 h : List ℕ) → length z ≡ 20
-    → o1 ≡ sets z 0 (bigBytes 4 (getD h 0 0)) → o2 ≡ sets o1 4 (bigBytes 4 (getD h 1 0))
-    → o3 ≡ sets o2 8 (bigBytes 4 (getD h 2 0))
-    → o4 ≡ sets o3 12 (bigBytes 4 (getD h 3 0)) → o5 ≡ sets o4 16 (bigBytes 4 (getD h 4 0)) → o5 ≡ digestBytes h
+pub record FiveStored (z o1 o2 o3 o4 o5 h : List ℕ) : Type 0 where
+  pub long : length z ≡ 20
+  pub first : o1 ≡ sets z 0 (bigBytes 4 (getD h 0 0))
+  pub second : o2 ≡ sets o1 4 (bigBytes 4 (getD h 1 0))
+  pub third : o3 ≡ sets o2 8 (bigBytes 4 (getD h 2 0))
+  pub fourth : o4 ≡ sets o3 12 (bigBytes 4 (getD h 3 0))
+  pub fifth : o5 ≡ sets o4 16 (bigBytes 4 (getD h 4 0))
+
+pub five-words : (z o1 o2 o3 o4 o5 h : List ℕ) → FiveStored z o1 o2 o3 o4 o5 h → o5 ≡ digestBytes h
 unfolding digestBytes
-five-words z o1 o2 o3 o4 o5 h l p q r s t =
-    rw (t, s, r, q, p) (sym (simp (sets-append, length-bigBytes)))
-    ∙ sets-all (digestBytes h) z (length-digestBytes h ∙ sym l)
+five-words z o1 o2 o3 o4 o5 h f =
+    rw (f .fifth, f .fourth, f .third, f .second, f .first) (sym (simp (sets-append, length-bigBytes)))
+    ∙ sets-all (digestBytes h) z (length-digestBytes h ∙ sym (f .long))

@@ -50,6 +50,13 @@ length-padding : (n : ℕ) → length (padding n) ≡ 9 + zeros n
 unfolding padding
 length-padding n = rw (length-append, length-replicate, length-bigBytes) (omega arith)
 
+-- the code's stores in an array of zeros, one after the other: the rest, the byte 0x80, and the two words of the length
+pub record PaddingStored (rest : List ℕ) (n count : ℕ) (o1 o2 o3 : List ℕ) : Type 0 where
+  pub counted : count ≡ (n % 64 + 72) / 64
+  pub copied : o1 ≡ sets (replicate 128 0) 0 rest
+  pub high : o2 ≡ sets (set o1 (n % 64) 0x80) (count * 64 - 8) (bigBytes 4 (n / 536870912 % 4294967296))
+  pub low : o3 ≡ sets o2 (count * 64 - 4) (bigBytes 4 (n % 536870912 * 8))
+
 module _ (rest : List ℕ) (n : ℕ) (l : length rest ≡ n % 64) where
   -- past the byte 0x80 the array still has its zeros
   still : (j : ℕ) → j < zeros n → getD (set (sets (replicate 128 0) 0 rest) (n % 64) 0x80) (n % 64 + 1 + j) 0 ≡ 0
@@ -58,19 +65,15 @@ module _ (rest : List ℕ) (n : ℕ) (l : length rest ≡ n % 64) where
       ∙ sets-off rest (replicate 128 0) 0 (n % 64 + 1 + j) (λ e. omega arith)
       ∙ getD-replicate 128 (n % 64 + 1 + j) 0 0 (omega (arith, zeros-right n .1))
 
-  -- the code's stores, one after the other
-  pub padded-rest : (z o1 o2 o3 : List ℕ) (count : ℕ) → z ≡ replicate 128 0 → count ≡ (n % 64 + 72) / 64
-      → o1 ≡ sets z 0 rest
-      → o2 ≡ sets (set o1 (n % 64) 0x80) (count * 64 - 8) (bigBytes 4 (n / 536870912 % 4294967296))
-      → o3 ≡ sets o2 (count * 64 - 4) (bigBytes 4 (n % 536870912 * 8))
+  pub padded-rest : (count : ℕ) (o1 o2 o3 : List ℕ) → PaddingStored rest n count o1 o2 o3
       → o3 ≡ sets (replicate 128 0) 0 (rest ++ padding n)
   unfolding padding
-  padded-rest z o1 o2 o3 count a b p q r =
+  padded-rest count o1 o2 o3 y =
       let f = zeros-right n .0 in
       let g = zeros-right n .1 in
       let e : n % 64 + 1 + zeros n ≡ count * 64 - 8 = omega arith in
       let k : count * 64 - 8 + 4 ≡ count * 64 - 4 = omega arith in
-      r ∙ rw (q, p, a) (sym (rw (
+      y .low ∙ rw (y .high, y .copied) (sym (rw (
         sets-append rest,
         zero-add,
         l,

@@ -23,8 +23,15 @@ unfolding rounds
 rounds-append t m zero v w = rw add-zero
 rounds-append t m (suc n) v w = rw (add-suc, rounds-append t m n v w, add-assoc t m n)
 
--- four quarters
-pub four-quarters : (h w a b c d : List ℕ) → a ≡ rounds 0 20 h w → b ≡ rounds 20 20 a w → c ≡ rounds 40 20 b w
-    → d ≡ rounds 60 20 c w → d ≡ rounds 0 80 h w
-four-quarters h w a b c d p q r s =
-    rw (s, r, q, p) (rw (rounds-append 0 20 20 h w, rounds-append 0 40 20 h w, rounds-append 0 60 20 h w))
+-- the rounds by quarters, each from what the one before left
+pub record Quarters (h w a b c d : List ℕ) : Type 0 where
+  pub first : a ≡ rounds 0 20 h w
+  pub second : b ≡ rounds 20 20 a w
+  pub third : c ≡ rounds 40 20 b w
+  pub fourth : d ≡ rounds 60 20 c w
+
+-- they are all the rounds
+pub four-quarters : (h w a b c d : List ℕ) → Quarters h w a b c d → d ≡ rounds 0 80 h w
+four-quarters h w a b c d q =
+    rw (q .fourth, q .third, q .second, q .first)
+    (rw (rounds-append 0 20 20 h w, rounds-append 0 40 20 h w, rounds-append 0 60 20 h w))

@@ -149,12 +149,20 @@ room-low false start n m h = omega arith
 
 -- ---- a turn of the comparison; `q` is the reading after byte i, `us` the units that it completes
 
-module _ (s value us : List ℕ) (start j i : ℕ) (wide : Bool) (r q : Reading) (h : i < length value)
-    (n : q ≡ nextByte r (getD value i 0)) (u : us ≡ completes q) (x : Bool)
-    (e : same (unitsAt s start wide j (length (unitsFrom r (drop i value)))) (unitsFrom r (drop i value)) ≡ x) where
+-- byte i is read, and x is whether all units that were left before it are the same
+pub record Turn (s value us : List ℕ) (start j i : ℕ) (wide : Bool) (r q : Reading) (x : Bool) : Type 0 where
+  pub known : i < length value
+  pub read : q ≡ nextByte r (getD value i 0)
+  pub units : us ≡ completes q
+  pub left : same (unitsAt s start wide j (length (unitsFrom r (drop i value)))) (unitsFrom r (drop i value)) ≡ x
+
+module _ (s value us : List ℕ) (start j i : ℕ) (wide : Bool) (r q : Reading) (x : Bool) (h : Turn s value us start j i wide r q x) where
+  parts : unitsFrom r (drop i value) ≡ us ++ unitsFrom q (drop (i + 1) value)
+  parts = rest r q value us i (h .known) (h .read) (h .units)
+
   pub count-left : (all : ℕ) → j + length (unitsFrom r (drop i value)) ≡ all
       → j + length us + length (unitsFrom q (drop (i + 1) value)) ≡ all
-  count-left all f = omega (arith, f, ap length (rest r q value us i h n u), length-append us (unitsFrom q (drop (i + 1) value)))
+  count-left all f = omega (arith, f, ap length parts, length-append us (unitsFrom q (drop (i + 1) value)))
 
   parted : both (same (unitsAt s start wide j (length us)) us)
       (same (unitsAt s start wide (j + length us) (length (unitsFrom q (drop (i + 1) value)))) (unitsFrom q (drop (i + 1) value)))
@@ -165,8 +173,8 @@ module _ (s value us : List ℕ) (start j i : ℕ) (wide : Bool) (r q : Reading)
       (length-at s start wide j (length us)))
       ∙ ap (λ (l : List ℕ). same l (us ++ v)) (sym (at-append s start wide j (length us) (length v)))
       ∙ ap (λ (m : ℕ). same (unitsAt s start wide j m) (us ++ v)) (sym (length-append us v))
-      ∙ ap (λ (l : List ℕ). same (unitsAt s start wide j (length l)) l) (sym (rest r q value us i h n u))
-      ∙ e
+      ∙ ap (λ (l : List ℕ). same (unitsAt s start wide j (length l)) l) (sym parts)
+      ∙ h .left
 
   module _ (t : Bool) (f : t ≡ same (unitsAt s start wide j (length us)) us) where
     pub differs : not t ≡ true → false ≡ x
@@ -211,51 +219,63 @@ all-agree s value start j i wide r h x e = rw (units-end r value i h) at e
 
 -- ---- string i
 
-module _ (p : Places) (s units : List ℕ) (pl : Placed p s) (i : ℕ) (r : Place) (st : Stands p s i r) where
+-- string i stands at r, and n units are sought
+pub record Sought (p : Places) (s units : List ℕ) (i : ℕ) (r : Place) (n : ℕ) : Type 0 where
+  pub placed : Placed p s
+  pub stands : Stands p s i r
+  pub count : n ≡ length units
+
+module _ (p : Places) (s units : List ℕ) (i : ℕ) (r : Place) (n : ℕ) (h : Sought p s units i r n) where
   found-units : unitsOf (stringOf (p .layout) s i) ≡ unitsAt s (p .«storage_at» + r .at) (r .wide) 0 (r .count)
   unfolding stringOf
   found-units =
       sym (ap (λ (a : ℕ). unitsOf (record { wide = r .wide; bytes = bytesAt s (a + r .at) (sizeOf (asPlace r)) }))
-      (sectioned p s pl .storageFrom)
+      (sectioned p s (h .placed) .storageFrom)
       ∙ ap (λ (q : entry.Place). unitsOf (record { wide = q .wide; bytes = bytesAt s (storageAt (p .layout) s + q .at) (sizeOf q) }))
-      (st .is))
+      (h .stands .is))
       ∙ string-units s (p .«storage_at» + r .at) (r .count) (r .wide)
 
-  pub other-count : (n : ℕ) → n ≡ length units → (r .count ≡ n → ⊥)
-      → false ≡ same (unitsOf (stringOf (p .layout) s i)) units
-  other-count n e h =
+  pub other-count : (r .count ≡ n → ⊥) → false ≡ same (unitsOf (stringOf (p .layout) s i)) units
+  other-count d =
       longer-differs (unitsOf (stringOf (p .layout) s i)) units
-      (λ g. h (sym (length-at s (p .«storage_at» + r .at) (r .wide) 0 (r .count)) ∙ ap length (sym found-units) ∙ g ∙ sym e))
+      (λ g.
+      d (sym (length-at s (p .«storage_at» + r .at) (r .wide) 0 (r .count)) ∙ ap length (sym found-units) ∙ g ∙ sym (h .count)))
 
-  pub same-count : (n : ℕ) → n ≡ length units → r .count ≡ n
+  pub same-count : r .count ≡ n
       → same (unitsAt s (p .«storage_at» + r .at) (r .wide) 0 (length units)) units ≡ same (unitsOf (stringOf (p .layout) s i)) units
-  same-count n e h = rw (found-units, h, e)
+  same-count e = rw (found-units, e, h .count)
 
-  pub units-in : (n : ℕ) → n ≡ length units → r .count ≡ n
-      → p .«storage_at» + r .at + length units * unitSize (r .wide) ≤ length s
-  units-in n e h = rw (← e, ← h) (let z : Sectioned p s = sectioned p s pl in omega (arith, st .before))
+  pub units-in : r .count ≡ n → p .«storage_at» + r .at + length units * unitSize (r .wide) ≤ length s
+  units-in e =
+      rw (← h .count, ← e) (let z : Sectioned p s = sectioned p s (h .placed) in omega (arith, h .stands .before))
 
 -- ---- the pass
 
-module _ (p : Places) (s units : List ℕ) (pl : Placed p s) where
-  pub find-none : findFrom (p .layout) s units 0 (p .strings - 0) ≡ findId (p .layout) s units
+-- string i is next, and was compared; x is what the pass finds from i on
+pub record Compared (p : Places) (s units : List ℕ) (i : ℕ) (t : Bool) (x : ℕ) : Type 0 where
+  pub known : i < p .strings
+  pub tested : t ≡ same (unitsOf (stringOf (p .layout) s i)) units
+  pub finds : findFrom (p .layout) s units i (p .strings - i) ≡ x
+
+module _ (p : Places) (s units : List ℕ) (i : ℕ) (t : Bool) (x : ℕ) (h : Compared p s units i t x) where
+  left-is : p .strings - i ≡ suc (p .strings - suc i)
+  left-is = omega (arith, h .known)
+
+  found-or : pick t i (findFrom (p .layout) s units (suc i) (p .strings - suc i)) ≡ x
+  unfolding findFrom
+  found-or =
+      ap (λ (c : Bool). pick c i (findFrom (p .layout) s units (suc i) (p .strings - suc i))) (h .tested) ∙ rw left-is at (h .finds)
+
+  found : t ≡ true → i ≡ x
+  found g = rw g at found-or
+
+  pub find-next : t ≡ false → findFrom (p .layout) s units (i + 1) (p .strings - (i + 1)) ≡ x
+  find-next g = rw add-one (rw g at found-or)
+
+module _ (p : Places) (s units : List ℕ) where
+  pub find-none : Placed p s → findFrom (p .layout) s units 0 (p .strings - 0) ≡ findId (p .layout) s units
   unfolding findId
-  find-none = let e : p .strings - 0 ≡ stringsIn s = omega (arith, sectioned p s pl .strings) in rw e
-
-  module _ (i : ℕ) (t : Bool) (x : ℕ) (b : i < p .strings) (f : t ≡ same (unitsOf (stringOf (p .layout) s i)) units)
-      (e : findFrom (p .layout) s units i (p .strings - i) ≡ x) where
-    left-is : p .strings - i ≡ suc (p .strings - suc i)
-    left-is = omega arith
-
-    found-or : pick t i (findFrom (p .layout) s units (suc i) (p .strings - suc i)) ≡ x
-    unfolding findFrom
-    found-or = ap (λ (c : Bool). pick c i (findFrom (p .layout) s units (suc i) (p .strings - suc i))) f ∙ rw left-is at e
-
-    found : t ≡ true → i ≡ x
-    found g = rw g at found-or
-
-    pub find-next : t ≡ false → findFrom (p .layout) s units (i + 1) (p .strings - (i + 1)) ≡ x
-    find-next g = rw add-one (rw g at found-or)
+  find-none pl = let e : p .strings - 0 ≡ stringsIn s = omega (arith, sectioned p s pl .strings) in rw e
 
   find-end : (i x : ℕ) → p .strings ≤ i → findFrom (p .layout) s units i (p .strings - i) ≡ x → i ≡ x
   unfolding findFrom
@@ -263,12 +283,12 @@ module _ (p : Places) (s units : List ℕ) (pl : Placed p s) where
 
   -- ---- what is answered
 
-  pub found-at : (i : ℕ) (t : Bool) → i < p .strings → t ≡ same (unitsOf (stringOf (p .layout) s i)) units
-      → findFrom (p .layout) s units i (p .strings - i) ≡ findId (p .layout) s units → t ≡ true → (q : Place) → Stands p s i q
+  pub found-at : (i : ℕ) (t : Bool) → Compared p s units i t (findId (p .layout) s units) → t ≡ true → (q : Place)
+      → Stands p s i q
       → Locates p s (findId (p .layout) s units) refusals.absent (At i q)
-  found-at i t b f e g q st =
-      let x : i ≡ findId (p .layout) s units = found i t (findId (p .layout) s units) b f e g in
-      (x, rw x at b, subst (λ (j : ℕ). Stands p s j q) x st)
+  found-at i t h g q st =
+      let x : i ≡ findId (p .layout) s units = found p s units i t (findId (p .layout) s units) h g in
+      (x, rw x at (h .known), subst (λ (j : ℕ). Stands p s j q) x st)
 
   pub found-none : (i : ℕ) → p .strings ≤ i → findFrom (p .layout) s units i (p .strings - i) ≡ findId (p .layout) s units
       → Locates p s (findId (p .layout) s units) refusals.absent (Refused refusals.absent)

@@ -21,7 +21,6 @@ use Rattle.footer.specs.Finalize.{leastLength, sizeLimit}
 use Rattle.image.specs.Sections.{storageAt}
 use Rattle.image.specs.Strings.{sizeOf, placeAt}
 use Rattle.sections.specs.declared.Places.{Places}
-use Rattle.sections.specs.Places.{Placed}
 use Rattle.sections.proofs.SectionLaws.{Sectioned, sectioned}
 use Rattle.string_overlap.specs.Overlap.{isAlone}
 use Rattle.string_tables.specs.declared.Place.{Place}
@@ -29,34 +28,57 @@ use Rattle.string_tables.specs.Strings.{asPlace}
 use Rattle.string_walk.specs.Places.{Stands}
 use Rattle.string_in_place.specs.Known.{Overwritten}
 use Rattle.string_in_place.specs.Patch.{fitsInPlace, inPlace, changed, finished, patchedString, newLength, patchFits, patchKnown}
-use Rattle.string_in_place.proofs.FinishLaws.{answers-over, length-finished, room-short, room-written}
+use Rattle.string_in_place.proofs.FinishLaws.{answers-over, length-finished, Makes, room-short, room-written}
 
 -- ---- the test
 
-module _ (p : Places) (s value : List ℕ) (id : ℕ) (own : Place) (st : Stands p s id own) where
-  tested : both (not (own .wide))
+-- the string is narrow, and the value was tested
+pub record Narrow (p : Places) (s value : List ℕ) (id : ℕ) (own : Place) (a : Bool) : Type 0 where
+  pub stands : Stands p s id own
+  pub narrow : own .wide ≡ false
+  pub tested : a ≡ ascii value
+
+-- the value is ASCII, and the string has n bytes
+pub record AsciiValue (p : Places) (s value : List ℕ) (id : ℕ) (own : Place) (a : Bool) (n : ℕ) : Type 0 where
+  pub before : Narrow p s value id own a
+  pub plain : not a ≡ false
+  pub size : n ≡ sizeOf (asPlace own)
+
+module _ (p : Places) (s value : List ℕ) (id : ℕ) (own : Place) where
+  tested : Stands p s id own
+      → both (not (own .wide))
       (both (ascii value) (both (eqb (length value) (sizeOf (asPlace own))) (isAlone (p .layout) s id))) ≡ fitsInPlace (p .layout) s id
       value
   unfolding fitsInPlace
-  tested =
+  tested st =
       ap (λ (q : entry.Place). both (not (q .wide)) (both (ascii value) (both (eqb (length value) (sizeOf q)) (isAlone (p .layout) s id))))
       (st .is)
 
-  pub is-wide : own .wide ≡ true → false ≡ fitsInPlace (p .layout) s id value
-  is-wide t = rw t at tested
+  pub is-wide : Stands p s id own → own .wide ≡ true → false ≡ fitsInPlace (p .layout) s id value
+  is-wide st t = rw t at (tested st)
 
-  module _ (t : own .wide ≡ false) (a : Bool) (e : a ≡ ascii value) where
-    pub not-ascii : not a ≡ true → false ≡ fitsInPlace (p .layout) s id value
-    not-ascii f = rw (t, ← e, not-true a f) at tested
+  pub not-ascii : (a : Bool) → Narrow p s value id own a → not a ≡ true → false ≡ fitsInPlace (p .layout) s id value
+  not-ascii a t f = rw (t .narrow, ← t .tested, not-true a f) at (tested (t .stands))
 
-    module _ (f : not a ≡ false) (n : ℕ) (g : n ≡ sizeOf (asPlace own)) where
-      pub other-size : (length value ≡ n → ⊥) → false ≡ fitsInPlace (p .layout) s id value
-      other-size h = rw (← g, ne-eqb (length value) n h, t, ← e, not-false a f) at tested
+  module _ (a : Bool) (n : ℕ) (t : AsciiValue p s value id own a n) where
+    pub other-size : (length value ≡ n → ⊥) → false ≡ fitsInPlace (p .layout) s id value
+    other-size h =
+        rw (← t .size, ne-eqb (length value) n h, t .before .narrow, ← t .before .tested, not-false a (t .plain))
+        at (tested (t .before .stands))
 
-      pub same-size : length value ≡ n → (b : Bool) → b ≡ isAlone (p .layout) s id → b ≡ fitsInPlace (p .layout) s id value
-      same-size h b c = c ∙ rw (← g, eq-eqb (length value) n h, t, ← e, not-false a f) at tested
+    pub same-size : length value ≡ n → (b : Bool) → b ≡ isAlone (p .layout) s id → b ≡ fitsInPlace (p .layout) s id value
+    same-size h b c =
+        c
+        ∙ rw (← t .size, eq-eqb (length value) n h, t .before .narrow, ← t .before .tested, not-false a (t .plain))
+        at (tested (t .before .stands))
 
 -- ---- the bytes
+
+-- the image is copied to a buffer of its length, and the value is put over the bytes of its string
+pub record Overlaid (p : Places) (s value : List ℕ) (own : Place) (out o₁ o₂ : List ℕ) : Type 0 where
+  pub long : length out ≡ length s
+  pub copied : o₁ ≡ sets out 0 s
+  pub put : o₂ ≡ sets o₁ (p .«storage_at» + own .at) value
 
 module _ (p : Places) (s value : List ℕ) (id : ℕ) (own : Place) (ov : Overwritten p s value id own) where
   value-size : length value ≡ sizeOf (asPlace own)
@@ -69,11 +91,10 @@ module _ (p : Places) (s value : List ℕ) (id : ℕ) (own : Place) (ov : Overwr
   pub value-in : p .«storage_at» + own .at + length value ≤ length s
   value-in = let z : Sectioned p s = sectioned p s (ov .laid .placed) in omega (arith, value-size, ov .stands .before)
 
-  bytes-are : (out o₁ o₂ : List ℕ) → length out ≡ length s → o₁ ≡ sets out 0 s
-      → o₂ ≡ sets o₁ (p .«storage_at» + own .at) value → o₂ ≡ changed (p .layout) s id value
+  bytes-are : (out o₁ o₂ : List ℕ) → Overlaid p s value own out o₁ o₂ → o₂ ≡ changed (p .layout) s id value
   unfolding changed inPlace
-  bytes-are out o₁ o₂ n e f =
-      f ∙ rw (e, sets-all s out (sym n), ov .fits)
+  bytes-are out o₁ o₂ w =
+      w .put ∙ rw (w .copied, sets-all s out (sym (w .long)), ov .fits)
       (rw (sectioned p s (ov .laid .placed) .storageFrom)
       (ap (λ (q : entry.Place). sets s (storageAt (p .layout) s + q .at) value) (ov .stands .is)))
 
@@ -81,21 +102,24 @@ module _ (p : Places) (s value : List ℕ) (id : ℕ) (own : Place) (ov : Overwr
   unfolding changed inPlace
   length-changed = rw (ov .fits) (length-sets s (storageAt (p .layout) s + placeAt (p .layout) s id .at) value)
 
-  module _ (least : leastLength ≤ length s) where
-    pub length-patched : length (patchedString (p .layout) s id value) ≡ length s
-    unfolding patchedString
-    length-patched = length-finished (p .layout) s value (changed (p .layout) s id value) id (rw length-changed least) ∙ length-changed
+  least-is : leastLength ≤ length s
+  least-is = let z : Sectioned p s = sectioned p s (ov .laid .placed) in omega arith
 
-    pub in-place : (out o₁ o₂ o₃ : List ℕ) (r : Answer) → length out ≡ length s → o₁ ≡ sets out 0 s
-        → o₂ ≡ sets o₁ (p .«storage_at» + own .at) value
-        → Answers (made (finished (p .layout) s id value o₂)) r o₂ o₃
-        → Answers (made (patchedString (p .layout) s id value)) r out o₃
-    unfolding patchedString
-    in-place out o₁ o₂ o₃ r n e f a =
-        let c : o₂ ≡ changed (p .layout) s id value = bytes-are out o₁ o₂ n e f in
-        let m : length o₂ ≡ length s = ap length c ∙ length-changed in
-        let k : length (finished (p .layout) s id value o₂) ≡ length o₂ = length-finished (p .layout) s value o₂ id (omega arith) in
-        rw (← c) (answers-over (finished (p .layout) s id value o₂) o₂ out o₃ r (sym k) (n ∙ sym m ∙ sym k) a)
+  length-patched : length (patchedString (p .layout) s id value) ≡ length s
+  unfolding patchedString
+  length-patched =
+      length-finished (p .layout) s value (changed (p .layout) s id value) id (rw length-changed least-is) ∙ length-changed
+
+  pub in-place : (out o₁ o₂ o₃ : List ℕ) (r : Answer) → Overlaid p s value own out o₁ o₂
+      → Answers (made (finished (p .layout) s id value o₂)) r o₂ o₃
+      → Answers (made (patchedString (p .layout) s id value)) r out o₃
+  unfolding patchedString
+  in-place out o₁ o₂ o₃ r w a =
+      let c : o₂ ≡ changed (p .layout) s id value = bytes-are out o₁ o₂ w in
+      let m : length o₂ ≡ length s = ap length c ∙ length-changed in
+      let k : length (finished (p .layout) s id value o₂) ≡ length o₂
+      = length-finished (p .layout) s value o₂ id (omega (arith, m, least-is)) in
+      rw (← c) (answers-over (finished (p .layout) s id value o₂) o₂ out o₃ r (sym k) (w .long ∙ sym m ∙ sym k) a)
 
   -- nothing is refused but for the room
   pub known-in-place : length s ≤ sizeLimit → patchKnown (p .layout) s id value ≡ made (patchedString (p .layout) s id value)
@@ -103,21 +127,19 @@ module _ (p : Places) (s value : List ℕ) (id : ℕ) (own : Place) (ov : Overwr
   known-in-place most = rw (ov .fits, le-ltb sizeLimit (length s) most)
 
   -- in a buffer of any length
-  least-is : leastLength ≤ length s
-  least-is = let z : Sectioned p s = sectioned p s (ov .laid .placed) in omega arith
-
   most-is : length s ≤ sizeLimit
   most-is = sectioned p s (ov .laid .placed) .most
+
+  makes : Makes (patchKnown (p .layout) s id value) (patchedString (p .layout) s id value) (length s)
+  makes = record { is = known-in-place most-is; long = length-patched }
 
   pub in-short : (out : List ℕ) → length out < length s
       → Answers (roomed (length out) (patchKnown (p .layout) s id value)) (Refused 13) out out
   in-short out h =
-      room-short (patchKnown (p .layout) s id value) (patchedString (p .layout) s id value) out (length s) (known-in-place most-is)
-      (length-patched least-is) h
+      room-short (patchKnown (p .layout) s id value) (patchedString (p .layout) s id value) out (length s) makes h
 
   pub in-room : (out : List ℕ) → length s ≤ length out → (part : List ℕ) (r : Answer)
       → Answers (made (patchedString (p .layout) s id value)) r (take (length s - 0) (drop 0 out)) part
       → Answers (roomed (length out) (patchKnown (p .layout) s id value)) r out (putMid 0 (length s - 0) out part)
   in-room out h part r a =
-      room-written (patchKnown (p .layout) s id value) (patchedString (p .layout) s id value) out (length s) (known-in-place most-is)
-      (length-patched least-is) h part r a
+      room-written (patchKnown (p .layout) s id value) (patchedString (p .layout) s id value) out (length s) makes h part r a

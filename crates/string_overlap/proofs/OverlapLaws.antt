@@ -37,14 +37,19 @@ stands-low p s pl i r st =
     let z : Sectioned p s = sectioned p s pl in
     (omega (arith, st .stored), omega (arith, st .count, st .stored))
 
-module _ (p : Places) (s : List ℕ) (pl : Placed p s) (id i : ℕ) (own other : Place) (so : Stands p s id own) (st : Stands p s i other)
-    (r : Bool)
-    (e : r ≡ implies (not (eqb i id)) (not (overlap (asPlace own) (asPlace other)))) where
+-- string i was compared with string id, each where it stands
+pub record OverlapTested (p : Places) (s : List ℕ) (id i : ℕ) (own other : Place) (r : Bool) : Type 0 where
+  pub placed : Placed p s
+  pub this : Stands p s id own
+  pub that : Stands p s i other
+  pub tested : r ≡ implies (not (eqb i id)) (not (overlap (asPlace own) (asPlace other)))
+
+module _ (p : Places) (s : List ℕ) (id i : ℕ) (own other : Place) (r : Bool) (h : OverlapTested p s id i own other r) where
   tested : r ≡ isApart (p .layout) s id i
   unfolding isApart
   tested =
-      e ∙ ap (λ (q : entry.Place). implies (not (eqb i id)) (not (overlap q (asPlace other)))) (so .is)
-      ∙ ap (λ (q : entry.Place). implies (not (eqb i id)) (not (overlap (placeAt (p .layout) s id) q))) (st .is)
+      h .tested ∙ ap (λ (q : entry.Place). implies (not (eqb i id)) (not (overlap q (asPlace other)))) (h .this .is)
+      ∙ ap (λ (q : entry.Place). implies (not (eqb i id)) (not (overlap (placeAt (p .layout) s id) q))) (h .that .is)
 
   pub alone-next : not r ≡ false → allBelow i (isApart (p .layout) s id) ≡ true
       → allBelow (i + 1) (isApart (p .layout) s id) ≡ true
@@ -52,7 +57,8 @@ module _ (p : Places) (s : List ℕ) (pl : Placed p s) (id i : ℕ) (own other :
 
   pub not-alone : not r ≡ true → i < p .strings → false ≡ isAlone (p .layout) s id
   unfolding isAlone
-  not-alone t h = rw (← sectioned p s pl .strings) (pass-stop (isApart (p .layout) s id) (p .strings) i r h tested t)
+  not-alone t b =
+      rw (← sectioned p s (h .placed) .strings) (pass-stop (isApart (p .layout) s id) (p .strings) i r b tested t)
 
 pub alone : (p : Places) (s : List ℕ) → Placed p s → (id i : ℕ) → i ≡ p .strings
     → allBelow i (isApart (p .layout) s id) ≡ true → true ≡ isAlone (p .layout) s id

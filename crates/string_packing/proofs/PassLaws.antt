@@ -2,7 +2,7 @@
 use mathlib.Core.Path.{_≡_, refl, ap, sym, _∙_, subst⁻¹}
 use mathlib.Core.Bool.{Bool, true, false}
 use mathlib.Core.List.{List}
-use Prim.Native.Nat.{ℕ, _+_, _*_, _≤_, _<_}
+use Prim.Native.Nat.{ℕ, _+_, _*_, _≤_}
 use native.Mathlib.Omega.{arith}
 use lib.Dec.{eqb}
 use lib.ListN.{length, length-append, length-replicate}
@@ -20,9 +20,10 @@ use Rattle.sections.specs.Places.{Placed}
 use Rattle.sections.proofs.SectionLaws.{Sectioned, sectioned}
 use Rattle.string_tables.specs.declared.Place.{Place}
 use Rattle.string_tables.specs.Strings.{asPlace}
-use Rattle.string_walk.specs.Places.{Stands, CursorOf}
+use Rattle.string_walk.specs.Places.{CursorOf, Visits}
 use Rattle.string_packing.specs.declared.Shape.{Shape}
 use Rattle.string_walk.specs.declared.Cursor.{Cursor}
+use Rattle.string_walk.specs.declared.Visited.{Visited}
 use Rattle.string_packing.specs.declared.Packer.{Packer}
 use Rattle.string_packing.specs.Strings.{Shaped, stringsWith, placeWith}
 use Rattle.string_packing.specs.declared.Sizes.{Sizes}
@@ -39,45 +40,64 @@ pub reached-none : (p : Places) (s : List ℕ) (id : ℕ) (x : Shape) (o : Curso
 reached-none p s id x o h e =
     record { old = h; sums = rw e (sums-none (p .layout) s id x); few = omega arith; low = omega arith }
 
-module _ (p : Places) (s : List ℕ) (id : ℕ) (x : Shape) (c : Packer) (it : InTurn p s id x c) where
-  -- the numbers are small
-  pub strings-few : p .strings ≤ 16777216
-  strings-few = let z : Sectioned p s = sectioned p s (it .laid .placed) in omega arith
+-- the numbers are small
+pub strings-few : (p : Places) (s : List ℕ) (id : ℕ) (x : Shape) (c : Packer) → InTurn p s id x c → p .strings ≤ 16777216
+strings-few p s id x c it = let z : Sectioned p s = sectioned p s (it .laid .placed) in omega arith
 
-  module _ (o n : Place) (st : Stands p s (c .old .id) o) (e : asPlace n ≡ placeWith (eqb (c .old .id) id) x (asPlace o) (c .at)) where
-    old-count : o .count ≤ sizeLimit
-    old-count = let z : Sectioned p s = sectioned p s (it .laid .placed) in omega (arith, st .count, st .stored)
+-- a string in its turn, where it stands, and its new place
+pub record PlaceFound (p : Places) (s : List ℕ) (id : ℕ) (x : Shape) (c : Packer) (r : Visited) (n : Place) : Type 0 where
+  pub turn : InTurn p s id x c
+  pub visits : Visits p s (c .old) r
+  pub new : asPlace n ≡ placeWith (eqb (c .old .id) id) x (asPlace (r .place)) (c .at)
 
-    pub count-small : n .count ≤ sizeLimit
-    count-small = subst⁻¹ (λ (q : entry.Place). q .count ≤ sizeLimit) e (go (eqb (c .old .id) id))
-      where
-        go : (b : Bool) → pick b (x .count) (o .count) ≤ sizeLimit
-        go true = it .small
-        go false = old-count
+-- what a string takes at a place: one overflow entry or none, and its bytes
+pub record Takes (n : Place) (over : Bool) (v z : ℕ) : Type 0 where
+  pub overflows : over ≡ entry.isOver (asPlace n)
+  pub entries : v ≡ ifSet over 1
+  pub few : v ≤ 1
+  pub size : z ≡ sizeOf (asPlace n)
+  pub low : z ≤ n .count * 2
 
-    -- the turn, by what the code found
-    pub turned : (o′ : Cursor) → CursorOf p s o′ → o′ .id ≡ c .old .id + 1 → (v z : ℕ) (t : Bool)
-        → t ≡ entry.isOver (asPlace n) → v ≡ ifSet t 1 → v ≤ 1 → z ≡ sizeOf (asPlace n) → z ≤ n .count * 2
-        → Turned p s id x c (record { old = o; new = n; next = record { old = o′; over = c .over + v; at = c .at + z } })
-    turned o′ oc oe v z t te ve vm ze zm =
-        let o1 : v ≡ entry.bit (entry.isOver (asPlace n)) = ve ∙ set-bit t ∙ ap entry.bit te in
-        let cs : n .count ≤ sizeLimit = count-small in
-        let lo : c .at ≤ c .old .id * (sizeLimit * 2) = it .reached .low in
-        record {
-          old = st;
-          new = e;
-          count = count-small;
-          string = oe;
-          over = ap (λ (k : ℕ). c .over + k) o1;
-          at = ap (λ (k : ℕ). c .at + k) ze;
-          reached = record {
-            old = oc;
-            sums = rw oe (sums-next (p .layout) s id (c .old .id) (c .at) (c .over) z v x (asPlace o) (asPlace n) (it .reached .sums)
-                (st .is) e ze o1);
-            few = omega (arith, it .reached .few);
-            low = omega (arith, oe);
-          };
-        }
+module _ (p : Places) (s : List ℕ) (id : ℕ) (x : Shape) (c : Packer) (r : Visited) (n : Place) (f : PlaceFound p s id x c r n) where
+  old-count : r .place .count ≤ sizeLimit
+  old-count =
+      let z : Sectioned p s = sectioned p s (f .turn .laid .placed) in
+      omega (arith, f .visits .place .count, f .visits .place .stored)
+
+  pub count-small : n .count ≤ sizeLimit
+  count-small = subst⁻¹ (λ (q : entry.Place). q .count ≤ sizeLimit) (f .new) (go (eqb (c .old .id) id))
+    where
+      go : (b : Bool) → pick b (x .count) (r .place .count) ≤ sizeLimit
+      go true = f .turn .small
+      go false = old-count
+
+  -- the turn, by what the code found
+  pub turned : (over : Bool) (v z : ℕ) → Takes n over v z
+      → Turned p s id x c (record {
+        old = r .place;
+        new = n;
+        next = record { old = r .next; over = c .over + v; at = c .at + z };
+      })
+  turned over v z t =
+      let e : v ≡ entry.bit (entry.isOver (asPlace n)) = t .entries ∙ set-bit over ∙ ap entry.bit (t .overflows) in
+      let small : n .count ≤ sizeLimit = count-small in
+      let low : c .at ≤ c .old .id * (sizeLimit * 2) = f .turn .reached .low in
+      record {
+        old = f .visits .place;
+        new = f .new;
+        count = count-small;
+        string = f .visits .id;
+        over = ap (λ (k : ℕ). c .over + k) e;
+        at = ap (λ (k : ℕ). c .at + k) (t .size);
+        reached = record {
+          old = f .visits .next;
+          sums = rw (f .visits .id, t .size, e)
+              (sums-next (p .layout) s id (c .old .id) (c .at) (c .over) x (asPlace (r .place)) (asPlace n) (f .turn .reached .sums)
+              (f .visits .place .is) (f .new));
+          few = omega (arith, f .turn .reached .few, f .visits .id, t .few);
+          low = omega (arith, f .visits .id, t .low);
+        };
+      }
 
 -- behind the last string
 pub measured : (p : Places) (s : List ℕ) (id : ℕ) (x : Shape) (c : Packer) → c .old .id ≡ p .strings → Reached p s id x c

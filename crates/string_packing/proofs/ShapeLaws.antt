@@ -17,7 +17,6 @@ use Rattle.unicode.specs.Utf8.{utf16, unitBytes}
 use Rattle.image.specs.Sections.{storageAt}
 use Rattle.image.specs.Strings.{Str, unitSize, sizeOf, placeAt, stringOf}
 use Rattle.edits.specs.Packing.{countOf, standing, placed, storeOf}
-use Rattle.edits.specs.Rebuild.{overs}
 use Rattle.edits.proofs.TableLaws.{overs-none, overs-next}
 use Rattle.edits.proofs.PackLaws.{size-next, store-none}
 use Rattle.string_packing.specs.declared.Shape.{Shape}
@@ -97,17 +96,17 @@ pub sums-none : (l : Layout) (s : List ℕ) (id : ℕ) (x : Shape) → Sums l s 
 sums-none l s id x t h = (rw (store-none (stringWith l s id t)), sym (overs-none (placed (stringWith l s id t))))
 
 -- one string more, at a place that the code found
-pub sums-next : (l : Layout) (s : List ℕ) (id i storage overflows size over : ℕ) (x : Shape) (p q : Place)
+pub sums-next : (l : Layout) (s : List ℕ) (id i storage overflows : ℕ) (x : Shape) (p q : Place)
     → Sums l s id x i storage overflows
-    → p ≡ placeAt l s i → q ≡ placeWith (eqb i id) x p storage → size ≡ sizeOf q → over ≡ bit (isOver q)
-    → Sums l s id x (i + 1) (storage + size) (overflows + over)
-sums-next l s id i storage overflows size over x p q h pe qe se oe t sh =
+    → p ≡ placeAt l s i → q ≡ placeWith (eqb i id) x p storage
+    → Sums l s id x (i + 1) (storage + sizeOf q) (overflows + bit (isOver q))
+sums-next l s id i storage overflows x p q h pe qe t sh =
     let g = h t sh in
     let f : ℕ → Str = stringWith l s id t in
     let a : length (storeOf f i) ≡ storage = sym (g .0) in
-    let e : size ≡ length (f i .bytes) = se ∙ ap sizeOf qe ∙ size-is l s id i storage x t sh p pe in
-    let o : over ≡ bit (isOver (placed f i)) =
-    oe ∙ ap (λ (r : Place). bit (isOver r))
+    let e : sizeOf q ≡ length (f i .bytes) = ap sizeOf qe ∙ size-is l s id i storage x t sh p pe in
+    let o : bit (isOver q) ≡ bit (isOver (placed f i)) =
+    ap (λ (r : Place). bit (isOver r))
     (qe ∙ place-is l s id i storage x t sh p pe ∙ ap (λ (n : ℕ). standing n (f i)) (sym a)) in (
       rw (add-one, size-next f i, ← e, a),
       rw (add-one, overs-next (placed f) i, ← g .1, ← o),

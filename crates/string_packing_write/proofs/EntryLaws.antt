@@ -32,27 +32,49 @@ two-words : (out : List ℕ) (a : ℕ) (p : Place)
     (a + overflowLength .at) (bytesFor overflowLength (p .count))
 two-words out a p = rw (pair-is p, sets-append (bytesOf 4 (p .at)), length-bytesOf 4 (p .at), add-zero)
 
-module _ (to : RegionPlaces) (i k small : ℕ) (p : Place) (out : List ℕ) (r : Bool) (e : r ≡ isOver p)
-    (se : small ≡ entryAt (to .«small_at») smallEntry i) where
+-- the small entry i is written: a word at its place
+pub record SmallPut (to : RegionPlaces) (i small w : ℕ) (out o1 : List ℕ) : Type 0 where
+  pub place : small ≡ entryAt (to .«small_at») smallEntry i
+  pub put : o1 ≡ sets out small (bytesOf 4 w)
+
+-- pair k is written: its offset and its length, each at its place
+pub record PairPut (to : RegionPlaces) (k pair : ℕ) (p : Place) (o1 o2 o3 : List ℕ) : Type 0 where
+  pub place : pair ≡ entryAt (to .«over_at») overflowEntry k
+  pub offset : o2 ≡ sets o1 (pair + overflowOffset .at) (bytesFor overflowOffset (p .at))
+  pub count : o3 ≡ sets o2 (pair + overflowLength .at) (bytesFor overflowLength (p .count))
+
+-- an entry that overflows is a pair, and a small entry with the pair's number
+pub record OverPut (to : RegionPlaces) (i k small w pair : ℕ) (p : Place) (out o1 o2 o3 : List ℕ) : Type 0 where
+  pub word : w ≡ entry (p .wide) k full
+  pub entered : SmallPut to i small w out o1
+  pub paired : PairPut to k pair p o1 o2 o3
+
+module _ (to : RegionPlaces) (k : ℕ) (p : Place) (r : Bool) (e : r ≡ isOver p) where
   pub pair-room : r ≡ true → (n : ℕ) → entryAt (to .«over_at») overflowEntry (k + bit (isOver p)) ≤ n
       → entryAt (to .«over_at») overflowEntry k + overflowEntry .width ≤ n
   pair-room t n h = let o : bit (isOver p) ≡ 1 = ap bit (sym e ∙ t) in omega arith
 
-  pub put-over : (pair w : ℕ) (o1 o2 o3 : List ℕ) → r ≡ true → pair ≡ entryAt (to .«over_at») overflowEntry k
-      → w ≡ entry (p .wide) k full
-      → o1 ≡ sets out small (bytesOf 4 w) → o2 ≡ sets o1 (pair + overflowOffset .at) (bytesFor overflowOffset (p .at))
-      → o3 ≡ sets o2 (pair + overflowLength .at) (bytesFor overflowLength (p .count)) → o3 ≡ putEntry to i k p out
+  pub put-over : (i small w pair : ℕ) (out o1 o2 o3 : List ℕ) → r ≡ true → OverPut to i k small w pair p out o1 o2 o3
+      → o3 ≡ putEntry to i k p out
   unfolding putEntry smallWord
-  put-over pair w o1 o2 o3 t pe we a b d =
+  put-over i small w pair out o1 o2 o3 t h =
       let o : isOver p ≡ true = sym e ∙ t in
-      d ∙ rw (o, two-words, ← we, ← pe, ← se, ← a, ← b)
+      h .paired .count ∙ rw (
+        o,
+        two-words,
+        ← h .word,
+        ← h .paired .place,
+        ← h .entered .place,
+        ← h .entered .put,
+        ← h .paired .offset,
+      )
 
-  pub put-small : (w : ℕ) (o1 : List ℕ) → r ≡ false → w ≡ entry (p .wide) (p .at) (p .count)
-      → o1 ≡ sets out small (bytesOf 4 w) → o1 ≡ putEntry to i k p out
+  pub put-small : (i small : ℕ) (out o1 : List ℕ) → r ≡ false → SmallPut to i small (entry (p .wide) (p .at) (p .count)) out o1
+      → o1 ≡ putEntry to i k p out
   unfolding putEntry smallWord
-  put-small w o1 t we a =
+  put-small i small out o1 t h =
       let o : isOver p ≡ false = sym e ∙ t in
-      a ∙ rw (o, ← we, ← se)
+      h .put ∙ rw (o, ← h .place)
 
 -- ---- the bytes of a string
 

@@ -42,10 +42,10 @@ module _ (to : RegionPlaces) (f : ℕ → Str) (i : ℕ) (out : List ℕ) where
   abbrev ps : ℕ → Place
   ps = placed f
 
-  laid-more : to .«small_at» + i * 4 + 4 ≤ to .«over_at» → to .«over_at» + overs ps (suc i) * 8 ≤ to .«storage_at»
+  pub laid-next : to .«small_at» + i * 4 + 4 ≤ to .«over_at» → to .«over_at» + overs ps (suc i) * 8 ≤ to .«storage_at»
       → regionPut to (suc i) (packed f (suc i)) out ≡ putString to i (overs ps i) at (f i) (regionPut to i (packed f i) out)
   unfolding regionPut putString putEntry
-  laid-more h l =
+  laid-next h l =
       let w : ℕ = smallWord (overs ps i) (ps i) in
       let A : List ℕ = smalls ps i in
       let B : List ℕ = pairs ps i in
@@ -63,33 +63,46 @@ module _ (to : RegionPlaces) (f : ℕ → Str) (i : ℕ) (out : List ℕ) where
       )
       refl
 
-  pub laid-next : (k a : ℕ) (o1 o2 : List ℕ) → k ≡ overs ps i → a ≡ at
-      → to .«small_at» + i * 4 + 4 ≤ to .«over_at» → to .«over_at» + overs ps (suc i) * 8 ≤ to .«storage_at»
-      → o1 ≡ regionPut to i (packed f i) out → o2 ≡ putString to i k a (f i) o1
-      → o2 ≡ regionPut to (suc i) (packed f (suc i)) out
-  laid-next k a o1 o2 e g h l p q = rw (laid-more h l, ← e, ← g, ← p) q
-
 pub laid-none : (to : RegionPlaces) (f : ℕ → Str) (out : List ℕ) → out ≡ regionPut to 0 (packed f 0) out
 unfolding regionPut storeOf smalls pairs
 laid-none to f out = refl
 
 -- ---- the tables side by side, then zeros
 
-module _ (to : RegionPlaces) (n : ℕ) (ps : Packed) (e : to .«over_at» ≡ to .«small_at» + n * 4)
-    (g : to .«storage_at» ≡ to .«over_at» + overs (ps .place) n * 8) where
+-- each table starts where the one before it ends
+pub record Joined (to : RegionPlaces) (n : ℕ) (ps : Packed) : Type 0 where
+  pub over : to .«over_at» ≡ to .«small_at» + n * 4
+  pub storage : to .«storage_at» ≡ to .«over_at» + overs (ps .place) n * 8
+
+-- n strings are written, then zeros up to a multiple of 4
+pub record Filled (to : RegionPlaces) (n : ℕ) (ps : Packed) (end up : ℕ) (out o1 o2 : List ℕ) : Type 0 where
+  pub strings : o1 ≡ regionPut to n ps out
+  pub four : up ≡ up4 end
+  pub zeros : o2 ≡ sets o1 end (replicate (up - end) 0)
+
+module _ (to : RegionPlaces) (n : ℕ) (ps : Packed) (j : Joined to n ps) where
   laid-region : (out : List ℕ) → regionPut to n ps out ≡ sets out (to .«small_at») (region n ps)
   unfolding regionPut region
   laid-region out =
-      rw (sets-append (smalls (ps .place) n), sets-append (pairs (ps .place) n), size-smalls (ps .place) n, size-pairs (ps .place) n, g, e)
+      rw (
+        sets-append (smalls (ps .place) n),
+        sets-append (pairs (ps .place) n),
+        size-smalls (ps .place) n,
+        size-pairs (ps .place) n,
+        j .storage,
+        j .over,
+      )
 
   length-region : to .«small_at» + length (region n ps) ≡ to .«storage_at» + length (ps .store)
   unfolding region
-  length-region = rw (length-append, length-append, size-smalls (ps .place) n, size-pairs (ps .place) n, g, e) (omega arith)
+  length-region =
+      rw (length-append, length-append, size-smalls (ps .place) n, size-pairs (ps .place) n, j .storage, j .over)
+      (omega arith)
 
-  pub region-padded : (end : ℕ) (out o1 o2 : List ℕ) → end ≡ to .«storage_at» + length (ps .store)
-      → o1 ≡ regionPut to n ps out → o2 ≡ sets o1 end (replicate (up4 end - end) 0)
+  pub region-padded : (end up : ℕ) (out o1 o2 : List ℕ) → end ≡ to .«storage_at» + length (ps .store)
+      → Filled to n ps end up out o1 o2
       → o2 ≡ sets out (to .«small_at») (padded (to .«small_at») (region n ps))
   unfolding padded
-  region-padded end out o1 o2 d p q =
+  region-padded end up out o1 o2 d f =
       let l : to .«small_at» + length (region n ps) ≡ end = length-region ∙ sym d in
-      rw (sets-append (region n ps), l, ← laid-region out, ← p) q
+      rw (sets-append (region n ps), l, ← laid-region out, ← f .strings) (rw (f .four) at (f .zeros))

@@ -5,12 +5,10 @@ use mathlib.Core.List.{List}
 use Prim.Native.Nat.{ℕ, _+_, _-_, _*_, _≤_, _<_}
 use native.Mathlib.Omega.{arith}
 use borrow.Author.Tests.{lt-ltb, le-ltb, eq-eqb, not-true, not-false}
-use borrow.Rule.Slice.PartMut.{putMid}
-use lib.ListN.{length, take, drop, length-append}
+use lib.ListN.{length, length-append}
 use Rattle.bits.specs.Choice.{judge}
 use Rattle.bits.specs.Bytes.{up4, zerosTo4}
 use Rattle.bits.specs.Outcome.{Outcome, Answers, refused, made, roomed}
-use Rattle.bits.specs.declared.Answer.{Answer}
 use Rattle.bits.specs.declared.Answer.the-variants.{Refused}
 use Rattle.format.specs.Move.{moved}
 use Rattle.format.proofs.MoveLaws.{moved-high}
@@ -31,7 +29,7 @@ use Rattle.string_packing.specs.Strings.{asString, stringWith, stringsWith, Sha
 use Rattle.string_packing.specs.Pass.{Measured}
 use Rattle.string_packing.proofs.PassLaws.{tail-is}
 use Rattle.string_in_place.specs.Patch.{changed, patchedString, newLength, patchFits, patchKnown}
-use Rattle.string_in_place.proofs.FinishLaws.{length-finished, room-short, room-written}
+use Rattle.string_in_place.proofs.FinishLaws.{length-finished, Makes}
 use Rattle.string_rebuild.specs.Ready.{Asked}
 use Rattle.string_rebuild.proofs.RebuildLaws.{newStrings}
 
@@ -83,19 +81,7 @@ module _ (p : Places) (s value : List ℕ) (id : ℕ) (ask : Asked p s value id)
   pub huge : (x : Shape) → Shaped x (asString value) → sizeLimit < x .count → patchKnown (p .layout) s id value ≡ refused 11
   huge x sh h = too-long (omega (arith, value-within, store-within, sh .1, at-least (x .wide) (x .count), sc))
 
-  -- ---- 12, and then nothing but the room
-
-  module _ (fits : length s - p .tail + to ≤ sizeLimit) (r : Bool) (e : r ≡ fieldsFit (p .layout) s (moved (p .tail) to)) where
-    fits-is : r ≡ fieldsFit (p .layout) s (moved (tailAt (p .layout) s) to)
-    fits-is = e ∙ rw (sc .tailFrom)
-
-    pub past-field : not r ≡ true → patchKnown (p .layout) s id value ≡ refused 12
-    unfolding patchKnown judge patchFits
-    past-field t = rw (le-ltb sizeLimit (newLength (p .layout) s id value) (rw long-is fits), ask .moves, ← fits-is, not-true r t)
-
-    pub accepted : not r ≡ false → patchKnown (p .layout) s id value ≡ made (patchedString (p .layout) s id value)
-    unfolding patchKnown judge patchFits
-    accepted t = rw (le-ltb sizeLimit (newLength (p .layout) s id value) (rw long-is fits), ask .moves, ← fits-is, not-false r t)
+  -- ---- the length of what is made
 
   length-changed : length (changed (p .layout) s id value) ≡ length s - p .tail + to
   unfolding changed
@@ -116,33 +102,53 @@ module _ (p : Places) (s value : List ℕ) (id : ℕ) (ask : Asked p s value id)
       → (p .«over_at» ≤ sizeLimit) × (z .overflows ≤ sizeLimit) × (z .storage ≤ sizeLimit * (sizeLimit * 2))
   low x z m = (omega (arith, sc), omega (arith, sc, m .few), omega (arith, sc, m .low))
 
-  module _ (x : Shape) (z : Sizes) (t : ℕ) (sh : Shaped x (asString value)) (m : Measured p s id x z)
-      (te : t ≡ up4 (p .«over_at» + z .overflows * 8 + z .storage)) (out : List ℕ) where
-    tail-to : t ≡ to
-    tail-to = te ∙ tail-is p s (ask .laid .placed) id x z m (asString value) sh
+-- the value's shape, the sizes measured with it, and where the tail starts by them
+pub record Gauged (p : Places) (s value : List ℕ) (id : ℕ) (x : Shape) (z : Sizes) (t : ℕ) : Type 0 where
+  pub asked : Asked p s value id
+  pub shaped : Shaped x (asString value)
+  pub measured : Measured p s id x z
+  pub tail : t ≡ up4 (p .«over_at» + z .overflows * 8 + z .storage)
 
-    pub over-limit : sizeLimit < length s - p .tail + t
-        → Answers (roomed (length out) (patchKnown (p .layout) s id value)) (Refused 11) out out
-    over-limit h = refuses (patchKnown (p .layout) s id value) 11 out (too-long (rw (← tail-to) h))
+-- the image is not too long, and the fields that move were tested
+pub record FieldsTested (p : Places) (s value : List ℕ) (id : ℕ) (x : Shape) (z : Sizes) (t : ℕ) (r : Bool) : Type 0 where
+  pub before : Gauged p s value id x z t
+  pub limit : length s - p .tail + t ≤ sizeLimit
+  pub fields : r ≡ fieldsFit (p .layout) s (moved (p .tail) t)
 
-    module _ (h : length s - p .tail + t ≤ sizeLimit) (r : Bool) (e : r ≡ fieldsFit (p .layout) s (moved (p .tail) t)) where
-      fits-to : r ≡ fieldsFit (p .layout) s (moved (p .tail) to)
-      fits-to = rw tail-to at e
+module _ (p : Places) (s value : List ℕ) (id : ℕ) (x : Shape) (z : Sizes) (t : ℕ) where
+  tail-to : Gauged p s value id x z t → t ≡ newTail (p .layout) (newStrings p s value id) s
+  tail-to g = g .tail ∙ tail-is p s (g .asked .laid .placed) id x z (g .measured) (asString value) (g .shaped)
 
-      pub no-field : not r ≡ true → Answers (roomed (length out) (patchKnown (p .layout) s id value)) (Refused 12) out out
-      no-field f = refuses (patchKnown (p .layout) s id value) 12 out (past-field (rw (← tail-to) h) r fits-to f)
+  pub over-limit : Gauged p s value id x z t → (out : List ℕ) → sizeLimit < length s - p .tail + t
+      → Answers (roomed (length out) (patchKnown (p .layout) s id value)) (Refused 11) out out
+  over-limit g out h = refuses (patchKnown (p .layout) s id value) 11 out (too-long p s value id (g .asked) (rw (← tail-to g) h))
 
-      module _ (f : not r ≡ false) where
-        pub no-room : length out < length s - p .tail + t
-            → Answers (roomed (length out) (patchKnown (p .layout) s id value)) (Refused 13) out out
-        no-room k =
-            room-short (patchKnown (p .layout) s id value) (patchedString (p .layout) s id value) out (length s - p .tail + t)
-            (accepted (rw (← tail-to) h) r fits-to f)
-            (rw tail-to length-patched) k
+  module _ (r : Bool) (d : FieldsTested p s value id x z t r) where
+    within : newLength (p .layout) s id value ≤ sizeLimit
+    within = rw (long-is p s value id (d .before .asked), ← tail-to (d .before)) (d .limit)
 
-        pub written : length s - p .tail + t ≤ length out → (part : List ℕ) (a : Answer)
-            → Answers (made (patchedString (p .layout) s id value)) a (take (length s - p .tail + t - 0) (drop 0 out)) part
-            → Answers (roomed (length out) (patchKnown (p .layout) s id value)) a out (putMid 0 (length s - p .tail + t - 0) out part)
-        written k part a w =
-            room-written (patchKnown (p .layout) s id value) (patchedString (p .layout) s id value) out (length s - p .tail + t)
-            (accepted (rw (← tail-to) h) r fits-to f) (rw tail-to length-patched) k part a w
+    fits-is : r ≡ fieldsFit (p .layout) s (moved (tailAt (p .layout) s) (newTail (p .layout) (newStrings p s value id) s))
+    fits-is = d .fields ∙ rw (tail-to (d .before), sectioned p s (d .before .asked .laid .placed) .tailFrom)
+
+    past-field : not r ≡ true → patchKnown (p .layout) s id value ≡ refused 12
+    unfolding patchKnown judge patchFits
+    past-field f =
+        rw (le-ltb sizeLimit (newLength (p .layout) s id value) within, d .before .asked .moves, ← fits-is, not-true r f)
+
+    accepted : not r ≡ false → patchKnown (p .layout) s id value ≡ made (patchedString (p .layout) s id value)
+    unfolding patchKnown judge patchFits
+    accepted f =
+        rw (le-ltb sizeLimit (newLength (p .layout) s id value) within, d .before .asked .moves, ← fits-is, not-false r f)
+
+    pub no-field : (out : List ℕ) → not r ≡ true
+        → Answers (roomed (length out) (patchKnown (p .layout) s id value)) (Refused 12) out out
+    no-field out f = refuses (patchKnown (p .layout) s id value) 12 out (past-field f)
+
+    -- else nothing is refused but for the room
+    pub makes : not r ≡ false
+        → Makes (patchKnown (p .layout) s id value) (patchedString (p .layout) s id value) (length s - p .tail + t)
+    makes f =
+        record {
+          is = accepted f;
+          long = rw (tail-to (d .before)) (length-patched p s value id (d .before .asked));
+        }

@@ -1,6 +1,6 @@
 -- The rebuilt image as the code writes it: what stands around the strings, the strings, the counts, what moves, the end of every patch.
 use mathlib.Core.Path.{_≡_, ap, sym, _∙_, subst⁻¹}
-use mathlib.Core.List.{List, [], _∷_}
+use mathlib.Core.List.{List}
 use Prim.Native.Nat.{ℕ, _+_, _-_, _*_, _≤_}
 use native.Mathlib.Omega.{arith}
 use lib.ListN.{length}
@@ -11,7 +11,7 @@ use Rattle.bits.specs.declared.Answer.{Answer}
 use Rattle.format.specs.Table as table
 use Rattle.footer.specs.Finalize.{sizeLimit}
 use Rattle.image.specs.Sections.{stringsIn, smallAt, tailAt}
-use Rattle.edits.specs.Edit.{putFrom, writeAll, splice}
+use Rattle.edits.specs.Edit.{writeAll, splice}
 use Rattle.edits.specs.Packing.{Packed}
 use Rattle.edits.specs.Rebuild.{region, padded, newTail, rebuild}
 use Rattle.image.proofs.CheckLaws.{headers-in}
@@ -34,6 +34,20 @@ use Rattle.string_rebuild.specs.Ready.{Ready}
 -- the strings of the new image, packed
 abbrev pub newStrings : Places → List ℕ → List ℕ → ℕ → Packed
 newStrings p s value id = stringsWith (p .layout) s id (asString value)
+
+-- the tail moves, for the strings' sake
+abbrev moveTail : Places → ℕ → Move
+moveTail p to = record { from = p .tail; to = to; cause = Strings }
+
+-- in a buffer of so much room: what stands around the strings, the strings, the two counts and what moves, one after the other
+pub record Rewritten (p : Places) (s value : List ℕ) (id : ℕ) (z : Sizes) (to room : ℕ) (out o₁ o₂ o₃ o₄ : List ℕ)
+    : Type 0 where
+  pub fits : length out ≡ room
+  pub around : o₁ ≡ around (p .«small_at») (p .tail) to s out
+  pub strings : o₂ ≡ sets o₁ (p .«small_at») (padded (p .«small_at») (region (p .strings) (newStrings p s value id)))
+  pub counts : o₃ ≡ writeAll (countWords (z .overflows) (z .storage)) o₂
+  pub places : o₄ ≡ relocated (p .layout) s (moveTail p to) o₃
+  pub long : length o₄ ≡ length out
 
 module _ (p : Places) (s value : List ℕ) (id : ℕ) (x : Shape) (z : Sizes) (to room : ℕ) (rd : Ready p s value id x z to room) where
   sc : Sectioned p s
@@ -65,40 +79,42 @@ module _ (p : Places) (s value : List ℕ) (id : ℕ) (x : Shape) (z : Sizes) (t
   pub finish-room : Finishable p s id room
   finish-room = record { laid = rd .asked .laid; known = rd .asked .known; holds = around-room .frontRoom; limit = rd .limit }
 
-  abbrev move : Move
-  move = record { from = p .tail; to = to; cause = Strings }
-
-  move-is : move ≡ rebuilding (p .layout) ts s
+  move-is : moveTail p to ≡ rebuilding (p .layout) ts s
   move-is = λ j. record { from = sc .tailFrom j; to = to-is j; cause = Strings }
 
-  pub movable : Movable (p .layout) s move room
+  pub movable : Movable (p .layout) s (moveTail p to) room
   movable =
       subst⁻¹ (λ (m : Move). Movable (p .layout) s m room) move-is
-      (rebuild-movable (p .layout) s (rd .asked .laid .placed .fits) (headers-in (p .layout) s .passed (rd .asked .laid .admitted .header))
-      room (rd .limit) ts
+      (rebuild-movable (p .layout) s room
+      (record {
+        fits = rd .asked .laid .placed .fits;
+        headers = headers-in (p .layout) s .passed (rd .asked .laid .admitted .header);
+        limit = rd .limit;
+      }) ts
       (rd .long ∙ ap (λ (t : ℕ). length s - t + to) (sc .tailFrom) ∙ ap (λ (t : ℕ). length s - tailAt (p .layout) s + t) to-is))
 
   -- ---- what they leave
 
-  module _ (out o₁ o₂ o₃ o₄ : List ℕ) (n : length out ≡ room) (e₁ : o₁ ≡ around (p .«small_at») (p .tail) to s out)
-      (e₂ : o₂ ≡ sets o₁ (p .«small_at») (padded (p .«small_at») (region (p .strings) ts)))
-      (e₃ : o₃ ≡ writeAll (countWords (z .overflows) (z .storage)) o₂)
-      (e₄ : o₄ ≡ relocated (p .layout) s move o₃) where
+  module _ {out o₁ o₂ o₃ o₄ : List ℕ} (w : Rewritten p s value id z to room out o₁ o₂ o₃ o₄) where
     spliced : o₂ ≡ splice (smallAt (p .layout) s) (tailAt (p .layout) s) (padded (smallAt (p .layout) s) (region (stringsIn s) ts)) s
     spliced =
         let a : ℕ = smallAt (p .layout) s in
         let new : List ℕ = padded a (region (stringsIn s) ts) in
-        spliced-is a (tailAt (p .layout) s) new s out (omega (arith, sc)) (omega (arith, sc))
-        (n ∙ rd .long ∙ ap (λ (t : ℕ). length s - t + to) (sc .tailFrom)
-        ∙ ap (λ (t : ℕ). length s - tailAt (p .layout) s + t) to-is) o₁ o₂
-        (e₁ ∙ rw (sc .tailFrom, to-is, sc .smallFrom))
-        (e₂ ∙ rw (sc .smallFrom, sc .strings))
+        spliced-is a (tailAt (p .layout) s) new s out
+        (record {
+          order = omega (arith, sc);
+          most = omega (arith, sc);
+          fits = w .fits ∙ rd .long ∙ ap (λ (t : ℕ). length s - t + to) (sc .tailFrom)
+              ∙ ap (λ (t : ℕ). length s - tailAt (p .layout) s + t) to-is;
+        }) o₁ o₂
+        (w .around ∙ rw (sc .tailFrom, to-is, sc .smallFrom))
+        (w .strings ∙ rw (sc .smallFrom, sc .strings))
 
     rebuilt : o₄ ≡ rebuild (p .layout) ts s
     rebuilt =
-        e₄ ∙ ap (λ (m : Move). relocated (p .layout) s m o₃) move-is
+        w .places ∙ ap (λ (m : Move). relocated (p .layout) s m o₃) move-is
         ∙ ap (relocated (p .layout) s (rebuilding (p .layout) ts s))
-        (e₃
+        (w .counts
         ∙ rw (
           overflows-are p s (rd .asked .laid .placed) id x z (rd .measured) (asString value) (rd .shaped),
           storage-is p s
@@ -107,12 +123,11 @@ module _ (p : Places) (s value : List ℕ) (id : ℕ) (x : Shape) (z : Sizes) (t
         ))
         ∙ rebuild-is (p .layout) ts s
 
-    pub patch-put : (o₅ : List ℕ) (r : Answer) → length o₄ ≡ room
-        → Answers (made (finished (p .layout) s id value o₄)) r o₄ o₅
+    pub patch-put : (o₅ : List ℕ) (r : Answer) → Answers (made (finished (p .layout) s id value o₄)) r o₄ o₅
         → Answers (made (patchedString (p .layout) s id value)) r out o₅
     unfolding patchedString changed
-    patch-put o₅ r m a =
+    patch-put o₅ r a =
         let k : length (finished (p .layout) s id value o₄) ≡ length o₄
-        = length-finished (p .layout) s value o₄ id (omega (arith, header-room)) in
+        = length-finished (p .layout) s value o₄ id (omega (arith, header-room, w .long, w .fits)) in
         rw (rd .asked .moves, ← rebuilt)
-        (answers-over (finished (p .layout) s id value o₄) o₄ out o₅ r (sym k) (n ∙ sym m ∙ sym k) a)
+        (answers-over (finished (p .layout) s id value o₄) o₄ out o₅ r (sym k) (sym (w .long) ∙ sym k) a)

@@ -36,16 +36,18 @@ kind-words : (l : Layout) (s : List ℕ) → kindIn l s ≡ entryIn (kindsAt l s
 unfolding kindIn
 kind-words l s = refl
 
-module _ (p : Places) (s : List ℕ) (h : Placed p s) (n m : ℕ) (e : n ≡ covered (entryIn (p .«kinds_at») kindEntry s) (p .kinds))
-    (f : m ≡ identified (entryIn (p .«kinds_at») kindEntry s) (p .kinds)) where
+-- n strings and m identifiers are what the kinds of the image cover
+module _ (p : Places) (s : List ℕ) (h : Placed p s) (n m : ℕ)
+    (sums : (n ≡ covered (entryIn (p .«kinds_at») kindEntry s) (p .kinds))
+    × (m ≡ identified (entryIn (p .«kinds_at») kindEntry s) (p .kinds))) where
   words : entryIn (p .«kinds_at») kindEntry s ≡ kindIn (p .layout) s
   words = ap (λ (at : ℕ). entryIn at kindEntry s) (sectioned p s h .kindsFrom) ∙ sym (kind-words (p .layout) s)
 
   both-sums : (n ≡ covered (kindIn (p .layout) s) (kindsIn s)) × (m ≡ identified (kindIn (p .layout) s) (kindsIn s))
   both-sums =
       let k : p .kinds ≡ kindsIn s = sectioned p s h .kinds in (
-        e ∙ ap (λ (w : ℕ → ℕ). covered w (p .kinds)) words ∙ ap (λ (j : ℕ). covered (kindIn (p .layout) s) j) k,
-        f ∙ ap (λ (w : ℕ → ℕ). identified w (p .kinds)) words ∙ ap (λ (j : ℕ). identified (kindIn (p .layout) s) j) k,
+        sums .0 ∙ ap (λ (w : ℕ → ℕ). covered w (p .kinds)) words ∙ ap (λ (j : ℕ). covered (kindIn (p .layout) s) j) k,
+        sums .1 ∙ ap (λ (w : ℕ → ℕ). identified w (p .kinds)) words ∙ ap (λ (j : ℕ). identified (kindIn (p .layout) s) j) k,
       )
 
   pub strings-differ : (n ≡ p .strings → ⊥) → false ≡ kindsGood (p .layout) s

@@ -63,9 +63,9 @@ module _ (overflows k x : ℕ) (r : Bool) (e : r ≡ isFull x) where
   unfolding numbered
   past-pairs h g = rw (← e, not-false r h, le-ltb k overflows g)
 
-  pub own-number : not r ≡ false → k < overflows → (o : ℕ) → o ≡ valueOf entryOffset x → eqb o k ≡ numbered overflows k x
+  pub own-number : not r ≡ false → k < overflows → eqb (valueOf entryOffset x) k ≡ numbered overflows k x
   unfolding numbered
-  own-number h g o f = rw (← e, not-false r h, lt-ltb k overflows g, f)
+  own-number h g = rw (← e, not-false r h, lt-ltb k overflows g)
 
 -- a numbered overflow entry has its pair
 pub in-pairs : (overflows k x : ℕ) → numbered overflows k x ≡ true → isFull x ≡ true → k < overflows
@@ -75,16 +75,31 @@ in-pairs overflows k x t f =
 
 -- ---- the place of an entry
 
-module _ (s : List ℕ) (at k x : ℕ) (w r : Bool) (e : w ≡ isWide x) (g : r ≡ isFull x) where
-  pub pair-place : r ≡ true → (pair a n : ℕ) → pair ≡ entryAt at overflowEntry k → a ≡ numberFrom pair overflowOffset s
-      → n ≡ numberFrom pair overflowLength s → record { wide = w; at = a; count = n } ≡ placeOf (pairIn at s) k x
-  unfolding placeOf
-  pair-place t pair a n h f d = rw (← g, t, ← e, f, d, h)
+-- the flags of an entry
+pub record Flags (x : ℕ) (wide full : Bool) : Type 0 where
+  pub widths : wide ≡ isWide x
+  pub fills : full ≡ isFull x
 
-  pub own-place : r ≡ false → (a n : ℕ) → a ≡ valueOf entryOffset x → n ≡ valueOf entryLength x
+-- an entry's offset and length, read from pair k of a table
+pub record PairRead (s : List ℕ) (at k pair a n : ℕ) : Type 0 where
+  pub place : pair ≡ entryAt at overflowEntry k
+  pub offset : a ≡ numberFrom pair overflowOffset s
+  pub count : n ≡ numberFrom pair overflowLength s
+
+-- and from the entry itself
+pub record OwnRead (x a n : ℕ) : Type 0 where
+  pub offset : a ≡ valueOf entryOffset x
+  pub count : n ≡ valueOf entryLength x
+
+module _ (s : List ℕ) (at k x : ℕ) (w r : Bool) (f : Flags x w r) where
+  pub pair-place : r ≡ true → (pair a n : ℕ) → PairRead s at k pair a n
       → record { wide = w; at = a; count = n } ≡ placeOf (pairIn at s) k x
   unfolding placeOf
-  own-place t a n f d = rw (← g, t, ← e, f, d)
+  pair-place t pair a n h = rw (← f .fills, t, ← f .widths, h .offset, h .count, h .place)
+
+  pub own-place : r ≡ false → (a n : ℕ) → OwnRead x a n → record { wide = w; at = a; count = n } ≡ placeOf (pairIn at s) k x
+  unfolding placeOf
+  own-place t a n h = rw (← f .fills, t, ← f .widths, h .offset, h .count)
 
 -- the pairs of an image's overflow table
 over-pairs : (l : Layout) (s : List ℕ) → overIn l s ≡ pairIn (overAt l s) s
@@ -155,75 +170,105 @@ module _ (p : Places) (s : List ℕ) (h : Placed p s) where
       ap (λ (v : ℕ → Pair). placeOf v k x)
       (ap (λ (at : ℕ). pairIn at s) (sectioned p s h .overFrom) ∙ sym (over-pairs (p .layout) s))
 
-  -- ---- a string in storage
+  pub small-word : (i x a : ℕ) → x ≡ wordAt s a → a ≡ p .«small_at» + i * 4 → x ≡ smallIn (p .layout) s i
+  unfolding smallIn
+  small-word i x a e f = e ∙ ap (λ (b : ℕ). wordAt s b) (f ∙ ap (λ (b : ℕ). b + i * 4) (sectioned p s h .smallFrom))
 
-  module _ (q : entry.Place) (n : ℕ) (e : n ≡ sizeOf q) where
-    pub leaves-storage : p .«storage_size» < q .at + n → false ≡ stored (p .layout) s q
-    unfolding stored
-    leaves-storage g = rw (← e, ← sectioned p s h .storage, lt-leb (q .at + n) (p .«storage_size») g)
+-- ---- a string in storage
 
-    module _ (g : q .at + n ≤ p .«storage_size») where
-      pub wide-stored : q .wide ≡ true → true ≡ stored (p .layout) s q
-      unfolding stored bytesNarrow
-      wide-stored t = rw (← e, ← sectioned p s h .storage, le-leb (q .at + n) (p .«storage_size») g, t)
+-- a string of n bytes ends in storage
+pub record InStorage (p : Places) (s : List ℕ) (q : entry.Place) (n : ℕ) : Type 0 where
+  pub placed : Placed p s
+  pub size : n ≡ sizeOf q
+  pub ends : q .at + n ≤ p .«storage_size»
 
-      pub narrow-stored : q .wide ≡ false → (r : Bool) → r ≡ allNarrow s (p .«storage_at» + q .at) (q .count)
-          → r ≡ stored (p .layout) s q
-      unfolding stored bytesNarrow allNarrow
-      narrow-stored t r f =
-          rw (← e, ← sectioned p s h .storage, le-leb (q .at + n) (p .«storage_size») g, t, ← sectioned p s h .storageFrom, f)
+module _ (p : Places) (s : List ℕ) (q : entry.Place) (n : ℕ) where
+  pub leaves-storage : Placed p s → n ≡ sizeOf q → p .«storage_size» < q .at + n → false ≡ stored (p .layout) s q
+  unfolding stored
+  leaves-storage h e g = rw (← e, ← sectioned p s h .storage, lt-leb (q .at + n) (p .«storage_size») g)
 
-  -- ---- an entry
+  module _ (h : InStorage p s q n) where
+    pub wide-stored : q .wide ≡ true → true ≡ stored (p .layout) s q
+    unfolding stored bytesNarrow
+    wide-stored t = rw (← h .size, ← sectioned p s (h .placed) .storage, le-leb (q .at + n) (p .«storage_size») (h .ends), t)
 
-  module _ (k x : ℕ) (r : Bool) (e : r ≡ numbered (p .overflows) k x) where
-    pub entry-misnumbered : not r ≡ true → false ≡ entryGood (p .layout) s k x
+    pub narrow-stored : q .wide ≡ false → (r : Bool) → r ≡ allNarrow s (p .«storage_at» + q .at) (q .count)
+        → r ≡ stored (p .layout) s q
+    unfolding stored bytesNarrow allNarrow
+    narrow-stored t r f =
+        let z : Sectioned p s = sectioned p s (h .placed) in
+        rw (← h .size, ← z .storage, le-leb (q .at + n) (p .«storage_size») (h .ends), t, ← z .storageFrom, f)
+
+-- ---- an entry
+
+-- entry x has its number, with k overflow entries before it
+pub record Numbered (p : Places) (s : List ℕ) (k x : ℕ) (r : Bool) : Type 0 where
+  pub placed : Placed p s
+  pub tested : r ≡ numbered (p .overflows) k x
+  pub good : not r ≡ false
+
+module _ (p : Places) (s : List ℕ) (k x : ℕ) (r : Bool) where
+  pub entry-misnumbered : Placed p s → r ≡ numbered (p .overflows) k x → not r ≡ true → false ≡ entryGood (p .layout) s k x
+  unfolding entryGood
+  entry-misnumbered h e g = rw (← sectioned p s h .overflows, ← e, not-true r g)
+
+  module _ (h : Numbered p s k x r) where
+    pub entry-numbered : (q : entry.Place) (t : Bool) → q ≡ placeOf (pairIn (p .«over_at») s) k x → t ≡ stored (p .layout) s q
+        → t ≡ entryGood (p .layout) s k x
     unfolding entryGood
-    entry-misnumbered g = rw (← sectioned p s h .overflows, ← e, not-true r g)
+    entry-numbered q t f d =
+        rw (← sectioned p s (h .placed) .overflows, ← h .tested, not-false r (h .good), ← image-place p s (h .placed) k x, ← f, d)
 
-    pub entry-numbered : not r ≡ false → (q : entry.Place) (t : Bool) → q ≡ placeOf (pairIn (p .«over_at») s) k x
-        → t ≡ stored (p .layout) s q → t ≡ entryGood (p .layout) s k x
-    unfolding entryGood
-    entry-numbered g q t f d = rw (← sectioned p s h .overflows, ← e, not-false r g, ← image-place k x, ← f, d)
+    pub has-pair : isFull x ≡ true → p .«over_at» + k * 8 + 8 ≤ length s
+    has-pair f =
+        let z : Sectioned p s = sectioned p s (h .placed) in
+        omega (arith, in-pairs (p .overflows) k x (sym (h .tested) ∙ not-false r (h .good)) f)
 
-    pub has-pair : not r ≡ false → isFull x ≡ true → p .«over_at» + k * 8 + 8 ≤ length s
-    has-pair g f =
-        let z : Sectioned p s = sectioned p s h in
-        omega (arith, in-pairs (p .overflows) k x (sym e ∙ not-false r g) f)
+-- ---- the walk
 
-  -- ---- the walk
+-- the first i entries are good, and k of them overflow
+pub record Walked (p : Places) (s : List ℕ) (i k : ℕ) : Type 0 where
+  pub placed : Placed p s
+  pub count : k ≡ overBefore (smallIn (p .layout) s) i
+  pub good : allBelow i (entryGoodAt (p .layout) s) ≡ true
 
-  -- the word read and the count carried are the walk's
-  module _ (i k x a : ℕ) (e : x ≡ wordAt s a) (f : a ≡ p .«small_at» + i * 4) (g : k ≡ overBefore (smallIn (p .layout) s) i) where
-    pub small-word : x ≡ smallIn (p .layout) s i
-    unfolding smallIn
-    small-word = e ∙ ap (λ (b : ℕ). wordAt s b) (f ∙ ap (λ (b : ℕ). b + i * 4) (sectioned p s h .smallFrom))
+-- entry i is next: its word x is read at a
+pub record EntryRead (p : Places) (s : List ℕ) (i k x a : ℕ) : Type 0 where
+  pub walked : Walked p s i k
+  pub known : i < p .strings
+  pub word : x ≡ wordAt s a
+  pub place : a ≡ p .«small_at» + i * 4
 
-    walked : entryGood (p .layout) s k x ≡ entryGoodAt (p .layout) s i
-    unfolding entryGoodAt
-    walked = rw (g, small-word)
+module _ (p : Places) (s : List ℕ) (i k x a : ℕ) (h : EntryRead p s i k x a) where
+  word-is : x ≡ smallIn (p .layout) s i
+  word-is = small-word p s (h .walked .placed) i x a (h .word) (h .place)
 
-    -- one more entry, whose test answered r
-    module _ (r : Bool) (d : r ≡ entryGood (p .layout) s k x) where
-      pub entries-next : not r ≡ false → allBelow i (entryGoodAt (p .layout) s) ≡ true
-          → allBelow (i + 1) (entryGoodAt (p .layout) s) ≡ true
-      entries-next z a = pass-next (entryGoodAt (p .layout) s) i r (d ∙ walked) z a
+  walked : entryGood (p .layout) s k x ≡ entryGoodAt (p .layout) s i
+  unfolding entryGoodAt
+  walked = rw (h .walked .count, word-is)
 
-      pub entry-fails : not r ≡ true → i < p .strings → false ≡ stringsGood (p .layout) s
-      entry-fails z l =
-          let b : false ≡ allBelow (stringsIn s) (entryGoodAt (p .layout) s)
-          = pass-stop (entryGoodAt (p .layout) s) (stringsIn s) i r (omega (arith, sectioned p s h .strings)) (d ∙ walked) z in
-          ap (λ (a : Bool). both a (eqb (overBefore (smallIn (p .layout) s) (stringsIn s)) (overflowsIn s))) b
-          ∙ all-strings (p .layout) s
+  -- one more entry, whose test answered r
+  module _ (r : Bool) (d : r ≡ entryGood (p .layout) s k x) where
+    pub entries-next : not r ≡ false → allBelow (i + 1) (entryGoodAt (p .layout) s) ≡ true
+    entries-next z = pass-next (entryGoodAt (p .layout) s) i r (d ∙ walked) z (h .walked .good)
 
-    pub count-next : (r : Bool) (b : ℕ) → r ≡ isFull x → b ≡ ifSet r 1 → k + b ≡ overBefore (smallIn (p .layout) s) (i + 1)
-    unfolding overBefore
-    count-next r b d z = rw (add-one, ← small-word, ← d, z, g) (ap (λ (m : ℕ). overBefore (smallIn (p .layout) s) i + m) (set-bit r))
+    pub entry-fails : not r ≡ true → false ≡ stringsGood (p .layout) s
+    entry-fails z =
+        let l : i < stringsIn s = omega (arith, h .known, sectioned p s (h .walked .placed) .strings) in
+        let b : false ≡ allBelow (stringsIn s) (entryGoodAt (p .layout) s)
+        = pass-stop (entryGoodAt (p .layout) s) (stringsIn s) i r l (d ∙ walked) z in
+        ap (λ (a : Bool). both a (eqb (overBefore (smallIn (p .layout) s) (stringsIn s)) (overflowsIn s))) b
+        ∙ all-strings (p .layout) s
 
-  pub entries-end : (i k : ℕ) → i ≡ p .strings → k ≡ overBefore (smallIn (p .layout) s) i
-      → allBelow i (entryGoodAt (p .layout) s) ≡ true
-      → eqb k (p .overflows) ≡ stringsGood (p .layout) s
-  entries-end i k e g a =
-      let z : Sectioned p s = sectioned p s h in
-      let b : i ≡ stringsIn s = e ∙ z .strings in
-      rw (g, z .overflows, b) (ap (λ (y : Bool). both y (eqb (overBefore (smallIn (p .layout) s) (stringsIn s)) (overflowsIn s)))
-      (sym (rw b at a)) ∙ all-strings (p .layout) s)
+  pub count-next : (r : Bool) (b : ℕ) → r ≡ isFull x → b ≡ ifSet r 1 → k + b ≡ overBefore (smallIn (p .layout) s) (i + 1)
+  unfolding overBefore
+  count-next r b d z =
+      rw (add-one, ← word-is, ← d, z, h .walked .count) (ap (λ (m : ℕ). overBefore (smallIn (p .layout) s) i + m) (set-bit r))
+
+pub entries-end : (p : Places) (s : List ℕ) (i k : ℕ) → Walked p s i k → i ≡ p .strings
+    → eqb k (p .overflows) ≡ stringsGood (p .layout) s
+entries-end p s i k h e =
+    let z : Sectioned p s = sectioned p s (h .placed) in
+    let b : i ≡ stringsIn s = e ∙ z .strings in
+    rw (h .count, z .overflows, b) (ap (λ (y : Bool). both y (eqb (overBefore (smallIn (p .layout) s) (stringsIn s)) (overflowsIn s)))
+    (sym (rw b at (h .good))) ∙ all-strings (p .layout) s)

@@ -93,71 +93,96 @@ module _ (p : Places) (s : List ℕ) (h : Placed p s) where
             ∙ sym (rw e at (rank-in-run words (kindsIn s) c (id - covered words c) m (omega (arith, covered-next words c)))),
       )
 
-  module _ (r : Run) (g : RunOf p s r) where
-    says-of : Says r
-    says-of = subst⁻¹ Says (g .is) (says (r .count) (g .most))
+-- a run of an image covers id
+pub record Covers (p : Places) (s : List ℕ) (r : Run) (id : ℕ) : Type 0 where
+  pub placed : Placed p s
+  pub run : RunOf p s r
+  pub reached : r .start ≤ id
+  pub ends : id < r .end
 
-    module _ (id : ℕ) (b : r .start ≤ id) (d : id < r .end) where
-      pub flag-of : r .identifier ≡ isIdentifier (p .layout) s id
-      flag-of = says-of id b d .0
+module _ (p : Places) (s : List ℕ) (r : Run) (id : ℕ) (h : Covers p s r id) where
+  says-of : (r .identifier ≡ isIdentifier (p .layout) s id)
+      × (r .rank + ifSet (r .identifier) (id - r .start) ≡ rankOf (p .layout) s id)
+  says-of =
+      subst⁻¹ (Says p s (h .placed)) (h .run .is) (says p s (h .placed) (r .count) (h .run .most)) id (h .reached) (h .ends)
 
-      pub rank-is : (n : ℕ) → n ≡ ifSet (r .identifier) (id - r .start) → r .rank + n ≡ rankOf (p .layout) s id
-      rank-is n e = rw e (says-of id b d .1)
+  pub flag-of : r .identifier ≡ isIdentifier (p .layout) s id
+  flag-of = says-of .0
 
-      -- and the rank is no more than the id
-      pub rank-most : (n : ℕ) → n ≡ ifSet (r .identifier) (id - r .start) → r .rank + n ≤ id
-      unfolding rankOf
-      rank-most n e = rw (rank-is n e) (bits-most (isIdentifier (p .layout) s) id)
+  pub rank-is : (n : ℕ) → n ≡ ifSet (r .identifier) (id - r .start) → r .rank + n ≡ rankOf (p .layout) s id
+  rank-is n e = rw e (says-of .1)
+
+  -- and the rank is no more than the id
+  pub rank-most : (n : ℕ) → n ≡ ifSet (r .identifier) (id - r .start) → r .rank + n ≤ id
+  unfolding rankOf
+  rank-most n e = rw (rank-is n e) (bits-most (isIdentifier (p .layout) s) id)
 
 -- ---- the runs of an admitted image
 
-module _ (p : Places) (s : List ℕ) (h : Laid p s) (r : Run) (g : RunOf p s r) where
+-- a run of an admitted image, or the start of a pass over its runs
+pub record RunIn (p : Places) (s : List ℕ) (r : Run) : Type 0 where
+  pub laid : Laid p s
+  pub run : RunOf p s r
+
+-- kind k was read: its word x covers n ids, and says whether they are identifiers
+pub record KindRead (p : Places) (s : List ℕ) (k x n : ℕ) (f : Bool) : Type 0 where
+  pub word : x ≡ kindIn (p .layout) s k
+  pub covers : n ≡ runOf x
+  pub flag : f ≡ isIdentifierRun x
+
+module _ (p : Places) (s : List ℕ) (r : Run) (h : RunIn p s r) where
   abbrev kinds : ℕ → ℕ
   kinds = kindIn (p .layout) s
 
   pub known-of : Known kinds (r .count) r
-  known-of = subst⁻¹ (λ (y : Run). Known kinds (r .count) y) (g .is) (known kinds (r .count))
+  known-of = subst⁻¹ (λ (y : Run). Known kinds (r .count) y) (h .run .is) (known kinds (r .count))
 
   -- behind a run that ends at or before an id there is another
   pub more-runs : (id : ℕ) → id < p .strings → r .end ≤ id → r .count < p .kinds
   more-runs id b d =
-      let z : Sectioned p s = sectioned p s (h .placed) in
+      let z : Sectioned p s = sectioned p s (h .laid .placed) in
       let k : Known kinds (r .count) r = known-of in
       elim (below-or (r .count) (kindsIn s)) [
         | inl l ↦ omega arith
-        | inr l ↦ absurd (omega (arith, h .admitted .covers, covered-le kinds (kindsIn s) (r .count) l))
+        | inr l ↦ absurd (omega (arith, h .laid .admitted .covers, covered-le kinds (kindsIn s) (r .count) l))
       ]
 
   module _ (m : r .count < p .kinds) where
     -- it ends within the ids, and there are no more identifiers than all
     pub next-ends : (r .end + runOf (kinds (r .count)) ≤ p .strings) × (identified kinds (r .count) ≤ p .identifiers)
     next-ends =
-        let z : Sectioned p s = sectioned p s (h .placed) in
+        let z : Sectioned p s = sectioned p s (h .laid .placed) in
         let k : Known kinds (r .count) r = known-of in (
-          omega (arith, h .admitted .covers, covered-next kinds (r .count), covered-le kinds (suc (r .count)) (kindsIn s) (omega arith)),
-          omega (arith, h .admitted .identifiers, identified-le kinds (r .count) (kindsIn s) (omega arith)),
+          omega (
+            arith,
+            h .laid .admitted .covers,
+            covered-next kinds (r .count),
+            covered-le kinds (suc (r .count)) (kindsIn s) (omega arith),
+          ),
+          omega (arith, h .laid .admitted .identifiers, identified-le kinds (r .count) (kindsIn s) (omega arith)),
         )
 
-    pub next-is : (x n b : ℕ) (f : Bool) → x ≡ kinds (r .count) → n ≡ runOf x → f ≡ isIdentifierRun x
-        → b ≡ ifSet (r .identifier) (r .end - r .start)
-        → record { count = r .count + 1; start = r .end; end = r .end + n; identifier = f; rank = r .rank + b } ≡ runAt kinds
-        (r .count + 1)
+    pub next-run-of : (q : Run) → q ≡ runAt kinds (r .count + 1) → RunOf p s q
     unfolding runAt
-    next-is x n b f ex en ef eb =
-        let k : Known kinds (r .count) r = known-of in
-        let e : r .end + n ≡ covered kinds (suc (r .count)) = rw (k .end, en, ex) (sym (covered-next kinds (r .count))) in
-        let i : r .rank + b ≡ identified kinds (r .count) = rw eb (k .rank) in
-        rw (add-one, e, i, k .end, ef, ex)
+    next-run-of q e =
+        let z : Sectioned p s = sectioned p s (h .laid .placed) in
+        let f : q .count ≡ suc (r .count) = ap (λ (y : Run). y .count) (rw add-one at e) in
+        record { is = rw add-one at e ∙ ap (runAt kinds) (sym f); most = omega arith }
 
-    pub next-run-of : (q : Run) → q ≡ runAt kinds (r .count + 1) → q .count ≡ r .count + 1 → RunOf p s q
-    next-run-of q e f =
-        let z : Sectioned p s = sectioned p s (h .placed) in
-        record { is = e ∙ ap (runAt kinds) (sym f); most = omega arith }
+  pub next-is : (x n b : ℕ) (f : Bool) → KindRead p s (r .count) x n f → b ≡ ifSet (r .identifier) (r .end - r .start)
+      → record { count = r .count + 1; start = r .end; end = r .end + n; identifier = f; rank = r .rank + b } ≡ runAt kinds
+      (r .count + 1)
+  unfolding runAt
+  next-is x n b f w eb =
+      let k : Known kinds (r .count) r = known-of in
+      let e : r .end + n ≡ covered kinds (suc (r .count))
+      = rw (k .end, w .covers, w .word) (sym (covered-next kinds (r .count))) in
+      let i : r .rank + b ≡ identified kinds (r .count) = rw eb (k .rank) in
+      rw (add-one, e, i, k .end, w .flag, w .word)
 
 -- the rank of an identifier is the number of a hash slot
-pub slot-in : (p : Places) (s : List ℕ) → Laid p s → (id n : ℕ) → id < p .strings → n ≡ rankOf (p .layout) s id
-    → isIdentifier (p .layout) s id ≡ true
-    → n < p .identifiers
-slot-in p s h id n b e f =
+pub slot-in : (p : Places) (s : List ℕ) → Laid p s → (id : ℕ) → id < p .strings → isIdentifier (p .layout) s id ≡ true
+    → rankOf (p .layout) s id < p .identifiers
+slot-in p s h id b f =
     let z : Sectioned p s = sectioned p s (h .placed) in
     omega (arith, rank-lt (h .admitted) id (omega arith) f)

@@ -6,7 +6,6 @@ use Prim.Native.Nat.{ℕ, zero, suc, _+_, _*_, _≤_, _<_}
 use native.Mathlib.Numerals.{add-one}
 use native.Mathlib.Omega.{arith}
 use lib.ListN.{length}
-use Rattle.bits.specs.Bytes.{wordAt}
 use Rattle.format.specs.Entry as entry
 use Rattle.image.specs.Sections.{stringsIn, storageIn}
 use Rattle.image.specs.Strings.{isFull, overBefore, placeOf, locate, smallIn, pairIn, overIn, placeAt, unitSize, sizeOf}
@@ -16,7 +15,7 @@ use Rattle.sections.specs.Places.{Placed}
 use Rattle.sections.proofs.SectionLaws.{Sectioned, sectioned}
 use Rattle.string_tables.specs.declared.Place.{Place}
 use Rattle.string_tables.specs.Strings.{asPlace}
-use Rattle.string_tables.proofs.StringLaws.{small-word, image-place}
+use Rattle.string_tables.proofs.StringLaws.{image-place}
 use Rattle.string_walk.specs.declared.Cursor.{Cursor}
 use Rattle.string_walk.specs.declared.Location.{Location}
 use Rattle.string_walk.specs.declared.Location.the-variants.{At, Refused}
@@ -51,10 +50,6 @@ count-in q = go (q .wide) (q .count)
     go : (w : Bool) (n : ℕ) → n ≤ n * unitSize w
     go true n = omega arith
     go false n = omega arith
-
-module _ (p : Places) (s : List ℕ) (h : Placed p s) where
-  pub entry-is : (i x a : ℕ) → x ≡ wordAt s a → a ≡ p .«small_at» + i * 4 → x ≡ smallIn (p .layout) s i
-  entry-is i x a e f = small-word p s h i (overBefore (smallIn (p .layout) s) i) x a e f refl
 
 -- ---- the place that the entry x of string i gives, with k overflow entries before it
 

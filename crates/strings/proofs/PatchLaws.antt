@@ -2,7 +2,7 @@
 use mathlib.Core.Path.{_≡_, refl, ap, _∙_}
 use mathlib.Core.Bool.{Bool, true, false, not}
 use mathlib.Core.List.{List, _∷_, _++_}
-use Prim.Native.Nat.{ℕ, _≤_, _<_}
+use Prim.Native.Nat.{ℕ, _<_}
 use native.Mathlib.Omega.{arith}
 use borrow.Author.Tests.{le-leb, lt-leb, ne-eqb, not-true, not-false}
 use lib.Dec.{leb, eqb}
@@ -52,86 +52,144 @@ module _ (l : Layout) (s : List ℕ) (r : Admission) (e : r ≡ admission l s) w
   unfolding patchByValue byValueRefusal
   value-refused old new out k n f g = refused-all _ (patchedString l s (findId l s (utf16 old)) new) out k n f g
 
-  -- admitted: what comes behind decides
-  module _ (p : Places) (f : r ≡ answer.Laid p) where
-    strings-is : p .strings ≡ stringsIn s
-    unfolding placesOf
-    strings-is = ap (λ (q : Places). q .strings) (laid-is l s r e p f .1)
+-- ---- admitted: what comes behind decides
 
-    module _ (id : ℕ) (value out : List ℕ) where
-      behind : patchById l s id value ≡ outcomeFor
-          (judge (check 7 (leb (stringsIn s) id) ∷ check 8 (not (isUtf8 value)) ∷ resultChecks l s id value))
-          (patchedString l s id value)
-      unfolding patchById byIdRefusal
-      behind = ap (λ (n : ℕ). outcomeFor n (patchedString l s id value)) (laid-then l s r e p f _)
+-- the image is admitted, and has its places
+pub record Admits (l : Layout) (s : List ℕ) (r : Admission) (p : Places) : Type 0 where
+  pub is : r ≡ admission l s
+  pub laid : r ≡ answer.Laid p
 
-      pub id-absent : (loc : Location) → Locates p s id refusals.id loc → (m : ℕ) → loc ≡ location.Refused m → (n : ℕ)
-          → n ≡ location-number loc
-          → Answers (roomed (length out) (patchById l s id value)) (Refused n) out out
-      unfolding judge roomed
-      id-absent loc h m u n v =
-          let (w, b) = located-none p s id refusals.id loc h m u in
-          let x : n ≡ 7 = v ∙ ap location-number u ∙ w in
-          rw (behind, ← strings-is, le-leb (p .strings) id b, x) (refl, refl)
+module _ (l : Layout) (s : List ℕ) (r : Admission) (p : Places) (h : Admits l s r p) where
+  strings-is : p .strings ≡ stringsIn s
+  unfolding placesOf
+  strings-is = ap (λ (q : Places). q .strings) (laid-is l s r (h .is) p (h .laid) .1)
 
-      module _ (h : id < p .strings) (b : Bool) (g : b ≡ isUtf8 value) where
-        pub id-value : not b ≡ true → Answers (roomed (length out) (patchById l s id value)) (Refused 8) out out
-        unfolding judge roomed
-        id-value t = rw (behind, ← strings-is, lt-leb (p .strings) id h, ← g, not-true b t) (refl, refl)
+  layout-is : p .layout ≡ l
+  layout-is = laid-layout l s r (h .is) p (h .laid)
 
-        known-is : not b ≡ false → patchById l s id value ≡ patchKnown l s id value
-        unfolding patchKnown judge
-        known-is t = behind ∙ rw (← strings-is, lt-leb (p .strings) id h, ← g, not-false b t)
+-- ---- by id
 
-        pub id-known : not b ≡ false → (a : Answer) (o : List ℕ)
-            → Answers (roomed (length out) (patchKnown (p .layout) s id value)) a out o
-            → Answers (roomed (length out) (patchById l s id value)) a out o
-        id-known t a o k = rw (known-is t) (rw (laid-layout l s r e p f) at k)
+-- string id was located
+pub record Located (l : Layout) (s : List ℕ) (r : Admission) (p : Places) (id : ℕ) (loc : Location) : Type 0 where
+  pub admits : Admits l s r p
+  pub location : Locates p s id refusals.id loc
 
-    module _ (old new out : List ℕ) where
-      abbrev at : ℕ
-      at = findId l s (utf16 old)
+-- string id is there, and its new value was tested
+pub record ValueTested (l : Layout) (s : List ℕ) (r : Admission) (p : Places) (id : ℕ) (value : List ℕ) (b : Bool) : Type 0 where
+  pub admits : Admits l s r p
+  pub known : id < p .strings
+  pub tested : b ≡ isUtf8 value
 
-      after : patchByValue l s old new
-          ≡ outcomeFor (judge (check 8 (not (isUtf8 old)) ∷ check 8 (not (isUtf8 new)) ∷ check 14 (leb (stringsIn s) at)
-          ∷ resultChecks l s at new)) (patchedString l s at new)
-      unfolding patchByValue byValueRefusal
-      after = ap (λ (n : ℕ). outcomeFor n (patchedString l s at new)) (laid-then l s r e p f _)
+module _ (l : Layout) (s : List ℕ) (r : Admission) (p : Places) (id : ℕ) (value out : List ℕ) where
+  behind : Admits l s r p
+      → patchById l s id value ≡ outcomeFor
+      (judge (check 7 (leb (stringsIn s) id) ∷ check 8 (not (isUtf8 value)) ∷ resultChecks l s id value))
+      (patchedString l s id value)
+  unfolding patchById byIdRefusal
+  behind h = ap (λ (n : ℕ). outcomeFor n (patchedString l s id value)) (laid-then l s r (h .is) p (h .laid) _)
 
-      module _ (b : Bool) (g : b ≡ isUtf8 old) where
-        pub old-value : not b ≡ true → Answers (roomed (length out) (patchByValue l s old new)) (Refused 8) out out
-        unfolding judge roomed
-        old-value t = rw (after, ← g, not-true b t) (refl, refl)
+  pub id-absent : (loc : Location) → Located l s r p id loc → (m : ℕ) → loc ≡ location.Refused m → (n : ℕ)
+      → n ≡ location-number loc
+      → Answers (roomed (length out) (patchById l s id value)) (Refused n) out out
+  unfolding judge roomed
+  id-absent loc h m u n v =
+      let (w, b) = located-none p s id refusals.id loc (h .location) m u in
+      let x : n ≡ 7 = v ∙ ap location-number u ∙ w in
+      rw (behind (h .admits), ← strings-is l s r p (h .admits), le-leb (p .strings) id b, x) (refl, refl)
 
-        module _ (t : not b ≡ false) (c : Bool) (d : c ≡ isUtf8 new) where
-          pub new-value : not c ≡ true → Answers (roomed (length out) (patchByValue l s old new)) (Refused 8) out out
-          unfolding judge roomed
-          new-value u = rw (after, ← g, not-false b t, ← d, not-true c u) (refl, refl)
+  module _ (b : Bool) (h : ValueTested l s r p id value b) where
+    pub id-value : not b ≡ true → Answers (roomed (length out) (patchById l s id value)) (Refused 8) out out
+    unfolding judge roomed
+    id-value t =
+        rw (behind (h .admits), ← strings-is l s r p (h .admits), lt-leb (p .strings) id (h .known), ← h .tested, not-true b t)
+        (refl, refl)
 
-          module _ (u : not c ≡ false) (loc : Location) (h : Locates p s (findId (p .layout) s (utf16 old)) refusals.absent loc) where
-            found-here : findId (p .layout) s (utf16 old) ≡ at
-            found-here = rw (laid-layout l s r e p f)
+    known-is : not b ≡ false → patchById l s id value ≡ patchKnown l s id value
+    unfolding patchKnown judge
+    known-is t =
+        behind (h .admits)
+        ∙ rw (← strings-is l s r p (h .admits), lt-leb (p .strings) id (h .known), ← h .tested, not-false b t)
 
-            pub value-absent : (m : ℕ) → loc ≡ location.Refused m → (n : ℕ) → n ≡ location-number loc
-                → Answers (roomed (length out) (patchByValue l s old new)) (Refused n) out out
-            unfolding judge roomed
-            value-absent m v n w =
-                let (x, k) = located-none p s _ refusals.absent loc h m v in
-                let y : n ≡ 14 = w ∙ ap location-number v ∙ x in
-                rw (after, ← g, not-false b t, ← d, not-false c u, ← strings-is, le-leb (p .strings) at (rw found-here at k), y)
-                (refl, refl)
+    pub id-known : not b ≡ false → (a : Answer) (o : List ℕ)
+        → Answers (roomed (length out) (patchKnown (p .layout) s id value)) a out o
+        → Answers (roomed (length out) (patchById l s id value)) a out o
+    id-known t a o k = rw (known-is t) (rw (layout-is l s r p (h .admits)) at k)
 
-            module _ (id : ℕ) (q : Place) (v : loc ≡ location.At id q) where
-              id-is : id ≡ at
-              id-is = located-at p s _ refusals.absent loc h id q v .0 ∙ found-here
+-- ---- by value
 
-              id-in : id < p .strings
-              id-in = let (x, k, y) = located-at p s _ refusals.absent loc h id q v in rw x k
+-- the old value was tested
+pub record OldTested (l : Layout) (s : List ℕ) (r : Admission) (p : Places) (old : List ℕ) (b : Bool) : Type 0 where
+  pub admits : Admits l s r p
+  pub tested : b ≡ isUtf8 old
 
-              found-is : patchByValue l s old new ≡ patchKnown l s id new
-              unfolding patchKnown judge
-              found-is = after ∙ rw (← g, not-false b t, ← d, not-false c u, ← id-is, ← strings-is, lt-leb (p .strings) id id-in)
+-- it is UTF-8, and the new value was tested
+pub record NewTested (l : Layout) (s : List ℕ) (r : Admission) (p : Places) (old new : List ℕ) (b c : Bool) : Type 0 where
+  pub before : OldTested l s r p old b
+  pub valid : not b ≡ false
+  pub tested : c ≡ isUtf8 new
 
-              pub value-known : (a : Answer) (o : List ℕ) → Answers (roomed (length out) (patchKnown (p .layout) s id new)) a out o
-                  → Answers (roomed (length out) (patchByValue l s old new)) a out o
-              value-known a o k = rw found-is (rw (laid-layout l s r e p f) at k)
+-- that is UTF-8 too, and the old value was sought
+pub record ValueSought (l : Layout) (s : List ℕ) (r : Admission) (p : Places) (old new : List ℕ) (b c : Bool) (loc : Location)
+    : Type 0 where
+  pub before : NewTested l s r p old new b c
+  pub valid : not c ≡ false
+  pub location : Locates p s (findId (p .layout) s (utf16 old)) refusals.absent loc
+
+module _ (l : Layout) (s : List ℕ) (r : Admission) (p : Places) (old new out : List ℕ) where
+  abbrev at : ℕ
+  at = findId l s (utf16 old)
+
+  after : Admits l s r p
+      → patchByValue l s old new
+      ≡ outcomeFor (judge (check 8 (not (isUtf8 old)) ∷ check 8 (not (isUtf8 new)) ∷ check 14 (leb (stringsIn s) at)
+      ∷ resultChecks l s at new)) (patchedString l s at new)
+  unfolding patchByValue byValueRefusal
+  after h = ap (λ (n : ℕ). outcomeFor n (patchedString l s at new)) (laid-then l s r (h .is) p (h .laid) _)
+
+  pub old-value : (b : Bool) → OldTested l s r p old b → not b ≡ true
+      → Answers (roomed (length out) (patchByValue l s old new)) (Refused 8) out out
+  unfolding judge roomed
+  old-value b h t = rw (after (h .admits), ← h .tested, not-true b t) (refl, refl)
+
+  pub new-value : (b c : Bool) → NewTested l s r p old new b c → not c ≡ true
+      → Answers (roomed (length out) (patchByValue l s old new)) (Refused 8) out out
+  unfolding judge roomed
+  new-value b c h u =
+      rw (after (h .before .admits), ← h .before .tested, not-false b (h .valid), ← h .tested, not-true c u) (refl, refl)
+
+  module _ (b c : Bool) (loc : Location) (h : ValueSought l s r p old new b c loc) where
+    admits : Admits l s r p
+    admits = h .before .before .admits
+
+    -- both values are UTF-8: whether there is such a string decides
+    sought : patchByValue l s old new
+        ≡ outcomeFor (judge (check 14 (leb (stringsIn s) at) ∷ resultChecks l s at new)) (patchedString l s at new)
+    unfolding judge
+    sought =
+        after admits ∙ rw (← h .before .before .tested, not-false b (h .before .valid), ← h .before .tested, not-false c (h .valid))
+
+    found-here : findId (p .layout) s (utf16 old) ≡ at
+    found-here = rw (layout-is l s r p admits)
+
+    pub value-absent : (m : ℕ) → loc ≡ location.Refused m → (n : ℕ) → n ≡ location-number loc
+        → Answers (roomed (length out) (patchByValue l s old new)) (Refused n) out out
+    unfolding judge roomed
+    value-absent m v n w =
+        let (x, k) = located-none p s _ refusals.absent loc (h .location) m v in
+        let y : n ≡ 14 = w ∙ ap location-number v ∙ x in
+        rw (sought, ← strings-is l s r p admits, le-leb (p .strings) at (rw found-here at k), y) (refl, refl)
+
+    module _ (id : ℕ) (q : Place) (v : loc ≡ location.At id q) where
+      id-is : id ≡ at
+      id-is = located-at p s _ refusals.absent loc (h .location) id q v .0 ∙ found-here
+
+      id-in : id < p .strings
+      id-in = let (x, k, y) = located-at p s _ refusals.absent loc (h .location) id q v in rw x k
+
+      found-is : patchByValue l s old new ≡ patchKnown l s id new
+      unfolding patchKnown judge
+      found-is = sought ∙ rw (← id-is, ← strings-is l s r p admits, lt-leb (p .strings) id id-in)
+
+      pub value-known : (a : Answer) (o : List ℕ) → Answers (roomed (length out) (patchKnown (p .layout) s id new)) a out o
+          → Answers (roomed (length out) (patchByValue l s old new)) a out o
+      value-known a o k = rw found-is (rw (layout-is l s r p admits) at k)

@@ -49,21 +49,6 @@ decimal-short (suc k) x h = go (below-or x 10) (decimal-short k (x / 10))
     go (inl a) r = omega (arith, one-length x a)
     go (inr b) r = omega (arith, more-length x b, r (omega arith))
 
--- ---- as the code writes them
-
-pub put-one : (x at d : ℕ) (out : List ℕ) → x < 10 → d ≡ digit x → (at + 1 ≡ at + length (decimal x))
-    × (set out at d ≡ sets out at (decimal x))
-put-one x at d out h e = rw (decimal-one x h, ← e) (refl, refl)
-
-pub put-more : (x at last d : ℕ) (out mid : List ℕ) → 10 ≤ x → last ≡ at + length (decimal (x / 10))
-    → mid ≡ sets out at (decimal (x / 10)) → d ≡ digit (x % 10)
-    → (last + 1 ≡ at + length (decimal x)) × (set mid last d ≡ sets out at (decimal x))
-put-more x at last d out mid h l m e = (
-  omega (arith, more-length x h),
-  rw (decimal-more x h, ← e)
-      (sets-then out mid (set mid last d) (decimal (x / 10)) (d ∷ []) at last m l refl),
-)
-
 -- a 64-bit number has at most 20 digits
 pub decimal-20 : (x : ℕ) → x < 2 ^ 64 → length (decimal x) ≤ 20
 decimal-20 x h = decimal-short 19 x (omega arith)
@@ -90,3 +75,13 @@ pub wrote-word : (l m n : List ℕ) (ws : List (List ℕ)) (w : List ℕ) (at r 
     → Wrote m r (w ++ (space ∷ [])) q n
     → Wrote l at (spaced (ws ++ (w ∷ []))) q n
 wrote-word l m n ws w at r q a b = rw (spaced-snoc ws w) (wrote-then l m n (spaced ws) (w ++ (space ∷ [])) at r q a b)
+
+-- ---- numbers, as the code writes them
+
+pub put-one : (x at d : ℕ) (out : List ℕ) → x < 10 → d ≡ digit x → (at + 1 ≡ at + length (decimal x))
+    × (set out at d ≡ sets out at (decimal x))
+put-one x at d out h e = rw (decimal-one x h, ← e) (refl, refl)
+
+pub put-more : (x at last d : ℕ) (out mid : List ℕ) → 10 ≤ x → Wrote out at (decimal (x / 10)) last mid → d ≡ digit (x % 10)
+    → Wrote out at (decimal x) (last + 1) (set mid last d)
+put-more x at last d out mid h w e = rw (decimal-more x h, ← e) (wrote-byte out mid (decimal (x / 10)) at last d w)

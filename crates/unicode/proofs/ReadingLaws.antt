@@ -109,13 +109,18 @@ goes-below r b h = rw (lt-leb (r .lo) b h)
 pub goes-above : (r : Reading) (b : ℕ) → r .lo ≤ b → r .hi < b → wrong ≡ goesOn r b
 goes-above r b h g = rw (le-leb (r .lo) b h, lt-leb b (r .hi) g)
 
-pub goes-on : (r : Reading) (b : ℕ) → Small r → 0 < r .need → r .lo ≤ b → b ≤ r .hi
+-- the reading allows b as its next byte
+pub record Allows (r : Reading) (b : ℕ) : Type 0 where
+  pub least : r .lo ≤ b
+  pub most : b ≤ r .hi
+
+pub goes-on : (r : Reading) (b : ℕ) → Small r → 0 < r .need → Allows r b
     → Reads (further (r .need - 1) (r .point * 64 + (b - 0x80))) (goesOn r b)
-goes-on r b s h g k = (
-  rw (le-leb (r .lo) b g, le-leb b (r .hi) k),
+goes-on r b s h a = (
+  rw (le-leb (r .lo) b (a .least), le-leb b (r .hi) (a .most)),
   record {
     few = omega (arith, s .few);
-    low = go (r .need) (r .point) (b - 0x80) h (s .low) (omega (arith, s .to));
+    low = go (r .need) (r .point) (b - 0x80) h (s .low) (omega (arith, s .to, a .most));
     from = omega arith;
     to = omega arith;
   },

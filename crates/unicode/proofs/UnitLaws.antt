@@ -116,29 +116,39 @@ next-weight r b =
 
 -- ---- turns of the loops; `q` is the reading after byte i, `us` the units that it completes, `x` what the loop is to give
 
-module _ (r q : Reading) (s us : List ℕ) (i : ℕ) (h : i < length s) (n : q ≡ nextByte r (getD s i 0)) (u : us ≡ completes q) where
-  pub rest : unitsFrom r (drop i s) ≡ us ++ unitsFrom q (drop (i + 1) s)
-  rest =
-      units-next r s i h
-      ∙ subst (λ (z : Reading). completes z ++ unitsFrom z (drop (i + 1) s) ≡ us ++ unitsFrom q (drop (i + 1) s)) n
-      (ap (λ (z : List ℕ). z ++ unitsFrom q (drop (i + 1) s)) (sym u))
+pub rest : (r q : Reading) (s us : List ℕ) (i : ℕ) → i < length s → q ≡ nextByte r (getD s i 0) → us ≡ completes q
+    → unitsFrom r (drop i s) ≡ us ++ unitsFrom q (drop (i + 1) s)
+rest r q s us i h n u =
+    units-next r s i h
+    ∙ subst (λ (z : Reading). completes z ++ unitsFrom z (drop (i + 1) s) ≡ us ++ unitsFrom q (drop (i + 1) s)) n
+    (ap (λ (z : List ℕ). z ++ unitsFrom q (drop (i + 1) s)) (sym u))
+
+-- there is a byte i, and the code read it and took the units that it completes
+pub record ByteTaken (r q : Reading) (s us : List ℕ) (i : ℕ) : Type 0 where
+  pub more : i < length s
+  pub next : q ≡ nextByte r (getD s i 0)
+  pub completed : us ≡ completes q
+
+module _ (r q : Reading) (s us : List ℕ) (i : ℕ) (t : ByteTaken r q s us i) where
+  parted : unitsFrom r (drop i s) ≡ us ++ unitsFrom q (drop (i + 1) s)
+  parted = rest r q s us i (t .more) (t .next) (t .completed)
 
   pub count-turn : (k x : ℕ) → k + length (unitsFrom r (drop i s)) ≡ x → k + length us + length (unitsFrom q (drop (i + 1) s)) ≡ x
   count-turn k x e =
       add-assoc k (length us) (length (unitsFrom q (drop (i + 1) s)))
-      ∙ ap (λ (m : ℕ). k + m) (sym (length-append us (unitsFrom q (drop (i + 1) s)))) ∙ rw rest at e
+      ∙ ap (λ (m : ℕ). k + m) (sym (length-append us (unitsFrom q (drop (i + 1) s)))) ∙ rw parted at e
 
   -- the counted units and the reading's wait stay below the bytes read
   pub weight-turn : length us + waits q ≤ 1 + waits r
-  weight-turn = rw u (subst (λ (z : Reading). weight z ≤ 1 + waits r) (sym n) (next-weight r (getD s i 0)))
+  weight-turn = rw (t .completed) (subst (λ (z : Reading). weight z ≤ 1 + waits r) (sym (t .next)) (next-weight r (getD s i 0)))
 
   pub hash-turn : (g x : ℕ) → hashFrom g (unitsFrom r (drop i s)) ≡ x
       → hashFrom (hashFrom g us) (unitsFrom q (drop (i + 1) s)) ≡ x
-  hash-turn g x e = sym (hash-append g us (unitsFrom q (drop (i + 1) s))) ∙ rw rest at e
+  hash-turn g x e = sym (hash-append g us (unitsFrom q (drop (i + 1) s))) ∙ rw parted at e
 
   -- what is left to store
   pub left : unitBytes (unitsFrom r (drop i s)) ≡ unitBytes us ++ unitBytes (unitsFrom q (drop (i + 1) s))
-  left = ap unitBytes rest ∙ bytes-append us (unitsFrom q (drop (i + 1) s))
+  left = ap unitBytes parted ∙ bytes-append us (unitsFrom q (drop (i + 1) s))
 
   -- and there is room for what this byte completes, and for the rest
   pub put-room : (to room : ℕ) → to + length (unitBytes (unitsFrom r (drop i s))) ≤ room

@@ -1,3 +1,4 @@
+-- 13 in two tests, so that nothing is taken from less; else the footer is put behind the image.
 use mathlib.Core.Path.{ap, sym, _∙_}
 use native.Mathlib.Omega.{arith}
 use Rattle.bits.specs.declared.Answer.the-variants.{Length}

@@ -1,3 +1,4 @@
+-- Under, over, or within the limits; there the length is put before the footer, which covers it where they overlap.
 use mathlib.Core.Path.{refl, ap, sym}
 use Rattle.bits.specs.declared.Answer.the-variants.{Length}
 use Rattle.footer.proofs.FinalizeLaws.{finalize-under, finalize-over, finalize-within, length-finalized, finalized}

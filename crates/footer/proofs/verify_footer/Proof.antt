@@ -1,3 +1,4 @@
+-- Too short, or the two parts of the buffer: what is hashed, and what is compared with it.
 use mathlib.Core.Path.{sym, _∙_}
 use native.Mathlib.Omega.{arith}
 use lib.Seq.{length-take-le}

@@ -8,8 +8,13 @@ returns c =
     let at-if-set = c .before .before .before in
     let start = at-if-set .before in
     let a = start .args in
-    entry-is (a .wide) (a .offset) (a .len) _ _ _ _ (at-if-set .if-set .ensures .0) (c .before .before .with-value .ensures)
-    (c .before .with-value2 .ensures) (c .with-value3 .ensures)
+    entry-is (a .wide) (a .offset) (a .len) _ _ _ _
+    (record {
+      counted = at-if-set .if-set .ensures .0;
+      kind = c .before .before .with-value .ensures;
+      place = c .before .with-value2 .ensures;
+      count = c .with-value3 .ensures;
+    })
 
 pub entry-spec : {M : Type 1} → statement M
 entry-spec =

@@ -1,3 +1,4 @@
+-- Two ranges share a byte exactly where each starts before the other ends.
 use borrow.Author.Needs.{needs}
 use Rattle.function_checks.proofs.shares_with.Statement.{statement}
 use Rattle.function_checks.proofs.shares_with.Tie as tie

@@ -39,8 +39,8 @@ returns c =
     let at-loop = at-if1 .before .before in
     let start = at-loop .before .before in
     let a = start .args in
-    alone-stop (a .p .layout) (a .image .now) (a .id) (at-loop .loop .j) _ _ (sectioned _ _ (start .pre .0 .placed) .functions)
-    (at-if1 .if1 .taken)
+    let z = sectioned (a .p) (a .image .now) (start .pre .0 .placed) in
+    alone-stop (a .p .layout) (a .image .now) (a .id) (at-loop .loop .j) _ (omega (arith, z .functions, at-if1 .if1 .taken))
     (alone-is (a .p .layout) (a .image .now) (a .id) _ _ (at-loop .loop .j) _ (start .pre .1 .is)
     (c .before .before .function-at .ensures .0) (c .before .leaves-alone .ensures))
     (c .if2 .taken)

@@ -31,7 +31,8 @@ returns : tie.Need-returns Inv-loop μ-loop
 returns c =
     let at-loop = c .before .before .before .before in
     let start = at-loop .before .before in
-    function-fails _ _ (at-loop .loop .i) _ _ (sectioned _ _ (start .pre) .functions) (c .before .before .if1 .taken)
+    let z = sectioned (start .args .p) (start .args .image .now) (start .pre) in
+    function-fails _ _ (at-loop .loop .i) _ (omega (arith, z .functions, c .before .before .if1 .taken))
     (c .before .is-function-in-tail .ensures) (c .if2 .taken)
 
 loop-again : tie.Need-loop-again Inv-loop μ-loop

@@ -1,33 +1,36 @@
-use Rattle.function_table.proofs.ReadLaws.{header-fits, header-is, small-is}
+-- As `read_function` reads it, where every large header is known to stand in the tail.
+use Rattle.function_table.proofs.ReadLaws.{SmallRead, LargeRead, header-fits, header-is, small-is}
+use mathlib.Core.Path.{sym, _∙_}
+use Rattle.bits.specs.Words.{whole}
 use borrow.Author.Needs.{needs}
 use Rattle.function_table.proofs.function_at.Statement.{statement}
 use Rattle.function_table.proofs.function_at.Tie as tie
 
+-- the record points to a large header
+large : (c : tie.After-pointer-of) → let a = c .before .before .before .before .before .args in
+    LargeRead (a .layout) (a .image .now) (a .i) (whole (c .before .before .before .record-of .result)) (c .pointer-of .result)
+large c =
+    record {
+      number = c .before .before .before .record-of .ensures;
+      flag = sym (c .before .before .is-large .ensures) ∙ c .before .if1 .taken;
+      place = c .pointer-of .ensures .0;
+    }
+
 large-function-requires : tie.Need-large-function-requires
 large-function-requires c κs =
-    let at-record-of = c .before .before .before in
-    let start = at-record-of .before .before in (
-      header-fits _ _ _ _ (at-record-of .record-of .ensures) _ (c .before .before .is-large .ensures) (c .before .if1 .taken) _
-          (c .pointer-of .ensures .0) (start .pre .0 .1) (start .pre .1),
-      start .pre .0 .0 .most,
-    )
+    let start = c .before .before .before .before .before in
+    (header-fits (large c) (start .pre .0 .1) (start .pre .1), start .pre .0 .0 .most)
 
 returns : tie.Need-returns
-returns c =
-    let at-is-large = c .before .before .before in
-    let at-record-of = at-is-large .before in (
-      header-is _ _ _ _ (at-record-of .record-of .ensures) _ (at-is-large .is-large .ensures) (c .before .before .if1 .taken) _
-          (c .before .pointer-of .ensures .0) _ (c .large-function .ensures .0),
-      c .large-function .ensures .1,
-    )
+returns c = (header-is (large (c .before)) _ (c .large-function .ensures .0), c .large-function .ensures .1)
+
+-- it points to none
+small : (c : tie.Else1) → let a = c .before .before .before .before .args in
+    SmallRead (a .layout) (a .image .now) (a .i) (whole (c .before .before .record-of .result))
+small c = record { number = c .before .before .record-of .ensures; flag = sym (c .before .is-large .ensures) ∙ c .if1 .left }
 
 returns-2 : tie.Need-returns-2
-returns-2 c =
-    let at-record-of = c .before .before .before in (
-      small-is _ _ _ _ (at-record-of .record-of .ensures) _ (c .before .before .is-large .ensures) (c .before .if1 .left) _
-          (c .small-function .ensures .0),
-      c .small-function .ensures .1,
-    )
+returns-2 c = (small-is (small (c .before)) _ (c .small-function .ensures .0), c .small-function .ensures .1)
 
 pub function-at-spec : {M : Type 1} → statement M
 function-at-spec =

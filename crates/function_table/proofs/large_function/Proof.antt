@@ -1,3 +1,4 @@
+-- By the layout: the words of the header, each within the width that the caller has shown to be there.
 use mathlib.Core.Path.{refl}
 use native.Mathlib.Omega.{arith}
 use Rattle.function_table.proofs.ReadLaws.{header-modern, header-legacy}
@@ -39,8 +40,12 @@ returns c = (
 returns-2 : tie.Need-returns-2
 returns-2 c =
     let at-enum-told2 = c .before .before .before in (
-      header-legacy _ _ _ _ _ (at-enum-told2 .enum-told2 .given .1) _ _ _ (c .before .before .large-word3 .ensures .0)
-          (c .before .large-word4 .ensures .0) (c .large-word5 .ensures .0),
+      header-legacy _ _ _ _ _ (at-enum-told2 .enum-told2 .given .1) _ _ _
+          (record {
+            begin = c .before .before .large-word3 .ensures .0;
+            size = c .before .large-word4 .ensures .0;
+            info = c .large-word5 .ensures .0;
+          }),
       search needs,
     )
 

@@ -10,8 +10,8 @@ returns c =
 returns-2 : tie.Need-returns-2
 returns-2 c =
     let at-enum-told2 = c .before .before .before in (
-      small-legacy _ _ _ _ (at-enum-told2 .enum-told2 .given .1) _ _ _ (c .before .before .value3 .ensures .0)
-          (c .before .value4 .ensures .0) (c .value5 .ensures .0),
+      small-legacy _ _ _ _ (at-enum-told2 .enum-told2 .given .1) _ _ _
+          (record { begin = c .before .before .value3 .ensures .0; size = c .before .value4 .ensures .0; info = c .value5 .ensures .0 }),
       search needs,
     )
 

@@ -2,10 +2,44 @@
 use borrow.Author.Needs.{needs}
 use Rattle.functions.proofs.judge_body.Statement.{statement}
 use Rattle.functions.proofs.judge_body.Tie as tie
+use mathlib.Core.List.{List}
+use Prim.Native.Nat.{ℕ}
 use native.Mathlib.Omega.{arith}
+use Rattle.format.specs.declared.Layout.{Layout}
+use Rattle.function_table.specs.declared.Function.{Function}
 use Rattle.functions.proofs.AdmitLaws.{least-length, target-ends}
+use Rattle.functions.proofs.JudgeLaws.{Chosen, LeftAlone, Clear, Grounded, Short, Held}
+use Rattle.functions.proofs.JudgeLaws.{is-alone, is-clear, is-grounded, is-short, is-held}
 use Rattle.functions.proofs.JudgeLaws.{not-alone, debug-before, put-in-nothing, too-long, short-enough, size-beyond}
 use Rattle.functions.proofs.JudgeLaws.{fields-beyond, all-fit}
+
+-- ---- what is found behind each test that passes
+
+-- of the function and the body of this call
+abbrev Here : (Layout → List ℕ → ℕ → List ℕ → Function → Type 0) → tie.Start → Type 0
+Here P c = P (c .args .p .layout) (c .args .image .now) (c .args .id) (c .args .body .now) (c .args .f)
+
+chosen : (c : tie.Start) → Chosen (c .args .p .layout) (c .args .image .now) (c .args .id) (c .args .f)
+chosen c = record { admitted = c .pre .0 .admitted; known = c .pre .1 .0; is = c .pre .1 .1 }
+
+alone : (c : tie.Else1) → Here LeftAlone (c .before .before .before .before)
+alone c =
+    let start = c .before .before .before .before in
+    is-alone (start .args .body .now) (chosen start) _ (c .before .stands-alone .ensures) (c .if1 .left)
+
+clear : (c : tie.Else2) → Here Clear (c .before .before .before .before .before .before)
+clear c = is-clear (alone (c .before .before)) _ (c .before .is-debug-past .ensures) (c .if2 .left)
+
+grounded : (c : tie.Else3) → Here Grounded (c .before .before .before .before .before .before .before .before)
+grounded c = is-grounded (clear (c .before .before)) _ (c .before .is-from-nothing .ensures) (c .if3 .left)
+
+short : (c : tie.Else4) → Here Short (c .before .before .before .before .before .before .before .before .before .before)
+short c = is-short (grounded (c .before .before)) _ (c .before .is-too-long .ensures) (c .if4 .left)
+
+held : (c : tie.Else5) → Here Held (c .before .before .before .before .before .before .before .before .before .before .before .before)
+held c = is-held (short (c .before .before)) _ (c .before .does-size-fit .ensures) (c .if5 .left)
+
+-- ---- the needs
 
 stands-alone-requires : tie.Need-stands-alone-requires
 stands-alone-requires c κs = (c .before .before .pre .0, c .before .before .pre .1 .1)
@@ -13,9 +47,7 @@ stands-alone-requires c κs = (c .before .before .pre .0, c .before .before .pre
 returns : tie.Need-returns
 returns c =
     let start = c .before .before .before .before in
-    let a = start .args in
-    not-alone (a .p .layout) (a .image .now) (a .id) (a .body .now) (a .f) (start .pre .0 .admitted) (start .pre .1 .0) (start .pre .1 .1)
-    _ (c .before .stands-alone .ensures) (c .if1 .taken)
+    not-alone (start .args .body .now) (chosen start) _ (c .before .stands-alone .ensures) (c .if1 .taken)
 
 is-debug-past-requires : tie.Need-is-debug-past-requires
 is-debug-past-requires c κs =
@@ -23,25 +55,10 @@ is-debug-past-requires c κs =
     omega (arith, least-length (start .args .p .layout) (start .args .image .now) (start .pre .0 .admitted))
 
 returns-2 : tie.Need-returns-2
-returns-2 c =
-    let at-stands-alone = c .before .before .before in
-    let start = at-stands-alone .before .before .before in
-    let a = start .args in
-    debug-before (a .p .layout) (a .image .now) (a .id) (a .body .now) (a .f) (start .pre .0 .admitted) (start .pre .1 .0)
-    (start .pre .1 .1) _ (at-stands-alone .stands-alone .ensures) (c .before .before .if1 .left) _
-    (c .before .is-debug-past .ensures) (c .if2 .taken)
+returns-2 c = debug-before (alone (c .before .before)) _ (c .before .is-debug-past .ensures) (c .if2 .taken)
 
 returns-3 : tie.Need-returns-3
-returns-3 c =
-    let at-is-debug-past = c .before .before .before in
-    let at-if1 = at-is-debug-past .before in
-    let at-stands-alone = at-if1 .before in
-    let start = at-stands-alone .before .before .before in
-    let a = start .args in
-    put-in-nothing (a .p .layout) (a .image .now) (a .id) (a .body .now) (a .f) (start .pre .0 .admitted) (start .pre .1 .0)
-    (start .pre .1 .1) _ (at-stands-alone .stands-alone .ensures) (at-if1 .if1 .left) _
-    (at-is-debug-past .is-debug-past .ensures) (c .before .before .if2 .left) _ (c .before .is-from-nothing .ensures)
-    (c .if3 .taken)
+returns-3 c = put-in-nothing (clear (c .before .before)) _ (c .before .is-from-nothing .ensures) (c .if3 .taken)
 
 is-too-long-requires : tie.Need-is-too-long-requires
 is-too-long-requires c κs =
@@ -56,78 +73,26 @@ is-too-long-requires c κs =
     )
 
 returns-4 : tie.Need-returns-4
-returns-4 c =
-    let at-is-from-nothing = c .before .before .before in
-    let at-if2 = at-is-from-nothing .before in
-    let at-is-debug-past = at-if2 .before in
-    let at-if1 = at-is-debug-past .before in
-    let at-stands-alone = at-if1 .before in
-    let start = at-stands-alone .before .before .before in
-    let a = start .args in
-    too-long (a .p .layout) (a .image .now) (a .id) (a .body .now) (a .f) (start .pre .0 .admitted) (start .pre .1 .0) (start .pre .1 .1) _
-    (at-stands-alone .stands-alone .ensures) (at-if1 .if1 .left) _ (at-is-debug-past .is-debug-past .ensures)
-    (at-if2 .if2 .left) _ (at-is-from-nothing .is-from-nothing .ensures) (c .before .before .if3 .left) _
-    (c .before .is-too-long .ensures) (c .if4 .taken)
+returns-4 c = too-long (grounded (c .before .before)) _ (c .before .is-too-long .ensures) (c .if4 .taken)
 
 returns-5 : tie.Need-returns-5
-returns-5 c =
-    let at-is-too-long = c .before .before .before in
-    let at-if3 = at-is-too-long .before in
-    let at-is-from-nothing = at-if3 .before in
-    let at-if2 = at-is-from-nothing .before in
-    let at-is-debug-past = at-if2 .before in
-    let at-if1 = at-is-debug-past .before in
-    let at-stands-alone = at-if1 .before in
-    let start = at-stands-alone .before .before .before in
-    let a = start .args in
-    size-beyond (a .p .layout) (a .image .now) (a .id) (a .body .now) (a .f) (start .pre .0 .admitted) (start .pre .1 .0)
-    (start .pre .1 .1) _ (at-stands-alone .stands-alone .ensures) (at-if1 .if1 .left) _
-    (at-is-debug-past .is-debug-past .ensures) (at-if2 .if2 .left) _ (at-is-from-nothing .is-from-nothing .ensures)
-    (at-if3 .if3 .left) _ (at-is-too-long .is-too-long .ensures) (c .before .before .if4 .left) _
-    (c .before .does-size-fit .ensures) (c .if5 .taken)
+returns-5 c = size-beyond (short (c .before .before)) _ (c .before .does-size-fit .ensures) (c .if5 .taken)
 
 fields-fit-requires : tie.Need-fields-fit-requires
 fields-fit-requires c κs =
-    let at-is-too-long = c .before .before .before in
-    let at-if3 = at-is-too-long .before in
-    let at-is-from-nothing = at-if3 .before in
-    let at-if2 = at-is-from-nothing .before in
-    let at-is-debug-past = at-if2 .before in
-    let at-if1 = at-is-debug-past .before in
-    let at-stands-alone = at-if1 .before in
-    let start = at-stands-alone .before .before .before in
-    let a = start .args in
-    let h = short-enough (a .p .layout) (a .image .now) (a .id) (a .body .now) (a .f) (start .pre .0 .admitted) (start .pre .1 .0)
-    (start .pre .1 .1) _ (at-stands-alone .stands-alone .ensures) (at-if1 .if1 .left) _
-    (at-is-debug-past .is-debug-past .ensures) (at-if2 .if2 .left) _ (at-is-from-nothing .is-from-nothing .ensures)
-    (at-if3 .if3 .left) _ (at-is-too-long .is-too-long .ensures) (c .before .before .if4 .left) in (
+    let start = c .before .before .before .before .before .before .before .before .before .before .before .before in
+    let a = start .args in (
       start .pre .0,
       omega (
         arith,
-        h,
+        short-enough (short (c .before .before)),
         target-ends (a .p .layout) (a .image .now) (start .pre .0 .admitted) (a .id) (a .f) (start .pre .1 .0)
             (start .pre .1 .1),
       ),
     )
 
 returns-6 : tie.Need-returns-6
-returns-6 c =
-    let at-does-size-fit = c .before .before .before in
-    let at-if4 = at-does-size-fit .before in
-    let at-is-too-long = at-if4 .before in
-    let at-if3 = at-is-too-long .before in
-    let at-is-from-nothing = at-if3 .before in
-    let at-if2 = at-is-from-nothing .before in
-    let at-is-debug-past = at-if2 .before in
-    let at-if1 = at-is-debug-past .before in
-    let at-stands-alone = at-if1 .before in
-    let start = at-stands-alone .before .before .before in
-    let a = start .args in
-    fields-beyond (a .p .layout) (a .image .now) (a .id) (a .body .now) (a .f) (start .pre .0 .admitted) (start .pre .1 .0)
-    (start .pre .1 .1) _ (at-stands-alone .stands-alone .ensures) (at-if1 .if1 .left) _
-    (at-is-debug-past .is-debug-past .ensures) (at-if2 .if2 .left) _ (at-is-from-nothing .is-from-nothing .ensures)
-    (at-if3 .if3 .left) _ (at-is-too-long .is-too-long .ensures) (at-if4 .if4 .left) _
-    (at-does-size-fit .does-size-fit .ensures) (c .before .before .if5 .left) _ (c .before .fields-fit .ensures) (c .if6 .taken)
+returns-6 c = fields-beyond (held (c .before .before)) _ (c .before .fields-fit .ensures) (c .if6 .taken)
 
 sub-t15 : tie.Need-sub-t15
 sub-t15 c =
@@ -137,23 +102,7 @@ sub-t15 c =
     (arith, target-ends (a .p .layout) (a .image .now) (start .pre .0 .admitted) (a .id) (a .f) (start .pre .1 .0) (start .pre .1 .1))
 
 returns-7 : tie.Need-returns-7
-returns-7 c =
-    let at-does-size-fit = c .before .before .before in
-    let at-if4 = at-does-size-fit .before in
-    let at-is-too-long = at-if4 .before in
-    let at-if3 = at-is-too-long .before in
-    let at-is-from-nothing = at-if3 .before in
-    let at-if2 = at-is-from-nothing .before in
-    let at-is-debug-past = at-if2 .before in
-    let at-if1 = at-is-debug-past .before in
-    let at-stands-alone = at-if1 .before in
-    let start = at-stands-alone .before .before .before in
-    let a = start .args in
-    all-fit (a .p .layout) (a .image .now) (a .id) (a .body .now) (a .f) (start .pre .0 .admitted) (start .pre .1 .0) (start .pre .1 .1) _
-    (at-stands-alone .stands-alone .ensures) (at-if1 .if1 .left) _ (at-is-debug-past .is-debug-past .ensures)
-    (at-if2 .if2 .left) _ (at-is-from-nothing .is-from-nothing .ensures) (at-if3 .if3 .left) _
-    (at-is-too-long .is-too-long .ensures) (at-if4 .if4 .left) _ (at-does-size-fit .does-size-fit .ensures)
-    (c .before .before .if5 .left) _ (c .before .fields-fit .ensures) (c .if6 .left)
+returns-7 c = all-fit (held (c .before .before)) _ (c .before .fields-fit .ensures) (c .if6 .left)
 
 pub judge-body-spec : {M : Type 1} → statement M
 judge-body-spec =

@@ -1,7 +1,9 @@
+-- The image's own number first, then 7, then what `judge_body` says of a function that is there.
 use borrow.Author.Needs.{needs}
 use Rattle.functions.proofs.measure.Statement.{statement}
 use Rattle.functions.proofs.measure.Tie as tie
-use Rattle.functions.proofs.JudgeLaws.{image-refused, no-function, function-asked, body-asked, body-judged}
+use mathlib.Core.Path.{sym, _∙_}
+use Rattle.functions.proofs.JudgeLaws.{FunctionKnown, image-refused, no-function, function-asked, body-asked, body-judged}
 
 returns : tie.Need-returns
 returns c =
@@ -20,32 +22,33 @@ returns-2 c =
     no-function (a .layout) (a .image .now) (a .id) (a .body .now) _ (at-admit .admit .ensures) _ (at-admitted .admitted .given .1)
     (c .if1 .taken)
 
-function-at-requires : tie.Need-function-at-requires
-function-at-requires c κs =
+-- the image is admitted, and has the function
+known : (c : tie.Else1) → let a = c .before .before .before .before .before .before .before .before .args in
+    FunctionKnown (a .layout) (a .image .now) (a .id) (c .before .before .before .admitted .given .0 .0)
+known c =
     let at-admitted = c .before .before .before in
     let at-admit = at-admitted .before .before in
     let at-bytes = at-admit .before .before in
-    let a = at-bytes .before .args in
-    function-asked (a .layout) (a .image .now) (a .id) (a .body .now) _ (at-admit .admit .ensures) _ (at-admitted .admitted .given .1)
-    (λ i. at-bytes .shared-slice-known .given i .fits) (c .if1 .left)
+    record {
+      bytes = λ i. at-bytes .shared-slice-known .given i .fits;
+      laid = sym (at-admit .admit .ensures) ∙ at-admitted .admitted .given .1;
+      known = c .if1 .left;
+    }
+
+function-at-requires : tie.Need-function-at-requires
+function-at-requires c κs =
+    let start = c .before .before .before .before .before .before .before .before in
+    function-asked _ _ _ (start .args .body .now) (known c)
 
 judge-body-requires : tie.Need-judge-body-requires
 judge-body-requires c κs =
-    let at-admitted = c .before .before .before .before in
-    let at-admit = at-admitted .before .before in
-    let at-bytes = at-admit .before .before in
-    let a = at-bytes .before .args in
-    body-asked (a .layout) (a .image .now) (a .id) (a .body .now) _ (at-admit .admit .ensures) _ (at-admitted .admitted .given .1)
-    (λ i. at-bytes .shared-slice-known .given i .fits) (c .before .if1 .left) _ (c .function-at .ensures)
+    let start = c .before .before .before .before .before .before .before .before .before in
+    body-asked _ _ _ (start .args .body .now) (known (c .before)) _ (c .function-at .ensures)
 
 returns-3 : tie.Need-returns-3
 returns-3 c =
-    let at-admitted = c .before .before .before .before .before in
-    let at-admit = at-admitted .before .before in
-    let at-bytes = at-admit .before .before in
-    let a = at-bytes .before .args in
-    body-judged (a .layout) (a .image .now) (a .id) (a .body .now) _ (at-admit .admit .ensures) _ (at-admitted .admitted .given .1)
-    (λ i. at-bytes .shared-slice-known .given i .fits) (c .before .before .if1 .left) _ (c .judge-body .ensures)
+    let start = c .before .before .before .before .before .before .before .before .before .before in
+    body-judged _ _ _ (start .args .body .now) (known (c .before .before)) _ (c .judge-body .ensures)
 
 pub measure-spec : {M : Type 1} → statement M
 measure-spec =

@@ -1,7 +1,9 @@
+-- Refusals as `measure` judged them, then 13; what is left has the room that `put_patched` asks for.
 use borrow.Author.Needs.{needs}
 use Rattle.functions.proofs.patch_function_bytes.Statement.{statement}
 use Rattle.functions.proofs.patch_function_bytes.Tie as tie
-use Rattle.functions.proofs.WriteLaws.{goes-out, no-room, room-made, written-out}
+use mathlib.Core.Path.{sym, _∙_}
+use Rattle.functions.proofs.WriteLaws.{PatchRoomy, goes-out, no-room, room-made, written-out}
 
 returns : tie.Need-returns
 returns c =
@@ -18,24 +20,22 @@ returns-2 c =
     no-room (a .layout) (a .image .now) (a .id) (a .body .now) (a .out .now) _ (at-measure .measure .ensures) _
     (c .before .before .measured .given .1) (c .if1 .taken)
 
+-- the result has its length, and room
+roomy : (c : tie.Else1) → let a = c .before .before .before .before .before .before .before .before .args in
+    PatchRoomy (a .layout) (a .image .now) (a .id) (a .body .now) (a .out .now) (c .before .before .measured .given .0 .0)
+roomy c =
+    record {
+      measured = sym (c .before .before .measured .given .1) ∙ c .before .before .before .before .measure .ensures;
+      room = c .if1 .left;
+    }
+
 put-patched-requires : tie.Need-put-patched-requires
 put-patched-requires c κs =
-    let at-measured = c .before .before .before in
-    let at-measure = at-measured .before .before in
-    let at-bytes = at-measure .before .before .before in
-    let a = at-bytes .before .args in
-    room-made (a .layout) (a .image .now) (a .id) (a .body .now) (a .out .now) _ (at-measure .measure .ensures) _
-    (at-measured .measured .given .1) (c .before .if1 .left) (λ i. at-bytes .shared-slice-known .given i .fits)
+    let at-bytes = c .before .before .before .before .before .before .before .before in
+    room-made (roomy (c .before)) (λ i. at-bytes .shared-slice-known .given i .fits)
 
 returns-3 : tie.Need-returns-3
-returns-3 c =
-    let at-if1 = c .before .before .before .before in
-    let at-measured = at-if1 .before .before in
-    let at-measure = at-measured .before .before in
-    let start = at-measure .before .before .before .before in
-    let a = start .args in
-    written-out (a .layout) (a .image .now) (a .id) (a .body .now) (a .out .now) _ (at-measure .measure .ensures) _
-    (at-measured .measured .given .1) (at-if1 .if1 .left) _ _ (c .before .before .put-patched .ensures)
+returns-3 c = written-out (roomy (c .before .before .before .before)) _ _ (c .before .before .put-patched .ensures)
 
 pub patch-function-bytes-spec : {M : Type 1} → statement M
 patch-function-bytes-spec =

@@ -1,3 +1,4 @@
+-- Each number is one of the places, or read from the header or the footer.
 use borrow.Author.Needs.{needs}
 use native.Mathlib.Omega.{arith}
 use mathlib.Core.Path.{_∙_, ap}
@@ -18,8 +19,14 @@ returns c =
     let at-header-word = at-flag .before in
     let start = at-header-word .before .before in
     let a = start .args in
-    facts-are (a .image .now) (a .p) (start .pre .is) _ _ _ _ (at-header-word .header-word .ensures .0) (at-flag .flag .ensures)
-    (c .before .flag2 .ensures ∙ ap flag (c .before .before .verify-footer .ensures)) (c .record-at .ensures .0)
+    facts-are (a .image .now) (a .p) _ _ _ _
+    (record {
+      places = start .pre .is;
+      header = at-header-word .header-word .ensures .0;
+      judged = at-flag .flag .ensures;
+      footer = c .before .flag2 .ensures ∙ ap flag (c .before .before .verify-footer .ensures);
+      records = c .record-at .ensures .0;
+    })
 
 pub facts-of-spec : {M : Type 1} → statement M
 facts-of-spec =

@@ -9,7 +9,7 @@ returns c = no-layout _ _ (omega arith)
 
 returns-2 : tie.Need-returns-2
 returns-2 c =
-    layout-stated _ _ (omega arith) _ (c .before .before .layout-of .ensures) _ (c .before .admit .ensures) _
+    layout-stated _ _ _ (record { known = omega arith; is = c .before .before .layout-of .ensures }) _ (c .before .admit .ensures) _
     (c .number-of .ensures)
 
 pub nepuladrim-admit-spec : {M : Type 1} → statement M

@@ -11,7 +11,8 @@ returns-2 : tie.Need-returns-2
 returns-2 c =
     let at-list = c .before .before .before in
     let at-layout-of = at-list .before .before in
-    layout-codes _ _ _ _ _ _ _ (omega arith) (at-layout-of .layout-of .ensures) (at-list .list .ensures) (c .number .ensures)
+    layout-codes _ _ _ _ _ _ _ (record { known = omega arith; is = at-layout-of .layout-of .ensures })
+    (at-list .list .ensures) (c .number .ensures)
 
 pub nepuladrim-list-spec : {M : Type 1} → statement M
 nepuladrim-list-spec =

@@ -11,7 +11,7 @@ returns-2 : tie.Need-returns-2
 returns-2 c =
     let at-patch-function-bytes = c .before .before .before in
     let at-layout-of = at-patch-function-bytes .before .before in
-    layout-codes _ _ _ _ _ _ _ (omega arith) (at-layout-of .layout-of .ensures)
+    layout-codes _ _ _ _ _ _ _ (record { known = omega arith; is = at-layout-of .layout-of .ensures })
     (at-patch-function-bytes .patch-function-bytes .ensures) (c .number .ensures)
 
 pub nepuladrim-patch-function-bytes-spec : {M : Type 1} → statement M

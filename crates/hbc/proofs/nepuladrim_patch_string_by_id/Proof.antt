@@ -11,8 +11,8 @@ returns-2 : tie.Need-returns-2
 returns-2 c =
     let at-patch-string-by-id = c .before .before .before in
     let at-layout-of = at-patch-string-by-id .before .before in
-    layout-codes _ _ _ _ _ _ _ (omega arith) (at-layout-of .layout-of .ensures) (at-patch-string-by-id .patch-string-by-id .ensures)
-    (c .number .ensures)
+    layout-codes _ _ _ _ _ _ _ (record { known = omega arith; is = at-layout-of .layout-of .ensures })
+    (at-patch-string-by-id .patch-string-by-id .ensures) (c .number .ensures)
 
 pub nepuladrim-patch-string-by-id-spec : {M : Type 1} → statement M
 nepuladrim-patch-string-by-id-spec =

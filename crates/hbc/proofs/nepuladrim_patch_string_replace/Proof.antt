@@ -11,7 +11,7 @@ returns-2 : tie.Need-returns-2
 returns-2 c =
     let at-patch-string-replace = c .before .before .before in
     let at-layout-of = at-patch-string-replace .before .before in
-    layout-codes _ _ _ _ _ _ _ (omega arith) (at-layout-of .layout-of .ensures)
+    layout-codes _ _ _ _ _ _ _ (record { known = omega arith; is = at-layout-of .layout-of .ensures })
     (at-patch-string-replace .patch-string-replace .ensures) (c .number .ensures)
 
 pub nepuladrim-patch-string-replace-spec : {M : Type 1} → statement M

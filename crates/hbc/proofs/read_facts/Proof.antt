@@ -1,4 +1,6 @@
+-- A refusal leaves the numbers; an admitted image has its facts told.
 use borrow.Author.Needs.{needs}
+use mathlib.Core.Path.{sym, _∙_}
 use Rattle.hbc.proofs.read_facts.Statement.{statement}
 use Rattle.hbc.proofs.read_facts.Tie as tie
 use Rattle.admission.proofs.AnswerLaws.{is-laid}
@@ -29,7 +31,7 @@ returns-2 c =
     let at-admit = at-answer .before .before in
     let start = at-admit .before .before .before in
     let a = start .args in
-    an-image (a .layout) (a .image .now) _ (a .out .now) _ (at-admit .admit .ensures) _ (at-answer .answer .given .1) _
+    an-image (a .layout) (a .image .now) _ (a .out .now) _ (sym (at-admit .admit .ensures) ∙ at-answer .answer .given .1) _
     (at-facts-of .facts-of .ensures) _ _ (c .before .before .told .ensures)
 
 pub read-facts-spec : {M : Type 1} → statement M

@@ -1,5 +1,6 @@
 -- Two ways out: the number of the refusal, or the facts of the string that was found.
 use borrow.Author.Needs.{needs}
+use mathlib.Core.Path.{sym, _∙_}
 use Rattle.hbc.proofs.read_string_facts.Statement.{statement}
 use Rattle.hbc.proofs.read_string_facts.Tie as tie
 use Rattle.hbc.proofs.FactLaws.{no-facts, the-facts}
@@ -17,7 +18,7 @@ returns-2 c =
     let at-read = at-facts .before .before in
     let at-string = at-read .before .before in
     let a = at-string .before .before .before .args in
-    the-facts (a .layout) (a .image .now) (a .id) _ (a .out .now) _ (at-string .string .ensures) _ (at-read .read .given .1) _
+    the-facts (a .layout) (a .image .now) (a .id) _ (a .out .now) _ (sym (at-string .string .ensures) ∙ at-read .read .given .1) _
     (at-facts .facts-of-place .ensures) _ _ (c .before .before .told .ensures)
 
 pub read-string-facts-spec : {M : Type 1} → statement M

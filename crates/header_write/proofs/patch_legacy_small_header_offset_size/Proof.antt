@@ -1,3 +1,4 @@
+-- A slot that is too short is left; else both fields are put in its number.
 use native.Mathlib.Omega.{arith}
 use Rattle.header_write.proofs.SlotLaws.{slot-short, slot-done}
 use Rattle.format.specs.Table.{legacyRecord}

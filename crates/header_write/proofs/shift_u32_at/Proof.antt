@@ -1,3 +1,4 @@
+-- Refused where fewer than 4 bytes stand behind the position; else the word with the delta added is what is stored.
 use native.Mathlib.Omega.{arith}
 use mir.Facts.{toZ-ofZ}
 use Rattle.header_write.proofs.SlotLaws.{word-short, word-done}

@@ -1,3 +1,4 @@
+-- One way out for each thing that is wrong, in the order in which the definition tests it; each later way has those before it at hand.
 use borrow.Author.Needs.{needs}
 use Rattle.input_records.proofs.image_head.Statement.{statement}
 use Rattle.input_records.proofs.image_head.Tie as tie

@@ -1,3 +1,4 @@
+-- One way out for each byte: the definition's tests, each decided by the code's own.
 use borrow.Author.Needs.{needs}
 use Rattle.input_records.proofs.layout_of.Statement.{statement}
 use Rattle.input_records.proofs.layout_of.Tie as tie

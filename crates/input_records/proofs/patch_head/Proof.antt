@@ -1,3 +1,4 @@
+-- Too short, or by the mark: one way out for each, with the tests before it at hand.
 use borrow.Author.Needs.{needs}
 use Rattle.input_records.proofs.patch_head.Statement.{statement}
 use Rattle.input_records.proofs.patch_head.Tie as tie

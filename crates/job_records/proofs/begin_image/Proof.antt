@@ -1,3 +1,4 @@
+-- 15 where the image is cut short, then the image's own number.
 use borrow.Author.Needs.{needs}
 use Rattle.job_records.proofs.begin_image.Statement.{statement}
 use Rattle.job_records.proofs.begin_image.Tie as tie
@@ -15,7 +16,8 @@ returns-2 c =
     let at-if1 = at-admit .before in
     let start = at-if1 .before .before in
     let a = start .args in
-    image-refused (a .layout) (a .stated) (a .image .now) (omega (arith, at-if1 .if1 .left)) _ (at-admit .admit .ensures) _ _
+    image-refused (a .layout) (a .stated) (a .image .now) _
+    (record { whole = omega (arith, at-if1 .if1 .left); judged = at-admit .admit .ensures }) _ _
     (c .before .enum-told2 .given .1) (c .number-of .ensures)
 
 returns-3 : tie.Need-returns-3
@@ -23,7 +25,8 @@ returns-3 c =
     let at-if1 = c .before .before .before in
     let start = at-if1 .before .before in
     let a = start .args in
-    image-laid (a .layout) (a .stated) (a .image .now) (omega (arith, at-if1 .if1 .left)) _ (c .before .before .admit .ensures) _
+    image-laid (a .layout) (a .stated) (a .image .now) _
+    (record { whole = omega (arith, at-if1 .if1 .left); judged = c .before .before .admit .ensures }) _
     (c .enum-told .given .1)
 
 pub begin-image-spec : {M : Type 1} → statement M

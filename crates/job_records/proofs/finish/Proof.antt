@@ -1,6 +1,8 @@
+-- By what the job has come to: the image that is held, or the line of the refusal.
 use borrow.Author.Needs.{needs}
 use Rattle.job_records.proofs.finish.Statement.{statement}
 use Rattle.job_records.proofs.finish.Tie as tie
+use native.Mathlib.Omega.{arith}
 use Rattle.job_records.proofs.CloseLaws.{close-as, close-refused}
 
 returns : tie.Need-returns
@@ -16,7 +18,7 @@ returns-2 c =
     let start = at-progress2 .before .before .before in
     let a = start .args in
     close-refused (a .progress) (a .image .now) _ _ _ _ (at-progress2 .progress2 .given .1)
-    (c .before .before .put-refused .ensures .0) (c .before .before .put-refused .ensures .1) (start .pre)
+    (c .before .before .put-refused .ensures .0) (omega (arith, c .before .before .put-refused .ensures .1, start .pre))
 
 pub finish-spec : {M : Type 1} → statement M
 finish-spec =

@@ -1,3 +1,4 @@
+-- Word after word; each number has at most 20 digits.
 use borrow.Author.Needs.{needs}
 use Rattle.job_records.proofs.put_refused.Statement.{statement}
 use Rattle.job_records.proofs.put_refused.Tie as tie

@@ -1,3 +1,4 @@
+-- A length of 16 bits where the head is one, and none else.
 use borrow.Author.Needs.{needs}
 use Rattle.job_records.proofs.stated_patch.Statement.{statement}
 use Rattle.job_records.proofs.stated_patch.Tie as tie

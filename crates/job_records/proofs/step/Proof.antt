@@ -14,9 +14,12 @@ returns-3 c =
     let at-progress = at-least .before .before in
     let start = at-progress .before .before .before .before .before .before in
     let a = start .args in
-    stepped-made (a .progress) _ _ _ _ (a .image .now) (a .head .now) (a .bytes .now) (a .out .now) _ _
-    (at-progress .progress .given .1) (at-least .least .ensures .0) (at-apply .apply .ensures) _ (at-answer2 .answer2 .given .1)
-    (start .pre) _ _ (c .wrapping-add-u64 .ensures) (at-put-bytes .put-bytes .ensures)
+    stepped-made (a .progress) _ _ _ _ (a .image .now) (a .head .now) (a .bytes .now) (a .out .now) _ _ _
+    (record {
+      turn = record { under = at-progress .progress .given .1; part = at-least .least .ensures .0; answers = at-apply .apply .ensures };
+      long = at-answer2 .answer2 .given .1;
+      room = start .pre;
+    }) _ _ (c .wrapping-add-u64 .ensures) (at-put-bytes .put-bytes .ensures)
 
 part-put-bytes-end : tie.Need-part-put-bytes-end
 part-put-bytes-end c =
@@ -28,9 +31,16 @@ part-put-bytes-end c =
     let a = start .args in
     omega (
       arith,
-      new-fits (a .progress) _ _ _ _ (a .image .now) (a .head .now) (a .bytes .now) (a .out .now) _ _
-          (at-progress .progress .given .1) (at-least .least .ensures .0) (at-apply .apply .ensures) _ (at-answer2 .answer2 .given .1)
-          (start .pre),
+      new-fits (a .progress) _ _ _ _ (a .image .now) (a .head .now) (a .bytes .now) (a .out .now) _ _ _
+          (record {
+            turn = record {
+              under = at-progress .progress .given .1;
+              part = at-least .least .ensures .0;
+              answers = at-apply .apply .ensures;
+            };
+            long = at-answer2 .answer2 .given .1;
+            room = start .pre;
+          }),
       at-apply .apply .kept,
     )
 
@@ -42,9 +52,12 @@ put-bytes-requires c κs =
     let at-progress = at-least .before .before in
     let start = at-progress .before .before .before .before .before .before in
     let a = start .args in
-    part-fits (a .progress) _ _ _ _ (a .image .now) (a .head .now) (a .bytes .now) (a .out .now) _ _
-    (at-progress .progress .given .1) (at-least .least .ensures .0) (at-apply .apply .ensures) _ (at-answer2 .answer2 .given .1)
-    (start .pre) (omega (arith, at-apply .apply .kept))
+    part-fits (a .progress) _ _ _ _ (a .image .now) (a .head .now) (a .bytes .now) (a .out .now) _ _ _
+    (record {
+      turn = record { under = at-progress .progress .given .1; part = at-least .least .ensures .0; answers = at-apply .apply .ensures };
+      long = at-answer2 .answer2 .given .1;
+      room = start .pre;
+    }) (omega (arith, at-apply .apply .kept))
 
 returns-2 : tie.Need-returns-2
 returns-2 c =
@@ -54,7 +67,8 @@ returns-2 c =
     let start = at-progress .before .before .before .before .before .before in
     let a = start .args in
     stepped-refused (a .progress) _ _ _ _ (a .image .now) (a .head .now) (a .bytes .now) (a .out .now) _ _
-    (at-progress .progress .given .1) (at-least .least .ensures .0) (at-apply .apply .ensures) _ (c .before .answer .given .1)
+    (record { under = at-progress .progress .given .1; part = at-least .least .ensures .0; answers = at-apply .apply .ensures }) _
+    (c .before .answer .given .1)
 
 pub step-spec : {M : Type 1} → statement M
 step-spec =

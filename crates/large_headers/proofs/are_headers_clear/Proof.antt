@@ -29,7 +29,7 @@ returns : tie.Need-returns Inv-loop μ-loop
 returns c =
     let at-loop = c .before .before .before in
     let start = at-loop .before .before in
-    not-all-clear _ _ (at-loop .loop .j) _ _ (start .pre .1) (omega arith) (c .before .is-header-clear .ensures) (c .if1 .taken)
+    not-all-clear _ _ (at-loop .loop .j) _ (omega (arith, start .pre .1)) (c .before .is-header-clear .ensures) (c .if1 .taken)
 
 loop-again : tie.Need-loop-again Inv-loop μ-loop
 loop-again c =

@@ -5,8 +5,9 @@ use mathlib.Core.Bool.{true}
 use native.Mathlib.Omega.{arith}
 use Rattle.bits.specs.Choice.{allBelow}
 use Rattle.bits.proofs.PassLaws.{pass-none, pass-next}
+use Rattle.function_table.specs.Functions.{asFunc}
 use Rattle.large_headers.specs.Clear.{clearAt}
-use Rattle.large_headers.proofs.ClearLaws.{no-header, clear-at, header-not-clear, header-clear}
+use Rattle.large_headers.proofs.ClearLaws.{WithHeader, ClearTurn, no-header, clear-at, header-not-clear, header-clear}
 use borrow.Author.Needs.{needs}
 use Rattle.large_headers.proofs.is_header_clear.Statement.{statement}
 use Rattle.large_headers.proofs.is_header_clear.Tie as tie
@@ -36,40 +37,45 @@ is-clear-of-requires c κs =
     let at-function-at = c .before .before .before .before .before .before .before in
     (at-function-at .function-at .ensures .1, c .before .function-at2 .ensures .1, omega arith)
 
+-- function j has a large header
+headed : (c : tie.Else1 Inv-loop μ-loop) → let a = c .before .before .before .before .args in
+    WithHeader (a .layout) (a .image .now) (a .j) (a .n) (asFunc (c .before .before .function-at .result))
+headed c =
+    record {
+      is = c .before .before .function-at .ensures .0;
+      large = c .if1 .left;
+      count = c .before .before .before .before .pre .1 .0;
+    }
+
+-- function i is tested against it
+turn : (c : tie.After-is-clear-of Inv-loop μ-loop) → let at-loop = c .before .before .before .before in
+    let at-function-at = at-loop .before .before .before .before in
+    let a = at-function-at .before .before .args in
+    ClearTurn (a .layout) (a .image .now) (a .j) (a .n) (at-loop .loop .i) (at-loop .before .large-width .result)
+    (asFunc (at-function-at .function-at .result)) (asFunc (c .before .before .function-at2 .result)) (c .before .are-two .result)
+    (c .is-clear-of .result)
+turn c =
+    let at-large-width = c .before .before .before .before .before in
+    record {
+      headed = headed (at-large-width .before);
+      width = at-large-width .large-width .ensures .0;
+      is = c .before .before .function-at2 .ensures .0;
+      two = c .before .are-two .ensures;
+      test = c .is-clear-of .ensures;
+    }
+
 returns-2 : tie.Need-returns-2 Inv-loop μ-loop
-returns-2 c =
-    let at-function-at2 = c .before .before .before in
-    let at-loop = at-function-at2 .before .before in
-    let at-large-width = at-loop .before in
-    let at-if1 = at-large-width .before in
-    let at-function-at = at-if1 .before .before in
-    let start = at-function-at .before .before in
-    let l = at-loop .loop in
-    let g = at-function-at .function-at .ensures .0 in
-    header-not-clear _ _ _ _ g (at-if1 .if1 .left) _ (start .pre .1 .0) (l .i) _ (omega arith)
-    (clear-at _ _ _ (l .i) _ _ _ _ _ (at-large-width .large-width .ensures .0) g (at-function-at2 .function-at2 .ensures .0)
-    (c .before .before .are-two .ensures) (c .before .is-clear-of .ensures))
-    (c .if2 .taken)
+returns-2 c = header-not-clear (turn (c .before)) (omega arith) (c .if2 .taken)
 
 loop-again : tie.Need-loop-again Inv-loop μ-loop
 loop-again c =
-    let at-function-at2 = c .before .before .before in
-    let at-loop = at-function-at2 .before .before in
-    let at-large-width = at-loop .before in
-    let at-function-at = at-large-width .before .before .before in
-    let l = at-loop .loop in
-    let h = clear-at _ _ _ (l .i) _ _ _ _ _ (at-large-width .large-width .ensures .0) (at-function-at .function-at .ensures .0)
-    (at-function-at2 .function-at2 .ensures .0) (c .before .before .are-two .ensures) (c .before .is-clear-of .ensures) in
-    (omega arith, pass-next _ (l .i) _ h (c .if2 .left) (l .inv .1))
+    let l = c .before .before .before .before .before .loop in
+    (omega arith, pass-next _ (l .i) _ (clear-at (turn (c .before))) (c .if2 .left) (l .inv .1))
 
 returns-3 : tie.Need-returns-3 Inv-loop μ-loop
 returns-3 c =
-    let at-if1 = c .before .before .before in
-    let at-function-at = at-if1 .before .before in
-    let start = at-function-at .before .before in
     let l = c .before .loop in
-    header-clear _ _ _ _ (at-function-at .function-at .ensures .0) (at-if1 .if1 .left) _ (start .pre .1 .0) (l .i) (omega arith)
-    (l .inv .1)
+    header-clear (headed (c .before .before .before)) (l .i) (omega arith) (l .inv .1)
 
 pub is-header-clear-spec : {M : Type 1} → statement M
 is-header-clear-spec =

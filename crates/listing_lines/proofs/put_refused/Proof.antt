@@ -1,3 +1,4 @@
+-- The word, and the number behind it.
 use borrow.Author.Needs.{needs}
 use Rattle.listing_lines.proofs.put_refused.Statement.{statement}
 use Rattle.listing_lines.proofs.put_refused.Tie as tie

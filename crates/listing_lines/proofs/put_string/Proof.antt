@@ -1,3 +1,4 @@
+-- Word after word, each behind the one before; the room falls by what each has at most.
 use borrow.Author.Needs.{needs}
 use Rattle.listing_lines.proofs.put_string.Statement.{statement}
 use Rattle.listing_lines.proofs.put_string.Tie as tie

@@ -54,7 +54,9 @@ loop-again c =
       omega arith,
       p .kept .0 ∙ l .inv .1,
       put-turn (a .image .now) (a .start) (a .wide) (a .first) (a .n) (l .out) (p .last .0) _ (a .at)
-          (l .i) (at-unit-at .unit-at .result) (at-loop-test .loop-test .taken) (at-unit-at .unit-at .ensures .0) (p .ensures) (l .inv .2),
+          (l .i) (at-unit-at .unit-at .result)
+          (record { left = at-loop-test .loop-test .taken; unit = at-unit-at .unit-at .ensures .0; wrote = p .ensures })
+          (l .inv .2),
     )
 
 same-length : tie.Need-same-length Inv-loop μ-loop

@@ -1,3 +1,5 @@
+-- A refusal leaves the buffer; the part of an admitted image is no longer than the room.
+use mathlib.Core.Path.{sym, _∙_}
 use borrow.Author.Needs.{needs}
 use Rattle.listing_pieces.proofs.list.Statement.{statement}
 use Rattle.listing_pieces.proofs.list.Tie as tie
@@ -28,9 +30,8 @@ returns-2 c =
     let at-admit = at-answer .before .before in
     let start = at-admit .before .before .before in
     let a = start .args in
-    part-listed (a .layout) (a .image .now) (at-admit .admit .result) (at-admit .admit .ensures) _ (a .from) (a .out .now) _
-    (at-answer .answer .given .1) (c .before .before .put-part .result) _ (part-fits _ .0)
-    (c .before .before .put-part .ensures)
+    part-listed (a .layout) (a .image .now) _ (sym (at-admit .admit .ensures) ∙ at-answer .answer .given .1) _ (a .from) _
+    (a .out .now) _ (part-fits _ .0) (c .before .before .put-part .ensures)
 
 pub list-spec : {M : Type 1} → statement M
 list-spec =

@@ -1,8 +1,9 @@
+-- 15 where the record does not end with the input, then the image's own number.
 use borrow.Author.Needs.{needs}
 use Rattle.listing_pieces.proofs.open_image.Statement.{statement}
 use Rattle.listing_pieces.proofs.open_image.Tie as tie
 use native.Mathlib.Omega.{arith}
-use Rattle.listing_pieces.proofs.ListingLaws.{record-ends, record-refused, record-laid}
+use Rattle.listing_pieces.proofs.ListingLaws.{RecordJudged, record-ends, record-refused, record-laid}
 
 returns : tie.Need-returns
 returns c =
@@ -14,19 +15,16 @@ returns-2 c =
     let start = c .before .before .before in
     record-ends (start .args .layout) (start .args .length) (start .args .input .now) (λ e. c .if2 .taken (omega (arith, e)))
 
+-- the image is judged
+judged : (c : tie.After-admit) → let a = c .before .before .before .before .before .args in
+    RecordJudged (a .layout) (a .length) (a .input .now) (c .admit .result)
+judged c = record { ends = omega arith; answer = c .admit .ensures }
+
 returns-3 : tie.Need-returns-3
-returns-3 c =
-    let at-admit = c .before .before .before in
-    let start = at-admit .before .before .before .before .before in
-    record-refused (start .args .layout) (start .args .length) (start .args .input .now) (omega arith) _ (at-admit .admit .ensures)
-    _ _ (c .before .enum-told .given .1) (c .number-of .ensures)
+returns-3 c = record-refused (judged (c .before .before .before)) _ _ (c .before .enum-told .given .1) (c .number-of .ensures)
 
 returns-4 : tie.Need-returns-4
-returns-4 c =
-    let at-admit = c .before .before .before in
-    let start = at-admit .before .before .before .before .before in
-    record-laid (start .args .layout) (start .args .length) (start .args .input .now) (omega arith) _ (at-admit .admit .ensures) _
-    (c .before .answer .given .1)
+returns-4 c = record-laid (judged (c .before .before .before)) _ (c .before .answer .given .1)
 
 pub open-image-spec : {M : Type 1} → statement M
 open-image-spec =

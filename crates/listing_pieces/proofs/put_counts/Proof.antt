@@ -7,9 +7,15 @@ returns : tie.Need-returns
 returns c =
     let at-put-counts = c .before .before .before in
     let start = at-put-counts .before .before .before .before in
-    gives-counts (start .args .p) (start .args .image .now) (start .pre .0) (start .args .out .now)
-    (at-put-counts .put-counts .last .0) (start .args .at) _ (at-put-counts .put-counts .ensures .0)
-    (at-put-counts .put-counts .ensures .1) _ (c .first-string .ensures .0 _ _ (start .pre .0)) (c .first-string .ensures .1)
+    let w = at-put-counts .put-counts in
+    gives-counts (start .args .p) (start .args .image .now) (start .pre .0) (start .args .out .now) (w .last .0) (start .args .at)
+    (w .result) (c .first-string .result)
+    (record {
+      wrote = w .ensures .0;
+      most = w .ensures .1;
+      cursor = c .first-string .ensures .0 _ _ (start .pre .0);
+      first = c .first-string .ensures .1;
+    })
 
 pub put-counts-spec : {M : Type 1} → statement M
 put-counts-spec =

@@ -1,3 +1,4 @@
+-- Nothing where all functions are listed; else the line of the next.
 use borrow.Author.Needs.{needs}
 use Rattle.listing_pieces.proofs.put_function.Statement.{statement}
 use Rattle.listing_pieces.proofs.put_function.Tie as tie
@@ -17,8 +18,13 @@ returns-2 c =
     let start = at-if1 .before .before .before .before in
     let w = c .before .before .put-function in
     gives-function (start .args .p) (start .args .image .now) (start .pre .0 .placed) (start .args .out .now) (w .last .0)
-    (start .args .at) (w .result) (start .args .i) _ (omega (arith, at-if1 .if1 .left))
-    (at-function-of .function-of .ensures .0) (w .ensures .0) (w .ensures .1)
+    (start .args .at) (w .result) (start .args .i) _
+    (record {
+      known = omega (arith, at-if1 .if1 .left);
+      is = at-function-of .function-of .ensures .0;
+      wrote = w .ensures .0;
+      most = w .ensures .1;
+    })
 
 pub put-function-spec : {M : Type 1} → statement M
 put-function-spec =

@@ -1,10 +1,10 @@
 -- What was copied is the part of the pieces so far that is asked for; the pieces left fall.
 use Rattle.listing_pieces.proofs.put_lines.Statement.{statement}
 use Rattle.listing_pieces.proofs.put_lines.Tie as tie
-use Prim.Native.Nat.{ℕ, _-_}
-use mathlib.Core.Path.{_≡_, refl, _∙_, ap}
+use mathlib.Core.Path.{_≡_, refl, _∙_}
+use native.Mathlib.Nat.{sub-zero}
 use native.Mathlib.Omega.{arith}
-use lib.ListN.{length, take}
+use lib.ListN.{length}
 use Rattle.listing_pieces.specs.Pieces.{spotOf, steps}
 use Rattle.listing_pieces.proofs.PointLaws.{batch-falls}
 use Rattle.listing_pieces.proofs.PartLaws.{Copying, copying-first, copying-next, copying-full, copying-last}
@@ -70,11 +70,10 @@ loop-again c =
     let start = at-loop .before .before .before .before in
     let l = at-loop .loop in
     let w = at-put-pieces .put-pieces in
-    let v = at-put-rest .put-rest in
-    let e : w .result .end - 0 ≡ w .result .end = omega arith in (
+    let v = at-put-rest .put-rest in (
       rw (c .less .ensures) (copying-next (start .args .p) (start .args .image .now) _ _ _ (l .out) (l .point) (l .skip) (l .at) (l .inv .0)
-          (l .room) (w .last .1 .1 .1 .0) (w .result) (w .ensures) _ (v .last .1 .1 .0) (v .result)
-          (ap (λ (j : ℕ). take j (w .last .1 .1 .1 .0)) e) (v .kept .1 .1 .0) (v .ensures)),
+          (l .room) (w .last .1 .1 .1 .0) (v .last .1 .1 .0) (w .result) (v .result)
+          (record { made = w .ensures; same = v .kept .1 .1 .0; wrote = rw sub-zero at (v .ensures) })),
       w .kept .1 .1 .1 .0 ∙ l .inv .1,
     )
 

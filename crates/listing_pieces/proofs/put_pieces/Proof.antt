@@ -38,7 +38,7 @@ loop-again c =
     let l = at-loop .loop in
     let w = c .before .before .put-piece in
     going-next (start .args .p) (start .args .image .now) _ _ (l .out) (l .point) (l .at) (l .i) (l .inv)
-    (at-loop-test .loop-test .taken) (w .last .1 .1 .1 .0) (w .result) (w .kept .1 .1 .1 .0) (w .ensures)
+    (at-loop-test .loop-test .taken) (w .last .1 .1 .1 .0) (w .result) (w .ensures)
 
 same-length : tie.Need-same-length Inv-loop μ-loop
 same-length c = c .before .loop .inv .same

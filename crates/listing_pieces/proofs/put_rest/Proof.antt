@@ -1,3 +1,4 @@
+-- What is copied is the least of what is left of the text and of the room; both bounds follow from that.
 use borrow.Author.Needs.{needs}
 use Rattle.listing_pieces.proofs.put_rest.Statement.{statement}
 use Rattle.listing_pieces.proofs.put_rest.Tie as tie

@@ -3,6 +3,8 @@ use borrow.Author.Needs.{needs}
 use Rattle.listing_pieces.proofs.put_string.Statement.{statement}
 use Rattle.listing_pieces.proofs.put_string.Tie as tie
 use native.Mathlib.Omega.{arith}
+use mathlib.Core.Path.{_∙_, ap}
+use Rattle.reader.specs.Reading.{imagePlace}
 use Rattle.reader.proofs.PassLaws.{place-small, read-as}
 use Rattle.listing_pieces.proofs.PointLaws.{no-string, gives-string}
 
@@ -26,9 +28,16 @@ returns-2 c =
     let a = start .args in
     let e = at-string .string-at .ensures in
     let w = at-put .put-string in
-    let r = read-as _ _ (start .pre .0 .placed) _ _ (e .place) _ (e .identifier) _ (at-place .in-image .ensures) in
+    let r = read-as _ _ (start .pre .0 .placed) _ _ (e .place) _ (at-place .in-image .ensures ∙ ap (imagePlace _ _) (e .identifier)) in
     gives-string (a .p) (a .image .now) (start .pre .0 .placed) (a .out .now) (w .last .0) (a .at) (w .result) (a .string) _ _
-    (omega (arith, at-string .before .if1 .left)) r (e .next) (e .id) (w .ensures .0) (w .ensures .1)
+    (record {
+      known = omega (arith, at-string .before .if1 .left);
+      read = r;
+      cursor = e .next;
+      id = e .id;
+      wrote = w .ensures .0;
+      most = w .ensures .1;
+    })
 
 pub put-string-spec : {M : Type 1} → statement M
 put-string-spec =

@@ -1,3 +1,4 @@
+-- A large header has room for all; else both moved fields are tested.
 use borrow.Author.Needs.{needs}
 use Rattle.moved_fields.proofs.does_fit.Statement.{statement}
 use Rattle.moved_fields.proofs.does_fit.Tie as tie
@@ -10,8 +11,12 @@ returns-2 c =
     let at-if1 = c .before .before .before in
     let start = at-if1 .before in
     let a = start .args in
-    fit-not (moved (a .from) (a .to)) (asFunc (a .f)) (a .offset) _ 0 (c .before .before .move-place .ensures .0)
-    (at-if1 .if1 .left) _ (c .before .is-beyond .ensures) (c .if2 .taken)
+    fit-not (moved (a .from) (a .to)) (asFunc (a .f)) (a .offset) _ _
+    (record {
+      begin = c .before .before .move-place .ensures .0;
+      small = at-if1 .if1 .left;
+      over = c .before .is-beyond .ensures;
+    }) (c .if2 .taken)
 
 returns-3 : tie.Need-returns-3
 returns-3 c =
@@ -20,9 +25,17 @@ returns-3 c =
     let at-if1 = at-move-place .before in
     let start = at-if1 .before in
     let a = start .args in
-    fit-info (moved (a .from) (a .to)) (asFunc (a .f)) (a .offset) _ _ (at-move-place .move-place .ensures .0) (at-if1 .if1 .left) _
-    (at-is-beyond .is-beyond .ensures) (c .before .before .if2 .left) (c .before .move-place2 .ensures .0) _
-    (c .is-beyond2 .ensures)
+    fit-info (moved (a .from) (a .to)) (asFunc (a .f)) (a .offset) _ _ _ _
+    (record {
+      offset = record {
+        begin = at-move-place .move-place .ensures .0;
+        small = at-if1 .if1 .left;
+        over = at-is-beyond .is-beyond .ensures;
+      };
+      holds = c .before .before .if2 .left;
+      info = c .before .move-place2 .ensures .0;
+      over = c .is-beyond2 .ensures;
+    })
 
 pub does-fit-spec : {M : Type 1} → statement M
 does-fit-spec =

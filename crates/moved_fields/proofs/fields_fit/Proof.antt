@@ -43,8 +43,8 @@ returns c =
     let at-offset-field = at-loop .before in
     let start = at-offset-field .before .before in
     let a = start .args in
-    fields-stop (a .p .layout) (a .image .now) (moved (a .from) (a .to)) (at-loop .loop .i) _ _
-    (sectioned _ _ (start .pre .0 .placed) .functions) (at-if1 .if1 .taken)
+    fields-stop (a .p .layout) (a .image .now) (moved (a .from) (a .to)) (at-loop .loop .i) _
+    (omega (arith, sectioned _ _ (start .pre .0 .placed) .functions, at-if1 .if1 .taken))
     (fit-is (a .p .layout) (a .image .now) (moved (a .from) (a .to)) (at-loop .loop .i) (at-offset-field .offset-field .result) _ _
     (at-offset-field .offset-field .ensures .0) (c .before .before .function-at .ensures .0) (c .before .does-fit .ensures))
     (c .if2 .taken)

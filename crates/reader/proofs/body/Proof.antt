@@ -1,10 +1,19 @@
+-- The image's own number first, then 7, then the function.
 use borrow.Author.Needs.{needs}
 use Rattle.reader.proofs.body.Statement.{statement}
 use Rattle.reader.proofs.body.Tie as tie
+use mathlib.Core.Path.{_≡_, sym, _∙_}
 use Prim.Native.Nat.{ℕ, _<_}
 use lib.ListN.{getD}
+use Rattle.admission.specs.declared.Admission.the-variants.{Laid}
+use Rattle.admission.specs.Admission.{admission}
 use Rattle.admission.proofs.AnswerLaws.{is-laid}
 use Rattle.reader.proofs.ReadingLaws.{body-refused, body-absent, body-found}
+
+-- the image is admitted
+laid : (c : tie.After-answer) → let a = c .before .before .before .before .args in
+    admission (a .layout) (a .image .now) ≡ Laid (c .answer .given .0 .0)
+laid c = sym (c .before .before .admit .ensures) ∙ c .answer .given .1
 
 returns : tie.Need-returns
 returns c =
@@ -12,10 +21,7 @@ returns c =
     body-refused _ _ _ (at-admit .admit .ensures) _ _ (c .before .enum-told .given .1) _ (c .number-of .ensures)
 
 returns-2 : tie.Need-returns-2
-returns-2 c =
-    let at-answer = c .before .before .before in
-    let at-admit = at-answer .before .before in
-    body-absent _ _ _ (at-admit .admit .ensures) _ (at-answer .answer .given .1) _ (c .if1 .taken)
+returns-2 c = body-absent _ _ _ (laid (c .before .before .before)) _ (c .if1 .taken)
 
 function-of-requires : tie.Need-function-of-requires
 function-of-requires c κs =
@@ -30,10 +36,7 @@ function-of-requires c κs =
 
 returns-3 : tie.Need-returns-3
 returns-3 c =
-    let at-answer = c .before .before .before .before in
-    let at-admit = at-answer .before .before in
-    body-found _ _ _ (at-admit .admit .ensures) _ (at-answer .answer .given .1) _ (c .before .if1 .left) _
-    (c .function-of .ensures .0)
+    body-found _ _ _ (laid (c .before .before .before .before)) _ (c .before .if1 .left) _ (c .function-of .ensures .0)
 
 pub body-spec : {M : Type 1} → statement M
 body-spec =

@@ -1,3 +1,4 @@
+-- Each field is below the bound of its type.
 use Rattle.records.specs.Records.{legacyFields}
 use borrow.Author.Needs.{needs}
 use Rattle.records.proofs.legacy_fields.Statement.{statement}

@@ -1,3 +1,4 @@
+-- A negative delta is 2^41 less its size, and no 32-bit delta is as large as that.
 use native.Mathlib.Omega.{arith}
 use mathlib.Core.Path.{_≡_, refl, _∙_}
 use lib.IntN.{pos, _+ℤ_}

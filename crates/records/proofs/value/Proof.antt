@@ -7,7 +7,7 @@ words-field-requires c κs = row-placed _ _ (c .get .ensures) (record-row (c .be
 
 returns : tie.Need-returns
 returns c =
-    row-value _ _ _ _ (c .before .get .ensures) (c .words-field .ensures .0) (c .words-field .ensures .1)
+    row-value _ _ _ _ (c .before .get .ensures) (c .words-field .ensures)
     (record-row (c .before .before .args .k) (c .before .before .pre) .small)
 
 pub value-spec : {M : Type 1} → statement M

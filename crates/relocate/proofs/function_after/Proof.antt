@@ -1,3 +1,4 @@
+-- A rebuild moves every place; a body patch sets start and size of its own function too.
 use borrow.Author.Needs.{needs}
 use Rattle.relocate.proofs.function_after.Statement.{statement}
 use Rattle.relocate.proofs.function_after.Tie as tie

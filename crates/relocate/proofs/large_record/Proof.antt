@@ -19,8 +19,8 @@ returns-3 : tie.Need-returns-3
 returns-3 c =
     let start = c .before .before .before in
     let a = start .args in
-    pointed-moved (a .layout) (a .new) (whole (a .words)) (a .all) (c .before .before .if1 .left) (a .old) (start .pre)
-    (c .before .if2 .left) _ (c .with-pointer2 .ensures)
+    pointed-moved (a .layout) (a .new) (whole (a .words)) (a .all) (c .before .before .if1 .left) (a .old)
+    (record { read = start .pre; other = c .before .if2 .left }) _ (c .with-pointer2 .ensures)
 
 pub large-record-spec : {M : Type 1} → statement M
 large-record-spec =

@@ -1,3 +1,4 @@
+-- One word of the header, which lies in both buffers.
 use borrow.Author.Needs.{needs}
 use Rattle.relocate.proofs.put_debug.Statement.{statement}
 use Rattle.relocate.proofs.put_debug.Tie as tie
@@ -21,8 +22,13 @@ returns c =
     let at-debug-of = at-move-place .before in
     let start = at-debug-of .before .before .before in
     let a = start .args in
-    debug-put (a .layout) (a .image .now) (a .m) _ _ _ (a .out .now) _ (at-debug-at .debug-at .ensures .0)
-    (at-debug-of .debug-of .ensures .0) (at-move-place .move-place .ensures .0) (c .before .before .put-word .ensures)
+    debug-put (a .layout) (a .image .now) (a .m) _ _ _ (a .out .now) _
+    (record {
+      place = at-debug-at .debug-at .ensures .0;
+      offset = at-debug-of .debug-of .ensures .0;
+      goes = at-move-place .move-place .ensures .0;
+      word = c .before .before .put-word .ensures;
+    })
 
 pub put-debug-spec : {M : Type 1} → statement M
 put-debug-spec =

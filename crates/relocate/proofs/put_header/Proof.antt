@@ -1,3 +1,4 @@
+-- The words lie within the header, which the caller has shown to lie in the buffer; by the layout there are two or three.
 use borrow.Author.Needs.{needs}
 use Rattle.relocate.proofs.put_header.Statement.{statement}
 use Rattle.relocate.proofs.put_header.Tie as tie
@@ -38,8 +39,8 @@ returns c =
     let at-put-word = at-enum-told .before .before .before .before in
     let start = at-put-word .before .before .before in
     let a = start .args in
-    header-modern (a .layout) (asFunc (a .f)) (a .out .now) _ _ (at-put-word .put-word .ensures)
-    (at-enum-told .enum-told .given .1) (c .before .before .put-word2 .ensures)
+    header-modern (a .layout) (asFunc (a .f)) (a .out .now) _ _ (at-enum-told .enum-told .given .1)
+    (record { begin = at-put-word .put-word .ensures; size = c .before .before .put-word2 .ensures })
 
 returns-2 : tie.Need-returns-2
 returns-2 c =
@@ -48,9 +49,12 @@ returns-2 c =
     let at-put-word = at-enum-told2 .before .before .before .before in
     let start = at-put-word .before .before .before in
     let a = start .args in
-    header-legacy (a .layout) (asFunc (a .f)) (a .out .now) _ _ (at-put-word .put-word .ensures) _ _
-    (at-enum-told2 .enum-told2 .given .1) (at-put-word3 .put-word3 .ensures) _
-    (c .before .before .put-word4 .ensures)
+    header-legacy (a .layout) (asFunc (a .f)) (a .out .now) _ _ _ _ (at-enum-told2 .enum-told2 .given .1) _
+    (record {
+      begin = at-put-word .put-word .ensures;
+      size = at-put-word3 .put-word3 .ensures;
+      info = c .before .before .put-word4 .ensures;
+    })
 
 pub put-header-spec : {M : Type 1} → statement M
 put-header-spec =

@@ -8,7 +8,8 @@ returns c =
     let at-copy-around = c .before .before .before .before .before .before in
     let start = at-copy-around .before .before .before .before .before in
     let a = start .args in
-    spliced-is (a .a) (a .b) (a .new .now) (a .image .now) (a .out .now) (start .pre .0) (start .pre .1) (start .pre .2) _ _
+    spliced-is (a .a) (a .b) (a .new .now) (a .image .now) (a .out .now)
+    (record { order = start .pre .0; most = start .pre .1; fits = start .pre .2 }) _ _
     (at-copy-around .copy-around .ensures) (c .before .before .put-bytes .ensures)
 
 pub put-spliced-spec : {M : Type 1} → statement M

@@ -1,3 +1,4 @@
+-- The debug offset lies before the records: written first, it is not touched by what follows.
 use borrow.Author.Needs.{needs}
 use Rattle.relocate.proofs.relocate.Statement.{statement}
 use Rattle.relocate.proofs.relocate.Tie as tie
@@ -29,8 +30,12 @@ returns c =
     let at-header-word = at-put-debug .before .before in
     let start = at-header-word .before .before .before in
     let a = start .args in
-    relocated-is (a .layout) (a .image .now) (a .m) _ _ (start .pre) (at-header-word .header-word .ensures .0) (a .out .now) _ _
-    (at-put-debug .put-debug .ensures) (c .before .before .relocate-functions .ensures)
+    relocated-is (a .layout) (a .image .now) (a .m) _ _ (start .pre) (a .out .now) _ _
+    (record {
+      all = at-header-word .header-word .ensures .0;
+      debug = at-put-debug .put-debug .ensures;
+      functions = c .before .before .relocate-functions .ensures;
+    })
 
 pub relocate-spec : {M : Type 1} → statement M
 relocate-spec =

@@ -2,11 +2,14 @@
 use borrow.Author.Needs.{needs}
 use Rattle.relocate.proofs.relocate_function.Statement.{statement}
 use Rattle.relocate.proofs.relocate_function.Tie as tie
+use mathlib.Core.Path.{sym, _∙_}
 use native.Mathlib.Omega.{arith}
+use Rattle.bits.specs.Words.{whole}
 use Rattle.sections.proofs.SectionLaws.{records-few}
 use Rattle.image.proofs.PlaceLaws.{record-in}
-use Rattle.function_table.proofs.ReadLaws.{header-fits}
-use Rattle.relocate.proofs.GroupLaws.{small-group, large-group, header-held}
+use Rattle.function_table.specs.Functions.{asFunc}
+use Rattle.function_table.proofs.ReadLaws.{LargeRead, header-fits}
+use Rattle.relocate.proofs.GroupLaws.{LargeMoved, small-group, large-group, header-held}
 use borrow.Author.Tests.{not-false}
 
 record-of-requires : tie.Need-record-of-requires
@@ -36,18 +39,30 @@ returns c =
     let at-record-of = at-is-large .before in
     let start = at-record-of .before .before .before in
     let a = start .args in
-    small-group (a .layout) (a .image .now) (a .m) (a .i) _ (at-record-of .record-of .ensures) _ (at-is-large .is-large .ensures) _
-    _ (at-function-after .function-after .ensures) _ (a .out .now) _ (c .before .before .put-record .ensures)
-    (at-if1 .if1 .taken) (at-small-function .small-function .ensures .0) (at-small-record .small-record .ensures)
+    small-group (a .layout) (a .image .now) (a .m) (a .i) _ _ _ _
+    (record {
+      read = record {
+        number = at-record-of .record-of .ensures;
+        flag = at-is-large .is-large .ensures;
+        after = at-function-after .function-after .ensures;
+      };
+      without = at-if1 .if1 .taken;
+      own = at-small-function .small-function .ensures .0;
+    }) _ (a .out .now) _ (at-small-record .small-record .ensures) (c .before .before .put-record .ensures)
 
 large-function-requires : tie.Need-large-function-requires
 large-function-requires c κs =
-    let at-record-of = c .before .before .before in
-    let start = at-record-of .before .before .before in (
-      header-fits _ _ _ _ (at-record-of .record-of .ensures) _ (c .before .before .is-large .ensures) (not-false _ (c .before .if1 .left)) _
-          (c .pointer-of .ensures .0) (start .pre .0 .headers) (start .pre .1),
-      start .pre .0 .fits .most,
-    )
+    let at-is-large = c .before .before in
+    let at-record-of = at-is-large .before in
+    let start = at-record-of .before .before .before in
+    let a = start .args in
+    let z : LargeRead (a .layout) (a .image .now) (a .i) (whole (at-record-of .record-of .result)) (c .pointer-of .result)
+    = record {
+      number = at-record-of .record-of .ensures;
+      flag = sym (at-is-large .is-large .ensures) ∙ not-false (at-is-large .is-large .result) (c .before .if1 .left);
+      place = c .pointer-of .ensures .0;
+    } in
+    (header-fits z (start .pre .0 .headers) (start .pre .1), start .pre .0 .fits .most)
 
 function-after-requires-2 : tie.Need-function-after-requires-2
 function-after-requires-2 c κs =
@@ -68,39 +83,47 @@ put-record-requires-2 c κs =
           (arith, record-in (a .layout) (a .image .now) (a .i) (start .pre .1), start .pre .0 .records),
     )
 
+-- the function as it is read, with its large header, and as it is to be
+moved : (c : tie.After-function-after2) → let at-pointer-of = c .before .before in
+    let at-is-large = at-pointer-of .before .before in
+    let at-record-of = at-is-large .before in
+    let a = at-record-of .before .before .before .args in
+    LargeMoved (a .layout) (a .image .now) (a .m) (a .i) (whole (at-record-of .record-of .result)) (at-is-large .is-large .result)
+    (asFunc (c .before .large-function .result)) (asFunc (c .function-after2 .result)) (at-pointer-of .pointer-of .result)
+moved c =
+    let at-pointer-of = c .before .before in
+    let at-is-large = at-pointer-of .before .before in
+    record {
+      read = record {
+        number = at-is-large .before .record-of .ensures;
+        flag = at-is-large .is-large .ensures;
+        after = c .function-after2 .ensures;
+      };
+      large = at-pointer-of .before .if1 .left;
+      place = at-pointer-of .pointer-of .ensures .0;
+      own = c .before .large-function .ensures .0;
+    }
+
 put-header-requires : tie.Need-put-header-requires
 put-header-requires c κs =
     let at-put-record2 = c .before .before .before in
     let at-function-after2 = at-put-record2 .before .before .before .before in
-    let at-large-function = at-function-after2 .before in
-    let at-pointer-of = at-large-function .before in
-    let at-if1 = at-pointer-of .before in
-    let at-is-large = at-if1 .before in
-    let at-record-of = at-is-large .before in
-    let start = at-record-of .before .before .before in
-    let a = start .args in
+    let start = at-function-after2 .before .before .before .before .before .before .before .before in
     rw (at-put-record2 .put-record2 .kept .0)
-    (header-held (a .layout) (a .image .now) (a .m) (a .i) _ (at-record-of .record-of .ensures) _ (at-is-large .is-large .ensures) _ _
-    (at-function-after2 .function-after2 .ensures) _ (a .out .now) _ (at-put-record2 .put-record2 .ensures) (at-if1 .if1 .left) _
-    (at-pointer-of .pointer-of .ensures .0) (at-large-function .large-function .ensures .0) _ (start .pre .0) (start .pre .1))
+    (header-held _ _ _ _ _ _ _ _ _ (moved at-function-after2) _ (start .pre .0) (start .pre .1))
 
 returns-2 : tie.Need-returns-2
 returns-2 c =
     let at-put-record2 = c .before .before .before .before .before .before in
     let at-large-record = at-put-record2 .before .before in
     let at-writes-all = at-large-record .before in
-    let at-function-after2 = at-writes-all .before in
-    let at-large-function = at-function-after2 .before in
-    let at-pointer-of = at-large-function .before in
-    let at-if1 = at-pointer-of .before in
-    let at-is-large = at-if1 .before in
-    let at-record-of = at-is-large .before in
-    let start = at-record-of .before .before .before in
-    let a = start .args in
-    large-group (a .layout) (a .image .now) (a .m) (a .i) _ (at-record-of .record-of .ensures) _ (at-is-large .is-large .ensures) _
-    _ (at-function-after2 .function-after2 .ensures) _ (a .out .now) _ (at-put-record2 .put-record2 .ensures)
-    (at-if1 .if1 .left) _ (at-pointer-of .pointer-of .ensures .0) (at-large-function .large-function .ensures .0) _
-    (at-writes-all .writes-all .ensures) (at-large-record .large-record .ensures) _ (c .before .before .put-header .ensures)
+    large-group _ _ _ _ _ _ _ _ _ (moved (at-writes-all .before)) _ _ _ _ _
+    (record {
+      whole = at-writes-all .writes-all .ensures;
+      number = at-large-record .large-record .ensures;
+      slot = at-put-record2 .put-record2 .ensures;
+      words = c .before .before .put-header .ensures;
+    })
 
 pub relocate-function-spec : {M : Type 1} → statement M
 relocate-function-spec =

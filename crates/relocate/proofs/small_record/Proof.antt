@@ -1,3 +1,4 @@
+-- By the layout: each field is put in the record that the one before has left.
 use borrow.Author.Needs.{needs}
 use Rattle.relocate.proofs.small_record.Statement.{statement}
 use Rattle.relocate.proofs.small_record.Tie as tie
@@ -18,7 +19,11 @@ returns-2 c =
     let start = at-enum-told2 .before .before in
     let a = start .args in
     small-legacy (a .layout) (asFunc (a .f)) (whole (a .words)) _ _ (at-enum-told2 .enum-told2 .given .1) _ _ _
-    (c .before .before .with-value3 .ensures) (c .before .with-value4 .ensures) (c .with-value5 .ensures)
+    (record {
+      begin = c .before .before .with-value3 .ensures;
+      size = c .before .with-value4 .ensures;
+      info = c .with-value5 .ensures;
+    })
 
 pub small-record-spec : {M : Type 1} → statement M
 small-record-spec =

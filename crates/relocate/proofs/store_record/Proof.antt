@@ -1,3 +1,4 @@
+-- By the layout: 12 bytes or 16.
 use borrow.Author.Needs.{needs}
 use Rattle.relocate.proofs.store_record.Statement.{statement}
 use Rattle.relocate.proofs.store_record.Tie as tie

@@ -1,6 +1,6 @@
 -- No string before i is long or far.
 use Prim.Native.Nat.{_≤_, _-_}
-use mathlib.Core.Path.{_≡_, refl}
+use mathlib.Core.Path.{_≡_}
 use mathlib.Core.Bool.{true}
 use native.Mathlib.Omega.{arith}
 use lib.ListN.{length}
@@ -23,7 +23,7 @@ returns : tie.Need-returns Inv-loop μ-loop
 returns c =
     let at-loop = c .before .before .before in
     let start = at-loop .before .before in
-    far (start .args .ends .now) (at-loop .loop .i) _ _ (c .before .start-of .ensures .0) refl (c .before .before .loop-test .taken)
+    far (start .args .ends .now) (at-loop .loop .i) _ (c .before .start-of .ensures .0) (c .before .before .loop-test .taken)
     (c .if1 .taken)
 
 returns-2 : tie.Need-returns-2 Inv-loop μ-loop
@@ -32,8 +32,12 @@ returns-2 c =
     let at-loop-test = at-start-of .before in
     let at-loop = at-loop-test .before in
     let start = at-loop .before .before in
-    long (start .args .ends .now) (at-loop .loop .i) _ _ (at-start-of .start-of .ensures .0) (c .before .start-of2 .ensures .0)
-    (at-loop-test .loop-test .taken) (c .before .before .if1 .left) (c .if2 .taken)
+    long (start .args .ends .now) (at-loop .loop .i) _ _
+    (record {
+      span = record { from = at-start-of .start-of .ensures .0; to = c .before .start-of2 .ensures .0 };
+      near = c .before .before .if1 .left;
+    })
+    (at-loop-test .loop-test .taken) (c .if2 .taken)
 
 loop-again : tie.Need-loop-again Inv-loop μ-loop
 loop-again c =
@@ -41,8 +45,12 @@ loop-again c =
     let at-loop = at-start-of .before .before in
     let start = at-loop .before .before in (
       omega arith,
-      fits (start .args .ends .now) (at-loop .loop .i) _ _ (at-start-of .start-of .ensures .0)
-          (c .before .start-of2 .ensures .0) (c .before .before .if1 .left) (c .if2 .left) (at-loop .loop .inv .1),
+      fits (start .args .ends .now) (at-loop .loop .i) _ _
+          (record {
+            span = record { from = at-start-of .start-of .ensures .0; to = c .before .start-of2 .ensures .0 };
+            near = c .before .before .if1 .left;
+          })
+          (c .if2 .left) (at-loop .loop .inv .1),
     )
 
 returns-3 : tie.Need-returns-3 Inv-loop μ-loop

@@ -1,3 +1,4 @@
+-- Refusals as `measure` judged them, then 13; what is left has the room that `put_image` asks for.
 use native.Mathlib.Omega.{arith}
 use Rattle.serialize.proofs.BuilderLaws.{goes-out, fine, no-room, room-made, written-out}
 use borrow.Author.Needs.{needs}
@@ -16,8 +17,10 @@ returns-2 c =
     let at-measure = c .before .before .before .before in
     let start = at-measure .before .before .before .before .before in
     let a = start .args in
-    no-room (a .version) (a .text .now) (a .ends .now) (a .body .now) (a .out .now) _ (at-measure .measure .ensures) _
-    (c .before .before .measured .given .1) (c .if1 .taken)
+    no-room (a .version) (a .text .now) (a .ends .now) (a .body .now) (a .out .now) _
+    (fine (a .version) (a .text .now) (a .ends .now) (a .body .now) _ _ (at-measure .measure .ensures)
+    (c .before .before .measured .given .1))
+    (c .if1 .taken)
 
 part-put-image-end-2 : tie.Need-part-put-image-end-2
 part-put-image-end-2 c =
@@ -28,8 +31,8 @@ part-put-image-end-2 c =
     omega (
       arith,
       c .before .start-of .ensures .0,
-      fine (a .version) (a .text .now) (a .ends .now) (a .body .now) (a .out .now) _
-          (at-measure .measure .ensures) _ (at-measured .measured .given .1) .last,
+      fine (a .version) (a .text .now) (a .ends .now) (a .body .now) _ _ (at-measure .measure .ensures)
+          (at-measured .measured .given .1) .last,
     )
 
 put-image-requires : tie.Need-put-image-requires
@@ -39,8 +42,13 @@ put-image-requires c κs =
     let at-measure = at-measured .before .before in
     let start = at-measure .before .before .before .before .before in
     let a = start .args in
-    room-made (a .version) (a .text .now) (a .ends .now) (a .body .now) (a .out .now) _ (at-measure .measure .ensures) _
-    (at-measured .measured .given .1) _ (c .before .before .start-of .ensures .0) (at-if1 .if1 .left)
+    room-made (a .version) (a .text .now) (a .ends .now) (a .body .now) (a .out .now) _ _
+    (record {
+      accepted = fine (a .version) (a .text .now) (a .ends .now) (a .body .now) _ _ (at-measure .measure .ensures)
+          (at-measured .measured .given .1);
+      last = c .before .before .start-of .ensures .0;
+      room = at-if1 .if1 .left;
+    })
 
 returns-3 : tie.Need-returns-3
 returns-3 c =
@@ -50,9 +58,14 @@ returns-3 c =
     let at-measure = at-measured .before .before in
     let start = at-measure .before .before .before .before .before in
     let a = start .args in
-    written-out (a .version) (a .text .now) (a .ends .now) (a .body .now) (a .out .now) _ (at-measure .measure .ensures) _
-    (at-measured .measured .given .1) _ (at-start-of .start-of .ensures .0) (at-if1 .if1 .left) _ _
-    (c .before .before .put-image .ensures)
+    written-out (a .version) (a .text .now) (a .ends .now) (a .body .now) (a .out .now) _ _
+    (record {
+      accepted = fine (a .version) (a .text .now) (a .ends .now) (a .body .now) _ _ (at-measure .measure .ensures)
+          (at-measured .measured .given .1);
+      last = at-start-of .start-of .ensures .0;
+      room = at-if1 .if1 .left;
+    })
+    _ _ (c .before .before .put-image .ensures)
 
 pub build-minimal-modern-spec : {M : Type 1} → statement M
 build-minimal-modern-spec =

@@ -24,16 +24,18 @@ returns c =
     let at-loop-test = c .before .before .before in
     let at-loop = at-loop-test .before in
     let start = at-loop .before .before in
-    falls (start .args .ends .now) (at-loop .loop .i) _ _ (c .before .start-of2 .ensures .0)
-    (c .before .before .start-of .ensures .0) (at-loop-test .loop-test .taken) (c .if1 .taken)
+    falls (start .args .ends .now) (at-loop .loop .i) _ _
+    (record { from = c .before .start-of2 .ensures .0; to = c .before .before .start-of .ensures .0 })
+    (at-loop-test .loop-test .taken) (c .if1 .taken)
 
 loop-again : tie.Need-loop-again Inv-loop μ-loop
 loop-again c =
     let at-loop = c .before .before .before .before in
     let start = at-loop .before .before in (
       omega arith,
-      rises (start .args .ends .now) (at-loop .loop .i) _ _ (c .before .start-of2 .ensures .0)
-          (c .before .before .start-of .ensures .0) (c .if1 .left) (at-loop .loop .inv .1),
+      rises (start .args .ends .now) (at-loop .loop .i) _ _
+          (record { from = c .before .start-of2 .ensures .0; to = c .before .before .start-of .ensures .0 })
+          (c .if1 .left) (at-loop .loop .inv .1),
     )
 
 returns-2 : tie.Need-returns-2 Inv-loop μ-loop

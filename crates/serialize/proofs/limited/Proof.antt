@@ -1,3 +1,4 @@
+-- A count that is over the limit makes the sum so; below it no sum wraps.
 use Prim.Native.Nat.{_+_}
 use mathlib.Core.Path.{_≡_, ap}
 use native.Mathlib.Omega.{arith}

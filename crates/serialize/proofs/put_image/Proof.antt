@@ -12,9 +12,14 @@ returns c =
     let before-18 = at-body-at .before .before .before .before .before in
     let s = before-18 in
     let a = s .args in
-    image-made (a .version) (a .storage .now) (a .ends .now) (a .body .now) (a .image .now) _ _ _ _ (s .pre .0) (s .pre .1 .0)
-    (rw (at-up4 .up4 .ensures, at-body-at .body-at .ensures) at (at-put-sections .put-sections .ensures))
-    (rw (at-body-at .body-at .ensures) at (at-put-tail .put-tail .ensures)) (c .before .before .finalize-raw-image .ensures)
+    image-made (a .version) (a .storage .now) (a .ends .now) (a .body .now) (a .image .now) _ _ _ _
+    (record {
+      long = s .pre .0;
+      limit = s .pre .1 .0;
+      front = rw (at-up4 .up4 .ensures, at-body-at .body-at .ensures) at (at-put-sections .put-sections .ensures);
+      back = rw (at-body-at .body-at .ensures) at (at-put-tail .put-tail .ensures);
+    })
+    (c .before .before .finalize-raw-image .ensures)
 
 pub put-image-spec : {M : Type 1} → statement M
 put-image-spec =

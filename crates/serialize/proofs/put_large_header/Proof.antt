@@ -30,9 +30,15 @@ returns c =
     let at-zeros = at-offset .before .before .before .before in
     let start = at-zeros .before .before .before .before in
     rw (c .at .ensures)
-    (large-laid (start .args .image .now) _ _ _ _ _ _ (start .args .at) (start .args .begin) (start .args .size) (start .pre)
-    (rw (at-zeros .before .width .ensures) at (at-zeros .put-zeros .ensures)) (at-offset .put-word .ensures) (at-params .put-word2 .ensures)
-    (at-size .put-word3 .ensures) (at-regs .put-word4 .ensures) (at-frame .put-word5 .ensures))
+    (large-laid (start .args .image .now) _ _ _ _ _ _ (start .args .at) (start .args .begin) (start .args .size)
+    (record {
+      zeros = record { room = start .pre; laid = rw (at-zeros .before .width .ensures) at (at-zeros .put-zeros .ensures) };
+      offset = at-offset .put-word .ensures;
+      params = at-params .put-word2 .ensures;
+      sized = at-size .put-word3 .ensures;
+      regs = at-regs .put-word4 .ensures;
+      frame = at-frame .put-word5 .ensures;
+    }))
 
 pub put-large-header-spec : {M : Type 1} → statement M
 put-large-header-spec =

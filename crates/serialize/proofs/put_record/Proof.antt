@@ -9,8 +9,14 @@ returns c =
     let at-kinds-at = at-pointing-record .before .before in
     let at-at = at-kinds-at .before in
     let start = at-at .before .before in
-    record-laid (start .args .image .now) _ _ _ _ (start .args .large-at) (at-at .at .ensures) (at-kinds-at .kinds-at .ensures)
-    (start .pre) (c .before .before .store12 .ensures) (at-pointing-record .pointing-record .ensures)
+    record-laid (start .args .image .now) _ _ _ _ (start .args .large-at)
+    (record {
+      from = at-at .at .ensures;
+      to = at-kinds-at .kinds-at .ensures;
+      room = start .pre;
+      put = c .before .before .store12 .ensures;
+      pointing = at-pointing-record .pointing-record .ensures;
+    })
 
 pub put-record-spec : {M : Type 1} → statement M
 put-record-spec =

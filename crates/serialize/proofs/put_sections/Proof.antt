@@ -1,3 +1,4 @@
+-- Section after section, each where the one before it ends; together they are the definition's bytes.
 use Rattle.serialize.proofs.PartLaws.{sections-laid}
 use borrow.Author.Needs.{needs}
 use Rattle.serialize.proofs.put_sections.Statement.{statement}
@@ -23,10 +24,14 @@ returns c =
     let start = at-put-header .before .before .before .before .before in
     let s = start .args in
     sections-laid (s .version) (s .storage .now) (s .ends .now) (s .large-at) (s .image .now) _ _ _ _ _ _
-    (at-put-header .put-header .ensures) (at-put-record .put-record .ensures)
-    (rw (at-kinds-at .kinds-at .ensures) at (at-put-word .put-word .ensures)) (at-put-small-table .put-small-table .ensures)
-    (rw (at-storage-at .storage-at .ensures) at (at-put-bytes .put-bytes .ensures))
-    (rw (at-up4 .up4 .ensures, at-storage-at .storage-at .ensures) at (c .before .before .put-zeros .ensures))
+    (record {
+      header = at-put-header .put-header .ensures;
+      pointing = at-put-record .put-record .ensures;
+      kinds = rw (at-kinds-at .kinds-at .ensures) at (at-put-word .put-word .ensures);
+      small = at-put-small-table .put-small-table .ensures;
+      text = rw (at-storage-at .storage-at .ensures) at (at-put-bytes .put-bytes .ensures);
+      zeros = rw (at-up4 .up4 .ensures, at-storage-at .storage-at .ensures) at (c .before .before .put-zeros .ensures);
+    })
 
 pub put-sections-spec : {M : Type 1} → statement M
 put-sections-spec =

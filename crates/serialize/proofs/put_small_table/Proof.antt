@@ -39,9 +39,9 @@ loop-again c =
     let l = at-loop .loop in (
       omega arith,
       c .before .before .put-word .kept .0 ∙ l .inv .1,
-      small-more (s .ends .now) (s .image .now) (l .image) _ (l .i) _ _ (l .inv .2) (at-storage-at .storage-at .ensures)
-          (rw (at-start-of2 .start-of2 .ensures .0, at-start-of .start-of .ensures .0) at (at-entry .entry .ensures))
-          (c .before .before .put-word .ensures),
+      c .before .before .put-word .ensures
+          ∙ small-more (s .ends .now) (s .image .now) (l .image) (l .i) _ _ (l .inv .2) (at-storage-at .storage-at .ensures)
+          (rw (at-start-of2 .start-of2 .ensures .0, at-start-of .start-of .ensures .0) at (at-entry .entry .ensures)),
     )
 
 same-length : tie.Need-same-length Inv-loop μ-loop

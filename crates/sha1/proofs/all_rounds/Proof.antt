@@ -6,8 +6,13 @@ use Rattle.sha1.proofs.all_rounds.Tie as tie
 returns : tie.Need-returns
 returns c =
     let at-quarter-rounds = c .before .before .before in
-    four-quarters _ _ _ _ _ _ (at-quarter-rounds .quarter-rounds .ensures) (c .before .before .quarter-rounds2 .ensures)
-    (c .before .quarter-rounds3 .ensures) (c .quarter-rounds4 .ensures)
+    four-quarters _ _ _ _ _ _
+    (record {
+      first = at-quarter-rounds .quarter-rounds .ensures;
+      second = c .before .before .quarter-rounds2 .ensures;
+      third = c .before .quarter-rounds3 .ensures;
+      fourth = c .quarter-rounds4 .ensures;
+    })
 
 pub all-rounds-spec : {M : Type 1} → statement M
 all-rounds-spec =

@@ -11,8 +11,15 @@ returns c =
     let at-put-big-word3 = at-put-big-word4 .before .before .before in
     let at-put-big-word2 = at-put-big-word3 .before .before .before in
     let at-put-big-word = at-put-big-word2 .before .before .before in
-    five-words (replicate 20 0) _ _ _ _ _ _ refl (at-put-big-word .put-big-word .ensures) (at-put-big-word2 .put-big-word2 .ensures)
-    (at-put-big-word3 .put-big-word3 .ensures) (at-put-big-word4 .put-big-word4 .ensures) (c .before .put-big-word5 .ensures)
+    five-words (replicate 20 0) _ _ _ _ _ _
+    (record {
+      long = refl;
+      first = at-put-big-word .put-big-word .ensures;
+      second = at-put-big-word2 .put-big-word2 .ensures;
+      third = at-put-big-word3 .put-big-word3 .ensures;
+      fourth = at-put-big-word4 .put-big-word4 .ensures;
+      fifth = c .before .put-big-word5 .ensures;
+    })
 
 pub digest-bytes-spec : {M : Type 1} → statement M
 digest-bytes-spec =

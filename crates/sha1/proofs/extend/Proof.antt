@@ -26,7 +26,7 @@ loop-again c =
       omega arith,
       omega arith,
       simp length-set (l .inv .2),
-      extended-more (l .w) (l .t) _ (omega arith) _ (l .inv .0) (c .next-word .ensures) (l .inv .3),
+      extended-more (l .w) _ (l .t) _ (record { begun = l .inv .0; room = omega arith; there = l .inv .3 }) (c .next-word .ensures),
     )
 
 returns : tie.Need-returns Inv-loop μ-loop

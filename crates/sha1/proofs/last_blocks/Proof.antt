@@ -1,6 +1,6 @@
-use mathlib.Core.Path.{refl}
+-- The rest, the byte behind it and the length in two words are put in an array of zeros: that is the padded rest.
 use native.Mathlib.Omega.{arith}
-use lib.ListN.{replicate, length-set}
+use lib.ListN.{length-set}
 use Rattle.sha1.proofs.BlockLaws.{padded-rest}
 use borrow.Author.Needs.{needs}
 use Rattle.sha1.proofs.last_blocks.Statement.{statement}
@@ -15,8 +15,13 @@ returns c =
     let before-7 = at-put-big-word .before .before .before in
     let a = before-7 in
     let s = a .before .before .before .before in
-    padded-rest (s .args .rest .now) (s .args .n) (s .pre) (replicate 128 0) _ _ _ _ refl (a .before .before .last-count .ensures)
-    (a .put-bytes .ensures) (at-put-big-word .put-big-word .ensures) (c .before .put-big-word2 .ensures)
+    padded-rest (s .args .rest .now) (s .args .n) (s .pre) _ _ _ _
+    (record {
+      counted = a .before .before .last-count .ensures;
+      copied = a .put-bytes .ensures;
+      high = at-put-big-word .put-big-word .ensures;
+      low = c .before .put-big-word2 .ensures;
+    })
 
 pub last-blocks-spec : {M : Type 1} → statement M
 last-blocks-spec =

@@ -2,7 +2,7 @@
 use borrow.Author.Needs.{needs}
 use Rattle.string_find.proofs.find.Statement.{statement}
 use Rattle.string_find.proofs.find.Tie as tie
-use mathlib.Core.Path.{_≡_, refl, sym}
+use mathlib.Core.Path.{_≡_}
 use Prim.Native.Nat.{_≤_, _-_}
 use native.Mathlib.Omega.{arith}
 use Rattle.unicode.specs.Utf8.{utf16}
@@ -39,9 +39,9 @@ returns : tie.Need-returns Inv-loop μ-loop
 returns c =
     let at-string = c .before .before .before in
     let at-loop = at-string .before .before .before .before in
-    let q = at-loop .before .before .before .before .before .pre in
-    found-at _ _ _ (q .placed) _ _ (at-string .before .if1 .taken) (c .before .has-units .ensures) (at-loop .loop .inv .2) (c .if2 .taken) _
-    (at-string .string-at .ensures .place)
+    found-at _ _ _ _ _
+    (record { known = at-string .before .if1 .taken; tested = c .before .has-units .ensures; finds = at-loop .loop .inv .2 })
+    (c .if2 .taken) _ (at-string .string-at .ensures .place)
 
 loop-less : tie.Need-loop-less Inv-loop μ-loop
 loop-less c =
@@ -52,19 +52,20 @@ loop-again : tie.Need-loop-again Inv-loop μ-loop
 loop-again c =
     let at-string = c .before .before .before .before in
     let at-loop = at-string .before .before .before .before in
-    let q = at-loop .before .before .before .before .before .pre in
+    let p = at-loop .before .before .before .before .before .args .p in
     let e = at-string .string-at .ensures in
     let next
     =
-    find-next _ _ _ (q .placed) _ _ _ (at-string .before .if1 .taken) (c .before .before .has-units .ensures) (at-loop .loop .inv .2)
+    find-next p _ _ _ _ _
+    (record { known = at-string .before .if1 .taken; tested = c .before .before .has-units .ensures; finds = at-loop .loop .inv .2 })
     (c .before .if2 .left) in
     (omega (arith, e .id, at-string .before .if1 .taken), e .next, rw (e .id) next)
 
 returns-2 : tie.Need-returns-2 Inv-loop μ-loop
 returns-2 c =
     let at-loop = c .before .before .before in
-    let q = at-loop .before .before .before .before .before .pre in
-    found-none _ _ _ (q .placed) _ (c .if1 .left) (at-loop .loop .inv .2)
+    let p = at-loop .before .before .before .before .before .args .p in
+    found-none p _ _ _ (c .if1 .left) (at-loop .loop .inv .2)
 
 pub find-spec : {M : Type 1} → statement M
 find-spec =

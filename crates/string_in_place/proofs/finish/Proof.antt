@@ -1,16 +1,14 @@
 use borrow.Author.Needs.{needs}
 use Rattle.string_in_place.proofs.finish.Statement.{statement}
 use Rattle.string_in_place.proofs.finish.Tie as tie
-use Rattle.string_in_place.proofs.FinishLaws.{long-enough, finish-is}
+use Rattle.string_in_place.proofs.FinishLaws.{finish-is}
 
 returns : tie.Need-returns
 returns c =
     let at-put-hash = c .before .before .before .before .before .before in
     let start = at-put-hash .before .before .before .before .before in
     let a = start .args in
-    let q = start .pre in
-    finish-is (a .p .layout) (a .image .now) (a .value .now) (a .out .now) (a .id)
-    (long-enough (a .p) (a .image .now) (q .laid .placed) _ (q .holds)) (q .limit) _ _ _ (at-put-hash .put-hash .ensures)
+    finish-is (a .p) (a .image .now) (a .value .now) (a .out .now) (a .id) (start .pre) _ _ _ (at-put-hash .put-hash .ensures)
     (c .before .before .finalize-raw-image .ensures)
 
 pub finish-spec : {M : Type 1} → statement M

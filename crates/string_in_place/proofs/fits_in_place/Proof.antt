@@ -1,3 +1,4 @@
+-- One way out for each condition, in the order of 01; the last one is the pass over the other strings.
 use borrow.Author.Needs.{needs}
 use Rattle.string_in_place.proofs.fits_in_place.Statement.{statement}
 use Rattle.string_in_place.proofs.fits_in_place.Tie as tie
@@ -15,8 +16,8 @@ returns-2 : tie.Need-returns-2
 returns-2 c =
     let start = c .before .before .before .before .before in
     let a = start .args in
-    not-ascii (a .p) (a .image .now) (a .value .now) (a .id) (a .own) (start .pre .1) (c .before .before .if1 .left) _
-    (c .before .ascii .ensures) (c .if2 .taken)
+    not-ascii (a .p) (a .image .now) (a .value .now) (a .id) (a .own) _
+    (record { stands = start .pre .1; narrow = c .before .before .if1 .left; tested = c .before .ascii .ensures }) (c .if2 .taken)
 
 size-of-requires : tie.Need-size-of-requires
 size-of-requires c κs =
@@ -31,8 +32,12 @@ returns-3 c =
     let at-if1 = at-ascii .before in
     let start = at-if1 .before .before .before in
     let a = start .args in
-    other-size (a .p) (a .image .now) (a .value .now) (a .id) (a .own) (start .pre .1) (at-if1 .if1 .left) _
-    (at-ascii .ascii .ensures) (c .before .before .if2 .left) _ (c .before .size-of .ensures .0) (c .if3 .taken)
+    other-size (a .p) (a .image .now) (a .value .now) (a .id) (a .own) _ _
+    (record {
+      before = record { stands = start .pre .1; narrow = at-if1 .if1 .left; tested = at-ascii .ascii .ensures };
+      plain = c .before .before .if2 .left;
+      size = c .before .size-of .ensures .0;
+    }) (c .if3 .taken)
 
 returns-4 : tie.Need-returns-4
 returns-4 c =
@@ -41,9 +46,12 @@ returns-4 c =
     let at-if1 = at-ascii .before in
     let start = at-if1 .before .before .before in
     let a = start .args in
-    same-size (a .p) (a .image .now) (a .value .now) (a .id) (a .own) (start .pre .1) (at-if1 .if1 .left) _
-    (at-ascii .ascii .ensures) (at-if2 .if2 .left) _ (c .before .before .size-of .ensures .0) (omega arith) _
-    (c .is-alone .ensures)
+    same-size (a .p) (a .image .now) (a .value .now) (a .id) (a .own) _ _
+    (record {
+      before = record { stands = start .pre .1; narrow = at-if1 .if1 .left; tested = at-ascii .ascii .ensures };
+      plain = at-if2 .if2 .left;
+      size = c .before .before .size-of .ensures .0;
+    }) (omega arith) _ (c .is-alone .ensures)
 
 pub fits-in-place-spec : {M : Type 1} → statement M
 fits-in-place-spec =

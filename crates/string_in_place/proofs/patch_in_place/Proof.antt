@@ -1,3 +1,4 @@
+-- 13, or the room that `put_in_place` asks for.
 use borrow.Author.Needs.{needs}
 use Rattle.string_in_place.proofs.patch_in_place.Statement.{statement}
 use Rattle.string_in_place.proofs.patch_in_place.Tie as tie

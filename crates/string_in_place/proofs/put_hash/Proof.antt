@@ -1,3 +1,4 @@
+-- No slot where the string is plain; else the slot of its rank, which lies before the small entries.
 use borrow.Author.Needs.{needs}
 use Rattle.string_in_place.proofs.put_hash.Statement.{statement}
 use Rattle.string_in_place.proofs.put_hash.Tie as tie
@@ -11,7 +12,7 @@ returns : tie.Need-returns
 returns c =
     let start = c .before .before .before .before .before in
     let a = start .args in
-    no-slot (a .p) (a .image .now) (start .pre .0 .0 .placed) (a .id) (utf16 (a .value .now)) (a .out .now) _
+    no-slot (a .p) (a .image .now) (a .id) (utf16 (a .value .now)) (a .out .now) _
     (c .before .is-identifier .ensures) (c .if1 .taken)
 
 entry-at-requires : tie.Need-entry-at-requires
@@ -46,9 +47,15 @@ returns-2 c =
     let at-is-identifier = at-if1 .before in
     let start = at-is-identifier .before .before .before .before in
     let a = start .args in
-    slot-put (a .p) (a .image .now) (start .pre .0 .0 .placed) (a .id) (utf16 (a .value .now)) (a .out .now) _
-    (at-is-identifier .is-identifier .ensures) (at-if1 .if1 .left) _ _ _ _ (at-rank-of .rank-of .ensures .0)
-    (at-entry-at .entry-at .ensures) (at-hash-value .hash-value .ensures) (c .before .before .put-word .ensures)
+    slot-put (a .p) (a .image .now) (a .id) (utf16 (a .value .now)) (a .out .now) _ (start .pre .0 .0 .placed) _ _ _ _
+    (record {
+      tested = at-is-identifier .is-identifier .ensures;
+      has = at-if1 .if1 .left;
+      ranked = at-rank-of .rank-of .ensures .0;
+      place = at-entry-at .entry-at .ensures;
+      hash = at-hash-value .hash-value .ensures;
+      put = c .before .before .put-word .ensures;
+    })
 
 pub put-hash-spec : {M : Type 1} → statement M
 put-hash-spec =

@@ -1,3 +1,4 @@
+-- The image is copied, the value goes over the string's bytes, and the end is finalized: each step keeps the length.
 use borrow.Author.Needs.{needs}
 use Rattle.string_in_place.proofs.put_in_place.Statement.{statement}
 use Rattle.string_in_place.proofs.put_in_place.Tie as tie
@@ -36,9 +37,8 @@ returns c =
     let start = at-put-bytes .before .before .before .before .before in
     let a = start .args in
     let q = start .pre in
-    let z = sectioned (a .p) (a .image .now) (q .0 .laid .placed) in
-    in-place (a .p) (a .image .now) (a .value .now) (a .id) (a .own) (q .0) (omega arith) (a .out .now)
-    _ _ _ _ (q .1) (at-put-bytes .put-bytes .ensures) (at-put-bytes2 .put-bytes2 .ensures)
+    in-place (a .p) (a .image .now) (a .value .now) (a .id) (a .own) (q .0) (a .out .now) _ _ _ _
+    (record { long = q .1; copied = at-put-bytes .put-bytes .ensures; put = at-put-bytes2 .put-bytes2 .ensures })
     (c .before .before .finish .ensures)
 
 pub put-in-place-spec : {M : Type 1} → statement M

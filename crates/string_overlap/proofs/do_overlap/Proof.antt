@@ -1,3 +1,4 @@
+-- Two ranges share a byte exactly where each starts before the other ends.
 use borrow.Author.Needs.{needs}
 use Rattle.string_overlap.proofs.do_overlap.Statement.{statement}
 use Rattle.string_overlap.proofs.do_overlap.Tie as tie

@@ -41,8 +41,13 @@ returns : tie.Need-returns Inv-loop μ-loop
 returns c =
     let at-string = c .before .before .before in
     let q = at-string .before .before .before .before .before .before .before .pre in
-    not-alone _ _ (q .0 .placed) _ _ _ _ (q .1) (at-string .string-at .ensures .place) _ (c .before .is-apart .ensures) (c .if2 .taken)
-    (at-string .before .if1 .taken)
+    not-alone _ _ _ _ _ _ _
+    (record {
+      placed = q .0 .placed;
+      this = q .1;
+      that = at-string .string-at .ensures .place;
+      tested = c .before .is-apart .ensures;
+    }) (c .if2 .taken) (at-string .before .if1 .taken)
 
 loop-less : tie.Need-loop-less Inv-loop μ-loop
 loop-less c =
@@ -57,8 +62,9 @@ loop-again c =
     let e = at-string .string-at .ensures in
     let next
     =
-    alone-next _ _ (q .0 .placed) _ _ _ _ (q .1) (e .place) _ (c .before .before .is-apart .ensures) (c .before .if2 .left)
-    (at-loop .loop .inv .2) in
+    alone-next _ _ _ _ _ _ _
+    (record { placed = q .0 .placed; this = q .1; that = e .place; tested = c .before .before .is-apart .ensures })
+    (c .before .if2 .left) (at-loop .loop .inv .2) in
     (omega (arith, e .id, at-string .before .if1 .taken), e .next, rw (e .id) next)
 
 returns-2 : tie.Need-returns-2 Inv-loop μ-loop

@@ -16,7 +16,10 @@ size-of-requires c κs =
     let at-new-place = c .before .before .before .before in
     let at-string = at-new-place .before .before .before in
     let q = at-string .before .before .before .pre in
-    omega (arith, count-small _ _ _ _ _ q _ _ (at-string .string-at .ensures .place) (at-new-place .new-place .ensures))
+    omega (
+      arith,
+      count-small _ _ _ _ _ _ _ (record { turn = q; visits = at-string .string-at .ensures; new = at-new-place .new-place .ensures }),
+    )
 
 add-t16 : tie.Need-add-t16
 add-t16 c =
@@ -24,7 +27,8 @@ add-t16 c =
     let at-string = at-new-place .before .before .before in
     let q = at-string .before .before .before .pre in
     let few = strings-few _ _ _ _ _ q in
-    let small = count-small _ _ _ _ _ q _ _ (at-string .string-at .ensures .place) (at-new-place .new-place .ensures) in
+    let small =
+    count-small _ _ _ _ _ _ _ (record { turn = q; visits = at-string .string-at .ensures; new = at-new-place .new-place .ensures }) in
     omega (arith, few, q .known, q .reached .low, small)
 
 returns : tie.Need-returns
@@ -35,10 +39,15 @@ returns c =
     let at-new-place = at-is-over .before .before in
     let at-string = at-new-place .before .before .before in
     let q = at-string .before .before .before .pre in
-    let e = at-string .string-at .ensures in
-    turned _ _ _ _ _ q _ _ (e .place) (at-new-place .new-place .ensures) _ (e .next) (e .id) _ _ _
-    (at-is-over .is-over .ensures) (at-if-set .if-set .ensures .0) (at-if-set .if-set .ensures .1) (at-size .size-of .ensures .0)
-    (at-size .size-of .ensures .2)
+    turned _ _ _ _ _ _ _
+    (record { turn = q; visits = at-string .string-at .ensures; new = at-new-place .new-place .ensures }) _ _ _
+    (record {
+      overflows = at-is-over .is-over .ensures;
+      entries = at-if-set .if-set .ensures .0;
+      few = at-if-set .if-set .ensures .1;
+      size = at-size .size-of .ensures .0;
+      low = at-size .size-of .ensures .2;
+    })
 
 pub take-turn-spec : {M : Type 1} → statement M
 take-turn-spec =

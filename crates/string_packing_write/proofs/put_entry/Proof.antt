@@ -16,8 +16,7 @@ put-word-requires-2 c κs =
     let start = at-entry-at .before .before in
     let a = start .args in
     let room =
-    pair-room (a .to) (a .i) (a .k) _ (asPlace (a .place)) (a .out .now) _ (at-is-over .is-over .ensures) (at-entry-at .entry-at .ensures)
-    (at-if1 .if1 .taken) _ (start .pre .pair) in
+    pair-room (a .to) (a .k) (asPlace (a .place)) _ (at-is-over .is-over .ensures) (at-if1 .if1 .taken) _ (start .pre .pair) in
     ((omega arith, refl), omega (arith, c .before .entry-at2 .ensures, at-put-word .put-word .kept .0, room))
 
 put-word-requires-3 : tie.Need-put-word-requires-3
@@ -31,8 +30,7 @@ put-word-requires-3 c κs =
     let start = at-entry-at .before .before in
     let a = start .args in
     let room =
-    pair-room (a .to) (a .i) (a .k) _ (asPlace (a .place)) (a .out .now) _ (at-is-over .is-over .ensures) (at-entry-at .entry-at .ensures)
-    (at-if1 .if1 .taken) _ (start .pre .pair) in (
+    pair-room (a .to) (a .k) (asPlace (a .place)) _ (at-is-over .is-over .ensures) (at-if1 .if1 .taken) _ (start .pre .pair) in (
       (omega arith, refl),
       omega (arith, at-entry-at2 .entry-at2 .ensures, at-put-word .put-word .kept .0, at-put-word2 .put-word2 .kept .0, room),
     )
@@ -48,10 +46,16 @@ returns c =
     let at-entry-at = at-is-over .before in
     let start = at-entry-at .before .before in
     let a = start .args in
-    put-over (a .to) (a .i) (a .k) _ (asPlace (a .place)) (a .out .now) _ (at-is-over .is-over .ensures)
-    (at-entry-at .entry-at .ensures) _ _ _ _ _ (at-if1 .if1 .taken) (at-entry-at2 .entry-at2 .ensures)
-    (at-entry .entry .ensures) (at-put-word .put-word .ensures) (at-put-word2 .put-word2 .ensures)
-    (c .before .before .put-word3 .ensures)
+    put-over (a .to) (a .k) (asPlace (a .place)) _ (at-is-over .is-over .ensures) (a .i) _ _ _ (a .out .now) _ _ _ (at-if1 .if1 .taken)
+    (record {
+      word = at-entry .entry .ensures;
+      entered = record { place = at-entry-at .entry-at .ensures; put = at-put-word .put-word .ensures };
+      paired = record {
+        place = at-entry-at2 .entry-at2 .ensures;
+        offset = at-put-word2 .put-word2 .ensures;
+        count = c .before .before .put-word3 .ensures;
+      };
+    })
 
 returns-2 : tie.Need-returns-2
 returns-2 c =
@@ -61,9 +65,11 @@ returns-2 c =
     let at-entry-at = at-is-over .before in
     let start = at-entry-at .before .before in
     let a = start .args in
-    put-small (a .to) (a .i) (a .k) _ (asPlace (a .place)) (a .out .now) _ (at-is-over .is-over .ensures)
-    (at-entry-at .entry-at .ensures) _ _ (at-if1 .if1 .left) (at-entry2 .entry2 .ensures)
-    (c .before .before .put-word4 .ensures)
+    put-small (a .to) (a .k) (asPlace (a .place)) _ (at-is-over .is-over .ensures) (a .i) _ (a .out .now) _ (at-if1 .if1 .left)
+    (record {
+      place = at-entry-at .entry-at .ensures;
+      put = rw (at-entry2 .entry2 .ensures) at (c .before .before .put-word4 .ensures);
+    })
 
 pub put-entry-spec : {M : Type 1} → statement M
 put-entry-spec =

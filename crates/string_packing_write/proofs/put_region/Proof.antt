@@ -1,17 +1,14 @@
+-- The three parts have their room, one behind the other; what `put_strings` leaves is the region.
 use borrow.Author.Needs.{needs}
 use Rattle.string_packing_write.proofs.put_region.Statement.{statement}
 use Rattle.string_packing_write.proofs.put_region.Tie as tie
-use mathlib.Core.Path.{refl}
 use Rattle.string_packing_write.proofs.PutLaws.{roomy, region-put}
 
 put-strings-requires : tie.Need-put-strings-requires
 put-strings-requires c κs =
     let start = c .before .before .before .before .before in
-    let a = start .args in
     let q = start .pre in
-    let room
-    =
-    roomy _ _ (a .value .now) (q .laid .placed) _ _ (q .shaped) _ (q .measured) _ (c .before .entry-at .ensures) _ (q .room) (q .limit) in
+    let room = roomy _ _ _ _ _ _ _ q _ (c .before .entry-at .ensures) in
     record { laid = q .laid; small = q .small; shaped = q .shaped; roomy = room }
 
 returns : tie.Need-returns
@@ -22,9 +19,13 @@ returns c =
     let start = at-entry-at .before .before .before .before in
     let a = start .args in
     let q = start .pre in
-    region-put (a .p) (a .image .now) (a .value .now) (q .laid .placed) (a .id) (a .new) (q .shaped) (a .sizes) (q .measured) _
-    (at-entry-at .entry-at .ensures) _ _ (a .out .now) _ _ refl (at-up4 .up4 .ensures)
-    (at-put-strings .put-strings .ensures) (c .before .before .put-zeros .ensures)
+    region-put (a .p) (a .image .now) (a .value .now) (a .id) (a .new) (a .sizes) _ q _ (at-entry-at .entry-at .ensures) _
+    (a .out .now) _ _
+    (record {
+      strings = at-put-strings .put-strings .ensures;
+      four = at-up4 .up4 .ensures;
+      zeros = c .before .before .put-zeros .ensures;
+    })
 
 pub put-region-spec : {M : Type 1} → statement M
 put-region-spec =

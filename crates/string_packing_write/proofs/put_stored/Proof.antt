@@ -1,3 +1,4 @@
+-- The bytes of a string are made from a new value that is wide, and copied in every other case.
 use borrow.Author.Needs.{needs}
 use Rattle.string_packing_write.proofs.put_stored.Statement.{statement}
 use Rattle.string_packing_write.proofs.put_stored.Tie as tie

@@ -12,42 +12,43 @@ returns c =
     let at-size = at-entry .before .before in
     let at-turn = at-size .before .before in
     let start = at-turn .before .before .before .before in
-    let q = start .pre .0 in
+    let q = start .pre in
     let t = at-turn .take-turn .ensures in (
       (t .string, t .reached),
-      string-put _ _ (start .args .value .now) _ _ _ (q .0) (q .1) _ t _ _ (start .pre .1) _ (start .args .out .now) _ _
-          (at-size .size-of .ensures .0)
-          (at-entry .put-entry .ensures) (at-stored .put-stored .ensures),
+      string-put _ _ (start .args .value .now) _ _ _ _ _ (record { turn = q .0 .0; shaped = q .0 .1; roomy = q .1 }) _ t _
+          (start .args .out .now) _ _
+          (record {
+            size = at-size .size-of .ensures .0;
+            entered = at-entry .put-entry .ensures;
+            stored = at-stored .put-stored .ensures;
+          }),
     )
 
 size-of-requires : tie.Need-size-of-requires
 size-of-requires c κs =
     let start = c .before .before .before .before .before in
-    let q = start .pre .0 in
-    old-few _ _ (start .args .value .now) _ _ _ (q .0) (q .1) _ (c .before .take-turn .ensures)
+    old-few _ _ _ _ _ (start .pre .0 .0) _ (c .before .take-turn .ensures)
 
 put-entry-requires : tie.Need-put-entry-requires
 put-entry-requires c κs =
     let at-turn = c .before .before .before in
     let start = at-turn .before .before .before .before in
-    let q = start .pre .0 in
-    let t = at-turn .take-turn .ensures in
-    let v = start .args .value .now in
-    entry-fits _ _ v _ _ _ (q .0) (q .1) _ t _ _ (start .pre .1)
+    let q = start .pre in
+    entry-fits _ _ (start .args .value .now) _ _ _ _ _ (record { turn = q .0 .0; shaped = q .0 .1; roomy = q .1 }) _
+    (at-turn .take-turn .ensures)
 
 add-put-stored : tie.Need-add-put-stored
 add-put-stored c =
     let at-turn = c .before .before .before .before .before .before .before .before .before in
     let start = at-turn .before .before .before .before in
-    let q = start .pre .0 in
-    omega (arith, place-low _ _ (start .args .value .now) _ _ _ (q .0) (q .1) _ (at-turn .take-turn .ensures) _ _ (start .pre .1))
+    let q = start .pre in
+    omega (arith, place-low _ _ (start .args .value .now) _ _ _ _ _ (record { turn = q .0 .0; shaped = q .0 .1; roomy = q .1 }))
 
 add-put-stored-2 : tie.Need-add-put-stored-2
 add-put-stored-2 c =
     let at-turn = c .before .before .before .before .before .before .before .before .before .before .before in
     let start = at-turn .before .before .before .before in
-    let q = start .pre .0 in
-    omega (arith, old-in _ _ (start .args .value .now) _ _ _ (q .0) (q .1) _ (at-turn .take-turn .ensures))
+    omega (arith, old-in _ _ _ _ _ (start .pre .0 .0) _ (at-turn .take-turn .ensures))
 
 put-stored-requires : tie.Need-put-stored-requires
 put-stored-requires c κs =
@@ -55,11 +56,11 @@ put-stored-requires c κs =
     let at-size = at-entry .before .before in
     let at-turn = at-size .before .before in
     let start = at-turn .before .before .before .before in
-    let q = start .pre .0 in
-    let t = at-turn .take-turn .ensures in
-    let v = start .args .value .now in (
-      rw (at-size .size-of .ensures .0) (old-in _ _ v _ _ _ (q .0) (q .1) _ t),
-      rw (at-size .size-of .ensures .0, at-entry .put-entry .kept .0) (bytes-room _ _ v _ _ _ (q .0) (q .1) _ t _ _ (start .pre .1)),
+    let q = start .pre in
+    let t = at-turn .take-turn .ensures in (
+      rw (at-size .size-of .ensures .0) (old-in _ _ _ _ _ (q .0 .0) _ t),
+      rw (at-size .size-of .ensures .0, at-entry .put-entry .kept .0)
+          (bytes-room _ _ (start .args .value .now) _ _ _ _ _ (record { turn = q .0 .0; shaped = q .0 .1; roomy = q .1 }) _ t),
     )
 
 pub put-string-spec : {M : Type 1} → statement M

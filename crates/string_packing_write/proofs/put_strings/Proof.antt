@@ -56,7 +56,9 @@ loop-again c =
       omega (arith, e .0 .0, at-if .if1 .taken),
       at-put .put-string .kept .0 ∙ v .1,
       e .0 .1,
-      laid-further _ _ (start .args .value .now) _ _ _ it (q .shaped) _ _ _ (start .args .out .now) _ _ (q .roomy) (e .0 .0) (v .3) (e .1),
+      rw (e .0 .0)
+          (laid-further _ _ (start .args .value .now) _ _ _ _ _ (record { turn = it; shaped = q .shaped; roomy = q .roomy })
+          (start .args .out .now) _ _ (v .3) (e .1)),
     )
 
 same-length : tie.Need-same-length Inv-loop μ-loop

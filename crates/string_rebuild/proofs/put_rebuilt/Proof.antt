@@ -75,12 +75,16 @@ returns c =
     let start = at-copy-around .before .before .before .before .before in
     let a = start .args in
     let q = start .pre in
-    patch-put (a .p) (a .image .now) (a .value .now) (a .id) (a .new) (a .sizes) (a .tail) _ q (a .out .now) _ _ _ _ refl
-    (at-copy-around .copy-around .ensures) (at-put-region .put-region .ensures) (at-put-counts .put-counts .ensures)
-    (at-relocate .relocate .ensures) _ _
-    (at-relocate .relocate .kept .0 ∙ at-put-counts .put-counts .kept .0 ∙ at-put-region .put-region .kept .0
-    ∙ at-copy-around .copy-around .kept .0)
-    (c .before .before .finish .ensures)
+    patch-put (a .p) (a .image .now) (a .value .now) (a .id) (a .new) (a .sizes) (a .tail) _ q
+    (record {
+      fits = refl;
+      around = at-copy-around .copy-around .ensures;
+      strings = at-put-region .put-region .ensures;
+      counts = at-put-counts .put-counts .ensures;
+      places = at-relocate .relocate .ensures;
+      long = at-relocate .relocate .kept .0 ∙ at-put-counts .put-counts .kept .0 ∙ at-put-region .put-region .kept .0
+          ∙ at-copy-around .copy-around .kept .0;
+    }) _ _ (c .before .before .finish .ensures)
 
 pub put-rebuilt-spec : {M : Type 1} → statement M
 put-rebuilt-spec =

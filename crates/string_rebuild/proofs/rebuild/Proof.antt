@@ -6,8 +6,38 @@ use Prim.Native.Nat.{_+_, _-_}
 use native.Mathlib.Omega.{arith}
 use lib.ListN.{length}
 use Rattle.sections.proofs.SectionLaws.{sectioned}
-use Rattle.string_in_place.proofs.FinishLaws.{part-length}
-use Rattle.string_rebuild.proofs.JudgeLaws.{huge, refuses, low, over-limit, no-field, no-room, written}
+use Rattle.string_in_place.proofs.FinishLaws.{room-short, room-written, part-length}
+use Rattle.string_rebuild.proofs.JudgeLaws.{Gauged, FieldsTested, huge, refuses, low, over-limit, no-field, makes}
+
+-- ---- what is known behind two of the calls
+
+gauged : (c : tie.After-new-tail) → let at-shape-of = c .before .before .before .before in
+    let a = at-shape-of .before .before .before .before .args in
+    Gauged (a .p) (a .image .now) (a .value .now) (a .id) (at-shape-of .shape-of .result) (c .before .measure .result)
+    (c .new-tail .result)
+gauged c =
+    let at-shape-of = c .before .before .before .before in
+    let start = at-shape-of .before .before .before .before in
+    record {
+      asked = start .pre;
+      shaped = at-shape-of .shape-of .ensures;
+      measured = c .before .measure .ensures;
+      tail = c .new-tail .ensures;
+    }
+
+tested : (c : tie.After-fields-fit) → let at-new-tail = c .before .before .before in
+    let at-shape-of = at-new-tail .before .before .before .before in
+    let a = at-shape-of .before .before .before .before .args in
+    FieldsTested (a .p) (a .image .now) (a .value .now) (a .id) (at-shape-of .shape-of .result) (at-new-tail .before .measure .result)
+    (at-new-tail .new-tail .result) (c .fields-fit .result)
+tested c =
+    record {
+      before = gauged (c .before .before .before);
+      limit = omega (arith, c .before .if2 .left);
+      fields = c .fields-fit .ensures;
+    }
+
+-- ---- the needs
 
 returns : tie.Need-returns
 returns c =
@@ -48,14 +78,7 @@ add-n c =
     (arith, c .before .new-tail .ensures, low (a .p) (a .image .now) (a .value .now) (a .id) q _ _ (c .before .before .measure .ensures))
 
 returns-2 : tie.Need-returns-2
-returns-2 c =
-    let at-measure = c .before .before .before in
-    let at-shape-of = at-measure .before .before .before in
-    let start = at-shape-of .before .before .before .before in
-    let a = start .args in
-    let q = start .pre in
-    over-limit (a .p) (a .image .now) (a .value .now) (a .id) q _ _ _ (at-shape-of .shape-of .ensures)
-    (at-measure .measure .ensures) (c .before .before .new-tail .ensures) (a .out .now) (c .if2 .taken)
+returns-2 c = over-limit _ _ _ _ _ _ _ (gauged (c .before .before)) _ (c .if2 .taken)
 
 fields-fit-requires : tie.Need-fields-fit-requires
 fields-fit-requires c κs =
@@ -66,67 +89,37 @@ fields-fit-requires c κs =
     (q .laid, omega (arith, c .if2 .left))
 
 returns-3 : tie.Need-returns-3
-returns-3 c =
-    let at-new-tail = c .before .before .before .before in
-    let at-measure = at-new-tail .before in
-    let at-shape-of = at-measure .before .before .before in
-    let start = at-shape-of .before .before .before .before in
-    let a = start .args in
-    let q = start .pre in
-    no-field (a .p) (a .image .now) (a .value .now) (a .id) q _ _ _ (at-shape-of .shape-of .ensures) (at-measure .measure .ensures)
-    (at-new-tail .new-tail .ensures) (a .out .now) (omega (arith, c .before .before .if2 .left)) _
-    (c .before .fields-fit .ensures) (c .if3 .taken)
+returns-3 c = no-field _ _ _ _ _ _ _ _ (tested (c .before)) _ (c .if3 .taken)
 
 returns-4 : tie.Need-returns-4
-returns-4 c =
-    let at-if2 = c .before .before .before in
-    let at-new-tail = at-if2 .before .before in
-    let at-measure = at-new-tail .before in
-    let at-shape-of = at-measure .before .before .before in
-    let start = at-shape-of .before .before .before .before in
-    let a = start .args in
-    let q = start .pre in
-    no-room (a .p) (a .image .now) (a .value .now) (a .id) q _ _ _ (at-shape-of .shape-of .ensures) (at-measure .measure .ensures)
-    (at-new-tail .new-tail .ensures) (a .out .now) (omega (arith, at-if2 .if2 .left)) _ (c .before .before .fields-fit .ensures)
-    (c .before .if3 .left) (c .if4 .taken)
+returns-4 c = room-short _ _ _ _ (makes _ _ _ _ _ _ _ _ (tested (c .before .before)) (c .before .if3 .left)) (c .if4 .taken)
 
 put-rebuilt-requires : tie.Need-put-rebuilt-requires
 put-rebuilt-requires c κs =
     let at-if2 = c .before .before .before .before in
     let at-new-tail = at-if2 .before .before in
-    let at-measure = at-new-tail .before in
-    let at-if1 = at-measure .before in
-    let at-shape-of = at-if1 .before .before in
-    let start = at-shape-of .before .before .before .before in
+    let at-if1 = at-new-tail .before .before in
+    let start = at-if1 .before .before .before .before .before .before in
     let a = start .args in
-    let q = start .pre in
+    let g = gauged at-new-tail in
+    let long = part-length (a .out .now) (length (a .image .now) - a .p .tail + at-new-tail .new-tail .result)
+    (omega (arith, c .before .if4 .left)) in
     record {
-      asked = q;
+      asked = g .asked;
       small = omega (arith, at-if1 .if1 .left);
-      shaped = at-shape-of .shape-of .ensures;
-      measured = at-measure .measure .ensures;
-      tail = at-new-tail .new-tail .ensures;
-      long = part-length (a .out .now) _ (omega (arith, c .before .if4 .left));
-      limit = rw
-          (part-length (a .out .now) (length (a .image .now) - a .p .tail + at-new-tail .new-tail .result)
-          (omega (arith, c .before .if4 .left))) (omega (arith, at-if2 .if2 .left));
+      shaped = g .shaped;
+      measured = g .measured;
+      tail = g .tail;
+      long = long;
+      limit = rw long (omega (arith, at-if2 .if2 .left));
     }
 
 returns-5 : tie.Need-returns-5
 returns-5 c =
     let at-if4 = c .before .before .before .before in
     let at-if3 = at-if4 .before in
-    let at-fields-fit = at-if3 .before in
-    let at-if2 = at-fields-fit .before in
-    let at-new-tail = at-if2 .before .before in
-    let at-measure = at-new-tail .before in
-    let at-shape-of = at-measure .before .before .before in
-    let start = at-shape-of .before .before .before .before in
-    let a = start .args in
-    let q = start .pre in
-    written (a .p) (a .image .now) (a .value .now) (a .id) q _ _ _ (at-shape-of .shape-of .ensures) (at-measure .measure .ensures)
-    (at-new-tail .new-tail .ensures) (a .out .now) (omega (arith, at-if2 .if2 .left)) _ (at-fields-fit .fields-fit .ensures)
-    (at-if3 .if3 .left) (omega (arith, at-if4 .if4 .left)) _ _ (c .before .before .put-rebuilt .ensures)
+    room-written _ _ _ _ (makes _ _ _ _ _ _ _ _ (tested (at-if3 .before)) (at-if3 .if3 .left)) (omega (arith, at-if4 .if4 .left)) _ _
+    (c .before .before .put-rebuilt .ensures)
 
 pub rebuild-spec : {M : Type 1} → statement M
 rebuild-spec =

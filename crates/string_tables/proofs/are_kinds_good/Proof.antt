@@ -1,3 +1,4 @@
+-- The two sums of the kinds are compared one after the other, each as an exact number.
 use native.Mathlib.Omega.{arith}
 use Rattle.sections.proofs.SectionLaws.{sectioned}
 use Rattle.string_tables.proofs.KindLaws.{strings-differ, strings-agree}
@@ -12,15 +13,13 @@ covered-by-requires c κs =
 returns : tie.Need-returns
 returns c =
     let start = c .before .before .before .before in
-    let f = c .before .before .covered-by .ensures in
-    strings-differ _ _ (start .pre) _ _ (f .0) (f .1) (c .if1 .taken)
+    strings-differ _ _ (start .pre) _ _ (c .before .before .covered-by .ensures) (c .if1 .taken)
 
 returns-2 : tie.Need-returns-2
 returns-2 c =
     let at-covered-by = c .before .before .before in
     let start = at-covered-by .before .before in
-    let f = at-covered-by .covered-by .ensures in
-    strings-agree _ _ (start .pre) _ _ (f .0) (f .1) (c .before .if1 .left)
+    strings-agree _ _ (start .pre) _ _ (at-covered-by .covered-by .ensures) (c .before .if1 .left)
 
 pub are-kinds-good-spec : {M : Type 1} → statement M
 are-kinds-good-spec = tie.close (tie.spec covered-by-requires returns returns-2)

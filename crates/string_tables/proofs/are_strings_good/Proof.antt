@@ -1,28 +1,21 @@
 -- Every entry before i is good, and k of them overflow.
 use Prim.Native.Nat.{_≤_, _-_}
-use mathlib.Core.Path.{_≡_}
-use mathlib.Core.Bool.{true}
 use native.Mathlib.Omega.{arith}
-use Rattle.bits.specs.Choice.{allBelow}
 use Rattle.bits.proofs.PassLaws.{pass-none}
-use Rattle.image.specs.Strings.{overBefore, smallIn}
 use Rattle.sections.proofs.SectionLaws.{sectioned}
-use Rattle.string_tables.specs.Strings.{entryGoodAt}
-use Rattle.string_tables.proofs.StringLaws.{count-none, count-next, entries-next, entry-fails, entries-end}
+use Rattle.string_tables.proofs.StringLaws.{count-none, Walked, EntryRead, count-next, entries-next, entry-fails, entries-end}
 use borrow.Author.Needs.{needs}
 use Rattle.string_tables.proofs.are_strings_good.Statement.{statement}
 use Rattle.string_tables.proofs.are_strings_good.Tie as tie
 
 abbrev Inv-loop : tie.InvT-loop
-Inv-loop image p k₀ i₀ k i =
-    (i ≤ p .strings) × (k ≤ i) × (k ≡ overBefore (smallIn (p .layout) image) i)
-    × (allBelow i (entryGoodAt (p .layout) image) ≡ true)
+Inv-loop image p k₀ i₀ k i = (i ≤ p .strings) × (k ≤ i) × Walked p image i k
 
 abbrev μ-loop : tie.MeasureT-loop
 μ-loop image p k₀ i₀ k i = p .strings - i
 
 loop-holds : tie.Need-loop-holds Inv-loop μ-loop
-loop-holds c = (omega arith, omega arith, count-none _, pass-none _)
+loop-holds c = (omega arith, omega arith, record { placed = c .before .pre; count = count-none _; good = pass-none _ })
 
 entry-at-requires : tie.Need-entry-at-requires Inv-loop μ-loop
 entry-at-requires c κs =
@@ -47,10 +40,13 @@ returns c =
     let at-entry-at = c .before .before .before in
     let at-if1 = at-entry-at .before in
     let at-loop = at-if1 .before .before in
-    let start = at-loop .before .before in
-    let l = at-loop .loop in
-    entry-fails _ _ (start .pre) (l .i) (l .k) _ _ (c .before .before .word .ensures .0) (at-entry-at .entry-at .ensures)
-    (l .inv .2) _ (c .before .is-entry-good .ensures) (c .if2 .taken) (at-if1 .if1 .taken)
+    entry-fails _ _ _ _ _ _
+    (record {
+      walked = at-loop .loop .inv .2;
+      known = at-if1 .if1 .taken;
+      word = c .before .before .word .ensures .0;
+      place = at-entry-at .entry-at .ensures;
+    }) _ (c .before .is-entry-good .ensures) (c .if2 .taken)
 
 add-k : tie.Need-add-k Inv-loop μ-loop
 add-k c =
@@ -63,25 +59,31 @@ loop-again c =
     let at-is-entry-good = c .before .before .before in
     let at-word = at-is-entry-good .before in
     let at-entry-at = at-word .before in
-    let at-loop = at-entry-at .before .before .before in
+    let at-if1 = at-entry-at .before in
+    let at-loop = at-if1 .before .before in
     let start = at-loop .before .before in
     let l = at-loop .loop in
-    let x = at-word .word .ensures .0 in
-    let a = at-entry-at .entry-at .ensures in (
+    let e : EntryRead (start .args .p) (start .args .image .now) (l .i) (l .k) (at-word .word .result) (at-entry-at .entry-at .result)
+    =
+    record {
+      walked = l .inv .2;
+      known = at-if1 .if1 .taken;
+      word = at-word .word .ensures .0;
+      place = at-entry-at .entry-at .ensures;
+    } in (
       omega arith,
       omega arith,
-      count-next _ _ (start .pre) (l .i) (l .k) _ _ x a (l .inv .2) _ _ (c .before .is-full .ensures)
-          (c .if-set .ensures .0),
-      entries-next _ _ (start .pre) (l .i) (l .k) _ _ x a (l .inv .2) _
-          (at-is-entry-good .is-entry-good .ensures) (c .before .before .if2 .left) (l .inv .3),
+      record {
+        placed = l .inv .2 .placed;
+        count = count-next _ _ _ _ _ _ e _ _ (c .before .is-full .ensures) (c .if-set .ensures .0);
+        good = entries-next _ _ _ _ _ _ e _ (at-is-entry-good .is-entry-good .ensures) (c .before .before .if2 .left);
+      },
     )
 
 returns-2 : tie.Need-returns-2 Inv-loop μ-loop
 returns-2 c =
-    let at-loop = c .before .before .before in
-    let start = at-loop .before .before in
-    let l = at-loop .loop in
-    entries-end _ _ (start .pre) (l .i) (l .k) (omega arith) (l .inv .2) (l .inv .3)
+    let l = c .before .before .before .loop in
+    entries-end _ _ (l .i) (l .k) (l .inv .2) (omega arith)
 
 pub are-strings-good-spec : {M : Type 1} → statement M
 are-strings-good-spec =

@@ -1,3 +1,4 @@
+-- An entry with a pair that is not there is refused before its place is read.
 use native.Mathlib.Omega.{arith}
 use Rattle.sections.proofs.SectionLaws.{sectioned}
 use Rattle.string_tables.proofs.StringLaws.{entry-misnumbered, entry-numbered, has-pair}
@@ -8,19 +9,21 @@ use Rattle.string_tables.proofs.is_entry_good.Tie as tie
 returns : tie.Need-returns
 returns c =
     let start = c .before .before .before in
-    entry-misnumbered _ _ (start .pre .0) _ _ _ (c .before .is-numbered .ensures) (c .if1 .taken)
+    entry-misnumbered _ _ _ _ _ (start .pre .0) (c .before .is-numbered .ensures) (c .if1 .taken)
 
 place-of-entry-requires : tie.Need-place-of-entry-requires
 place-of-entry-requires c κs =
     let start = c .before .before .before in
     let h = sectioned (start .args .p) (start .args .image .now) (start .pre .0) in
-    ((omega arith, omega arith), has-pair _ _ (start .pre .0) _ _ _ (c .before .is-numbered .ensures) (c .if1 .left))
+    let n = has-pair _ _ _ _ _ (record { placed = start .pre .0; tested = c .before .is-numbered .ensures; good = c .if1 .left }) in
+    ((omega arith, omega arith), n)
 
 returns-2 : tie.Need-returns-2
 returns-2 c =
     let at-is-numbered = c .before .before .before in
     let start = at-is-numbered .before .before in
-    entry-numbered _ _ (start .pre .0) _ _ _ (at-is-numbered .is-numbered .ensures) (c .before .before .if1 .left) _ _
+    entry-numbered _ _ _ _ _
+    (record { placed = start .pre .0; tested = at-is-numbered .is-numbered .ensures; good = c .before .before .if1 .left }) _ _
     (c .before .place-of-entry .ensures .0) (c .is-stored .ensures)
 
 pub is-entry-good-spec : {M : Type 1} → statement M

@@ -12,7 +12,8 @@ returns-2 c = past-pairs _ _ _ _ (c .before .before .is-full .ensures) (c .befor
 returns-3 : tie.Need-returns-3
 returns-3 c =
     let at-is-full = c .before .before .before in
-    own-number _ _ _ _ (at-is-full .is-full .ensures) (c .before .before .if1 .left) (c .before .if2 .left) _ (c .value .ensures .0)
+    rw (c .value .ensures .0)
+    (own-number _ _ _ _ (at-is-full .is-full .ensures) (c .before .before .if1 .left) (c .before .if2 .left))
 
 pub is-numbered-spec : {M : Type 1} → statement M
 is-numbered-spec = tie.close (tie.spec (λ c κs. search needs) returns returns-2 (λ c κs. search needs) returns-3)

@@ -1,3 +1,4 @@
+-- Past the storage, wide, or narrow: one way out for each.
 use native.Mathlib.Omega.{arith}
 use Rattle.sections.proofs.SectionLaws.{sectioned}
 use Rattle.string_tables.specs.Strings.{asPlace}
@@ -10,14 +11,14 @@ returns : tie.Need-returns
 returns c =
     let at-size-of = c .before .before .before in
     let start = at-size-of .before .before in
-    leaves-storage _ _ (start .pre .0) (asPlace (start .args .place)) _ (at-size-of .size-of .ensures .0) (c .if1 .taken)
+    leaves-storage _ _ (asPlace (start .args .place)) _ (start .pre .0) (at-size-of .size-of .ensures .0) (c .if1 .taken)
 
 returns-2 : tie.Need-returns-2
 returns-2 c =
     let at-size-of = c .before .before .before .before in
     let start = at-size-of .before .before in
-    wide-stored _ _ (start .pre .0) (asPlace (start .args .place)) _ (at-size-of .size-of .ensures .0) (c .before .if1 .left)
-    (c .if2 .taken)
+    wide-stored _ _ (asPlace (start .args .place)) _
+    (record { placed = start .pre .0; size = at-size-of .size-of .ensures .0; ends = c .before .if1 .left }) (c .if2 .taken)
 
 add-are-narrow : tie.Need-add-are-narrow
 add-are-narrow c =
@@ -37,8 +38,9 @@ returns-3 c =
     let at-if1 = at-if2 .before in
     let at-size-of = at-if1 .before .before .before in
     let start = at-size-of .before .before in
-    narrow-stored _ _ (start .pre .0) (asPlace (start .args .place)) _ (at-size-of .size-of .ensures .0) (at-if1 .if1 .left)
-    (at-if2 .if2 .left) _ (c .are-narrow .ensures)
+    narrow-stored _ _ (asPlace (start .args .place)) _
+    (record { placed = start .pre .0; size = at-size-of .size-of .ensures .0; ends = at-if1 .if1 .left }) (at-if2 .if2 .left) _
+    (c .are-narrow .ensures)
 
 pub is-stored-spec : {M : Type 1} → statement M
 is-stored-spec =

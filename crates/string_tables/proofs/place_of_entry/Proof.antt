@@ -1,3 +1,4 @@
+-- An overflowed entry has its place in its pair, any other in its own fields.
 use mathlib.Core.Path.{refl, _∙_, sym}
 use native.Mathlib.Omega.{arith}
 use Rattle.string_tables.proofs.StringLaws.{pair-place, own-place}
@@ -23,8 +24,13 @@ returns c =
     let at-if1 = c .before .before .before in
     let at-is-full = at-if1 .before in
     let at-is-wide = at-is-full .before in (
-      pair-place _ _ _ _ _ _ (at-is-wide .is-wide .ensures) (at-is-full .is-full .ensures) (at-if1 .if1 .taken) _ _ _
-          (c .before .before .entry-at .ensures) (c .before .word .ensures .0) (c .word2 .ensures .0),
+      pair-place _ _ _ _ _ _ (record { widths = at-is-wide .is-wide .ensures; fills = at-is-full .is-full .ensures })
+          (at-if1 .if1 .taken) _ _ _
+          (record {
+            place = c .before .before .entry-at .ensures;
+            offset = c .before .word .ensures .0;
+            count = c .word2 .ensures .0;
+          }),
       omega arith,
       omega arith,
     )
@@ -33,8 +39,8 @@ returns-2 : tie.Need-returns-2
 returns-2 c =
     let at-is-full = c .before .before .before in
     let at-is-wide = at-is-full .before in (
-      own-place _ _ _ _ _ _ (at-is-wide .is-wide .ensures) (at-is-full .is-full .ensures) (c .before .before .if1 .left) _ _
-          (c .before .value .ensures .0) (c .value2 .ensures .0),
+      own-place _ _ _ _ _ _ (record { widths = at-is-wide .is-wide .ensures; fills = at-is-full .is-full .ensures })
+          (c .before .before .if1 .left) _ _ (record { offset = c .before .value .ensures .0; count = c .value2 .ensures .0 }),
       omega arith,
       omega arith,
     )

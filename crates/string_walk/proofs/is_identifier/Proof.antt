@@ -14,7 +14,7 @@ returns : tie.Need-returns
 returns c =
     let start = c .before .before .before in
     let e = c .run-of .ensures in
-    flag-of _ _ (start .pre .0 .placed) _ (e .0) _ (e .1) (e .2)
+    flag-of _ _ _ _ (record { placed = start .pre .0 .placed; run = e .0; reached = e .1; ends = e .2 })
 
 pub is-identifier-spec : {M : Type 1} → statement M
 is-identifier-spec = tie.close (tie.spec (λ c κs. search needs) run-of-requires returns)

@@ -1,3 +1,4 @@
+-- What the kinds before the run cover, and the run itself, make what the kinds before the next one cover.
 use borrow.Author.Needs.{needs}
 use Rattle.string_walk.proofs.next_run.Statement.{statement}
 use Rattle.string_walk.proofs.next_run.Tie as tie
@@ -13,21 +14,21 @@ add-t8 c =
     let h = start .pre in
     let z = sectioned _ _ (h .0 .placed) in
     let x = rw (at-kind-word .kind-word .ensures) at (c .before .before .value .ensures .0) in
-    record { fits = omega (arith, next-ends _ _ (h .0) _ (h .1 .0) (h .1 .1)) }
+    record { fits = omega (arith, next-ends _ _ _ (record { laid = h .0; run = h .1 .0 }) (h .1 .1)) }
 
 sub-if-set : tie.Need-sub-if-set
 sub-if-set c =
     let start = c .before .before .before .before .before .before .before in
     let h = start .pre in
-    known-of _ _ (h .0) _ (h .1 .0) .order
+    known-of _ _ _ (record { laid = h .0; run = h .1 .0 }) .order
 
 add-t12 : tie.Need-add-t12
 add-t12 c =
     let start = c .before .before .before .before .before .before .before .before .before in
     let h = start .pre in
     let z = sectioned _ _ (h .0 .placed) in
-    let k = rw (← c .before .if-set .ensures .0) at (known-of _ _ (h .0) _ (h .1 .0) .rank) in
-    record { fits = omega (arith, next-ends _ _ (h .0) _ (h .1 .0) (h .1 .1)) }
+    let k = rw (← c .before .if-set .ensures .0) at (known-of _ _ _ (record { laid = h .0; run = h .1 .0 }) .rank) in
+    record { fits = omega (arith, next-ends _ _ _ (record { laid = h .0; run = h .1 .0 }) (h .1 .1)) }
 
 returns : tie.Need-returns
 returns c =
@@ -36,8 +37,12 @@ returns c =
     let at-kind-word = at-value .before in
     let start = at-kind-word .before .before in
     let h = start .pre in (
-      next-is _ _ (h .0) _ (h .1 .0) (h .1 .1) _ _ _ _ (at-kind-word .kind-word .ensures) (at-value .value .ensures .0)
-          (at-is-identifier-run .is-identifier-run .ensures) (c .before .if-set .ensures .0),
+      next-is _ _ _ (record { laid = h .0; run = h .1 .0 }) _ _ _ _
+          (record {
+            word = at-kind-word .kind-word .ensures;
+            covers = at-value .value .ensures .0;
+            flag = at-is-identifier-run .is-identifier-run .ensures;
+          }) (c .before .if-set .ensures .0),
       refl,
       refl,
     )

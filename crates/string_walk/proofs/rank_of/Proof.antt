@@ -1,3 +1,4 @@
+-- The identifiers of the runs before, and those of the id's own run that come before it.
 use borrow.Author.Needs.{needs}
 use Rattle.string_walk.proofs.rank_of.Statement.{statement}
 use Rattle.string_walk.proofs.rank_of.Tie as tie
@@ -15,7 +16,10 @@ add-result c =
     let at-run-of = c .before .before .before in
     let start = at-run-of .before .before .before in
     let e = at-run-of .run-of .ensures in
-    record { fits = omega (arith, rank-most _ _ (start .pre .0 .placed) _ (e .0) _ (e .1) (e .2) _ (c .before .if-set .ensures .0)) }
+    let h = start .pre .0 .placed in
+    let m =
+    rank-most _ _ _ _ (record { placed = h; run = e .0; reached = e .1; ends = e .2 }) _ (c .before .if-set .ensures .0) in
+    record { fits = omega (arith, m) }
 
 returns : tie.Need-returns
 returns c =
@@ -23,8 +27,9 @@ returns c =
     let start = at-run-of .before .before .before in
     let h = start .pre in
     let e = at-run-of .run-of .ensures in
-    let r = rank-is _ _ (h .0 .placed) _ (e .0) _ (e .1) (e .2) _ (c .before .if-set .ensures .0) in
-    (r, slot-in _ _ (h .0) _ _ (h .1) r)
+    let r =
+    rank-is _ _ _ _ (record { placed = h .0 .placed; run = e .0; reached = e .1; ends = e .2 }) _ (c .before .if-set .ensures .0) in
+    (r, λ t. rw r (slot-in _ _ (h .0) _ (h .1) t))
 
 pub rank-of-spec : {M : Type 1} → statement M
 rank-of-spec =

@@ -20,7 +20,7 @@ next-run-requires c κs =
     let start = c .before .before .before .before in
     let h = start .pre in
     let l = c .before .before .loop in
-    (h .laid, (l .inv .0, more-runs _ _ (h .laid) _ (l .inv .0) _ (h .known) (c .if1 .taken)))
+    (h .laid, (l .inv .0, more-runs _ _ _ (record { laid = h .laid; run = l .inv .0 }) _ (h .known) (c .if1 .taken)))
 
 loop-less : tie.Need-loop-less Inv-loop μ-loop
 loop-less c =
@@ -28,7 +28,7 @@ loop-less c =
     let start = at-loop .before .before in
     let h = start .pre in
     let l = at-loop .loop in
-    let m = more-runs _ _ (h .laid) _ (l .inv .0) _ (h .known) (c .before .if1 .taken) in
+    let m = more-runs _ _ _ (record { laid = h .laid; run = l .inv .0 }) _ (h .known) (c .before .if1 .taken) in
     omega arith
 
 loop-again : tie.Need-loop-again Inv-loop μ-loop
@@ -37,8 +37,8 @@ loop-again c =
     let start = at-loop .before .before in
     let h = start .pre in
     let l = at-loop .loop in
-    let m = more-runs _ _ (h .laid) _ (l .inv .0) _ (h .known) (c .before .if1 .taken) in
-    (next-run-of _ _ (h .laid) _ (l .inv .0) m _ (c .next-run .ensures .0) (c .next-run .ensures .2), omega arith)
+    let m = more-runs _ _ _ (record { laid = h .laid; run = l .inv .0 }) _ (h .known) (c .before .if1 .taken) in
+    (next-run-of _ _ _ (record { laid = h .laid; run = l .inv .0 }) m _ (c .next-run .ensures .0), omega arith)
 
 returns : tie.Need-returns Inv-loop μ-loop
 returns c = let l = c .before .before .loop in (l .inv .0, l .inv .1, c .if1 .left)

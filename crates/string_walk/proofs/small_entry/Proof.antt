@@ -2,7 +2,7 @@ use Rattle.string_walk.proofs.small_entry.Statement.{statement}
 use Rattle.string_walk.proofs.small_entry.Tie as tie
 use native.Mathlib.Omega.{arith}
 use Rattle.sections.proofs.SectionLaws.{sectioned}
-use Rattle.string_walk.proofs.WalkLaws.{entry-is}
+use Rattle.string_tables.proofs.StringLaws.{small-word}
 
 entry-at-requires : tie.Need-entry-at-requires
 entry-at-requires c κs =
@@ -17,7 +17,7 @@ word-requires c κs =
 returns : tie.Need-returns
 returns c =
     let start = c .before .before .before in
-    (entry-is _ _ (start .pre .0) _ _ _ (c .word .ensures .0) (c .before .entry-at .ensures), c .word .ensures .1)
+    (small-word _ _ (start .pre .0) _ _ _ (c .word .ensures .0) (c .before .entry-at .ensures), c .word .ensures .1)
 
 pub small-entry-spec : {M : Type 1} → statement M
 small-entry-spec = tie.close (tie.spec entry-at-requires word-requires returns)

@@ -23,7 +23,7 @@ returns c =
     let r = at-run-of .run-of .ensures in
     record {
       place = at-place-of .place-of .ensures;
-      identifier = flag-of _ _ (h .0 .placed) _ (r .0) _ (r .1) (r .2);
+      identifier = flag-of _ _ _ _ (record { placed = h .0 .placed; run = r .0; reached = r .1; ends = r .2 });
       next = record {
         over = over-next _ _ _ _ _ (h .1 .0 .over) (at-small-entry .small-entry .ensures .0) (c .next-over .ensures .0);
         run = r .0;

@@ -1,3 +1,4 @@
+-- A wide unit is two bytes, a narrow one is one; both lie within what the caller has shown to be there.
 use borrow.Author.Needs.{needs}
 use Rattle.string_walk.proofs.unit_at.Statement.{statement}
 use Rattle.string_walk.proofs.unit_at.Tie as tie

@@ -29,8 +29,11 @@ returns-2 c =
     let at-admitted = at-locate .before .before in
     let at-admit = at-admitted .before .before in
     let a = at-admit .before .before .before .before .args in
-    id-absent _ _ _ (at-admit .admit .ensures) _ (at-admitted .admitted .given .1) (a .id) (a .value .now) (a .out .now) _
-    (at-locate .locate .ensures) _
+    id-absent _ _ _ _ (a .id) (a .value .now) (a .out .now) _
+    (record {
+      admits = record { is = at-admit .admit .ensures; laid = at-admitted .admitted .given .1 };
+      location = at-locate .locate .ensures;
+    }) _
     (c .before .enum-told2 .given .1) _ (c .number-of2 .ensures)
 
 returns-3 : tie.Need-returns-3
@@ -41,8 +44,12 @@ returns-3 c =
     let at-admit = at-admitted .before .before in
     let a = at-admit .before .before .before .before .args in
     let found = located-at _ _ _ _ _ (at-locate .locate .ensures) _ _ (at-location .location .given .1) in
-    id-value _ _ _ (at-admit .admit .ensures) _ (at-admitted .admitted .given .1) (a .id) (a .value .now) (a .out .now) (found .1) _
-    (c .before .is-utf8 .ensures) (c .if1 .taken)
+    id-value _ _ _ _ (a .id) (a .value .now) (a .out .now) _
+    (record {
+      admits = record { is = at-admit .admit .ensures; laid = at-admitted .admitted .given .1 };
+      known = found .1;
+      tested = c .before .is-utf8 .ensures;
+    }) (c .if1 .taken)
 
 patch-known-requires : tie.Need-patch-known-requires
 patch-known-requires c κs =
@@ -64,8 +71,12 @@ returns-4 c =
     let at-admit = at-admitted .before .before in
     let a = at-admit .before .before .before .before .args in
     let found = located-at _ _ _ _ _ (at-locate .locate .ensures) _ _ (at-location .location .given .1) in
-    id-known _ _ _ (at-admit .admit .ensures) _ (at-admitted .admitted .given .1) (a .id) (a .value .now) (a .out .now) (found .1) _
-    (at-utf8 .is-utf8 .ensures) (c .before .before .before .before .if1 .left) _ _ (c .before .before .patch-known .ensures)
+    id-known _ _ _ _ (a .id) (a .value .now) (a .out .now) _
+    (record {
+      admits = record { is = at-admit .admit .ensures; laid = at-admitted .admitted .given .1 };
+      known = found .1;
+      tested = at-utf8 .is-utf8 .ensures;
+    }) (c .before .before .before .before .if1 .left) _ _ (c .before .before .patch-known .ensures)
 
 pub patch-string-by-id-spec : {M : Type 1} → statement M
 patch-string-by-id-spec =

@@ -6,6 +6,7 @@ use Prim.Native.Nat.{ℕ, _<_}
 use lib.ListN.{getD}
 use Rattle.admission.proofs.AnswerLaws.{is-laid}
 use Rattle.string_walk.proofs.WalkLaws.{located-self}
+use Rattle.strings.proofs.PatchLaws.{OldTested, NewTested, ValueSought}
 use Rattle.strings.proofs.PatchLaws.{value-refused, old-value, new-value, value-absent, value-known}
 
 returns : tie.Need-returns
@@ -15,22 +16,45 @@ returns c =
     value-refused _ _ _ (at-admit .admit .ensures) (a .old .now) (a .new .now) (a .out .now) _ _ (c .before .enum-told .given .1)
     (c .number-of .ensures)
 
+-- ---- what is known behind each test
+
+old-tested : (c : tie.After-is-utf8) → let at-admitted = c .before .before in
+    let at-admit = at-admitted .before .before in
+    let a = at-admit .before .before .before .before .before .args in
+    OldTested (a .layout) (a .image .now) (at-admit .admit .result) (at-admitted .admitted .given .0 .0) (a .old .now) (c .is-utf8 .result)
+old-tested c =
+    let at-admitted = c .before .before in
+    record {
+      admits = record { is = at-admitted .before .before .admit .ensures; laid = at-admitted .admitted .given .1 };
+      tested = c .is-utf8 .ensures;
+    }
+
+new-tested : (c : tie.After-is-utf82) → let at-admitted = c .before .before .before .before in
+    let at-admit = at-admitted .before .before in
+    let a = at-admit .before .before .before .before .before .args in
+    NewTested (a .layout) (a .image .now) (at-admit .admit .result) (at-admitted .admitted .given .0 .0) (a .old .now) (a .new .now)
+    (c .before .before .is-utf8 .result) (c .is-utf82 .result)
+new-tested c =
+    record { before = old-tested (c .before .before); valid = c .before .if1 .left; tested = c .is-utf82 .ensures }
+
+sought : (c : tie.After-find) → let at-new = c .before .before in
+    let at-admitted = at-new .before .before .before .before in
+    let at-admit = at-admitted .before .before in
+    let a = at-admit .before .before .before .before .before .args in
+    ValueSought (a .layout) (a .image .now) (at-admit .admit .result) (at-admitted .admitted .given .0 .0) (a .old .now) (a .new .now)
+    (at-new .before .before .is-utf8 .result) (at-new .is-utf82 .result) (c .find .result)
+sought c =
+    record { before = new-tested (c .before .before); valid = c .before .if2 .left; location = c .find .ensures }
+
+-- ---- the needs
+
 returns-2 : tie.Need-returns-2
 returns-2 c =
-    let at-admitted = c .before .before .before in
-    let at-admit = at-admitted .before .before in
-    let a = at-admit .before .before .before .before .before .args in
-    old-value _ _ _ (at-admit .admit .ensures) _ (at-admitted .admitted .given .1) (a .old .now) (a .new .now) (a .out .now) _
-    (c .before .is-utf8 .ensures) (c .if1 .taken)
+    let a = c .before .before .before .before .before .before .before .before .before .before .args in
+    old-value _ _ _ _ (a .old .now) (a .new .now) (a .out .now) _ (old-tested (c .before)) (c .if1 .taken)
 
 returns-3 : tie.Need-returns-3
-returns-3 c =
-    let at-old = c .before .before .before in
-    let at-admitted = at-old .before .before in
-    let at-admit = at-admitted .before .before in
-    let a = at-admit .before .before .before .before .before .args in
-    new-value _ _ _ (at-admit .admit .ensures) _ (at-admitted .admitted .given .1) (a .old .now) (a .new .now) (a .out .now) _
-    (at-old .is-utf8 .ensures) (c .before .before .if1 .left) _ (c .before .is-utf82 .ensures) (c .if2 .taken)
+returns-3 c = new-value _ _ _ _ _ _ _ _ _ (new-tested (c .before)) (c .if2 .taken)
 
 find-requires : tie.Need-find-requires
 find-requires c κs =
@@ -42,16 +66,7 @@ find-requires c κs =
 
 returns-4 : tie.Need-returns-4
 returns-4 c =
-    let at-find = c .before .before .before in
-    let at-new = at-find .before .before in
-    let at-old = at-new .before .before in
-    let at-admitted = at-old .before .before in
-    let at-admit = at-admitted .before .before in
-    let a = at-admit .before .before .before .before .before .args in
-    value-absent _ _ _ (at-admit .admit .ensures) _ (at-admitted .admitted .given .1) (a .old .now) (a .new .now) (a .out .now) _
-    (at-old .is-utf8 .ensures) (at-new .before .if1 .left) _ (at-new .is-utf82 .ensures) (at-find .before .if2 .left) _
-    (at-find .find .ensures) _
-    (c .before .enum-told2 .given .1) _ (c .number-of2 .ensures)
+    value-absent _ _ _ _ _ _ _ _ _ _ (sought (c .before .before .before)) _ (c .before .enum-told2 .given .1) _ (c .number-of2 .ensures)
 
 patch-known-requires : tie.Need-patch-known-requires
 patch-known-requires c κs =
@@ -68,15 +83,10 @@ returns-5 : tie.Need-returns-5
 returns-5 c =
     let at-location = c .before .before .before .before .before in
     let at-find = at-location .before .before in
-    let at-new = at-find .before .before in
-    let at-old = at-new .before .before in
-    let at-admitted = at-old .before .before in
-    let at-admit = at-admitted .before .before in
+    let at-admit = at-find .before .before .before .before .before .before .before .before in
     let a = at-admit .before .before .before .before .before .args in
-    value-known _ _ _ (at-admit .admit .ensures) _ (at-admitted .admitted .given .1) (a .old .now) (a .new .now) (a .out .now) _
-    (at-old .is-utf8 .ensures) (at-new .before .if1 .left) _ (at-new .is-utf82 .ensures) (at-find .before .if2 .left) _
-    (at-find .find .ensures) _ _
-    (at-location .location .given .1) _ _ (c .before .before .patch-known .ensures)
+    value-known _ _ _ _ _ _ (a .out .now) _ _ _ (sought at-find) _ _ (at-location .location .given .1) _ _
+    (c .before .before .patch-known .ensures)
 
 pub patch-string-replace-spec : {M : Type 1} → statement M
 patch-string-replace-spec =

@@ -144,7 +144,7 @@ put-decimal-returns-2 t c =
     put-more (c .before .before .before .before .before .before .before .args .x)
     (c .before .before .before .before .before .before .before .args .at) (p .result) _
     (c .before .before .before .before .before .before .before .args .out .now) (p .last .0)
-    (c .before .before .before .before .before .if1 .left) (p .ensures .0) (p .ensures .1) (c .digit2 .ensures)
+    (c .before .before .before .before .before .if1 .left) (p .ensures) (c .digit2 .ensures)
 
 pub +put-decimal-spec : {M : Type 1} → statement M
 +put-decimal-spec = close μ-put-decimal λ t. put-decimal-lts.spec (

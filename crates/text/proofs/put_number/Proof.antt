@@ -1,3 +1,4 @@
+-- The digits, and one byte behind them.
 use borrow.Author.Needs.{needs}
 use Rattle.text.proofs.put_number.Statement.{statement}
 use Rattle.text.proofs.put_number.Tie as tie

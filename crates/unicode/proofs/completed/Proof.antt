@@ -1,3 +1,4 @@
+-- By where the reader stands: wrong, within a code point, or behind one of one or two units.
 use borrow.Author.Tests.{not-true, not-false}
 use native.Mathlib.Omega.{arith}
 use Rattle.unicode.proofs.ReadingLaws.{completes-wrong, completes-more, completes-one, completes-two}

@@ -7,7 +7,7 @@ use Rattle.unicode.specs.declared.Reading.{Reading}
 use native.Mathlib.Nat.{zero-add}
 use Rattle.unicode.specs.Utf8.{Small, between, unitsFrom, utf16}
 use Rattle.unicode.proofs.ReadingLaws.{small-between}
-use Rattle.unicode.proofs.UnitLaws.{waits, weight-turn, count-turn, units-end}
+use Rattle.unicode.proofs.UnitLaws.{waits, ByteTaken, weight-turn, count-turn, units-end}
 use Rattle.unicode.proofs.count_units.Statement.{statement}
 use Rattle.unicode.proofs.count_units.Tie as tie
 
@@ -42,7 +42,8 @@ add-n c =
     let n = c .before .before .next-byte in
     omega (
       arith,
-      weight-turn (l .r) (n .result) (start .args .value .now) _ (l .i) (omega arith) (n .ensures .0) (c .before .completed .ensures),
+      weight-turn (l .r) (n .result) (start .args .value .now) _ (l .i)
+          (record { more = omega arith; next = n .ensures .0; completed = c .before .completed .ensures }),
       c .count-of .ensures .0,
       l .inv .2,
     )
@@ -53,17 +54,19 @@ loop-again c =
     let start = at-loop .before .before .before in
     let l = at-loop .loop in
     let s = start .args .value .now in
-    let n = c .before .before .next-byte in (
+    let n = c .before .before .next-byte in
+    let t : ByteTaken (l .r) (n .result) s _ (l .i) =
+    record { more = omega arith; next = n .ensures .0; completed = c .before .completed .ensures } in (
       omega arith,
       n .ensures .1,
       omega (
         arith,
-        weight-turn (l .r) (n .result) s _ (l .i) (omega arith) (n .ensures .0) (c .before .completed .ensures),
+        weight-turn (l .r) (n .result) s _ (l .i) t,
         c .count-of .ensures .0,
         l .inv .2,
       ),
       rw (c .count-of .ensures .0)
-          (count-turn (l .r) (n .result) s _ (l .i) (omega arith) (n .ensures .0) (c .before .completed .ensures) (l .n) _ (l .inv .3)),
+          (count-turn (l .r) (n .result) s _ (l .i) t (l .n) _ (l .inv .3)),
     )
 
 returns : tie.Need-returns Inv-loop μ-loop

@@ -1,3 +1,4 @@
+-- Below the range, above it, or in it: the code point so far stays below 2^21.
 use native.Mathlib.Omega.{arith}
 use Rattle.unicode.proofs.ReadingLaws.{small-wrong, point-low, goes-below, goes-above, goes-on}
 use borrow.Author.Needs.{needs}
@@ -29,7 +30,8 @@ returns-3 c =
     let at-wide = c .before .before .before .before .before .before .before in
     let start = at-wide .before in
     rw (c .further .ensures, at-wide .wide .ensures .0)
-    (goes-on (start .args .r) (start .args .b) (start .pre .0) (start .pre .1) (omega arith) (omega arith))
+    (goes-on (start .args .r) (start .args .b) (start .pre .0) (start .pre .1)
+    (record { least = omega arith; most = omega arith }))
 
 pub goes-on-spec : {M : Type 1} → statement M
 goes-on-spec =

@@ -7,7 +7,7 @@ use Rattle.unicode.specs.declared.Reading.{Reading}
 use Rattle.format.specs.Hash.{hashFrom, hashOf}
 use Rattle.unicode.specs.Utf8.{Small, between, unitsFrom, utf16}
 use Rattle.unicode.proofs.ReadingLaws.{small-between}
-use Rattle.unicode.proofs.UnitLaws.{hash-turn, units-end}
+use Rattle.unicode.proofs.UnitLaws.{ByteTaken, hash-turn, units-end}
 use Rattle.unicode.proofs.hash_value.Statement.{statement}
 use Rattle.unicode.proofs.hash_value.Tie as tie
 
@@ -39,11 +39,13 @@ loop-again c =
     let start = at-loop .before .before .before in
     let l = at-loop .loop in
     let s = start .args .value .now in
-    let n = c .before .before .next-byte in (
+    let n = c .before .before .next-byte in
+    let t : ByteTaken (l .r) (n .result) s _ (l .i) =
+    record { more = omega arith; next = n .ensures .0; completed = c .before .completed .ensures } in (
       omega arith,
       n .ensures .1,
       rw (c .hash-completed .ensures)
-          (hash-turn (l .r) (n .result) s _ (l .i) (omega arith) (n .ensures .0) (c .before .completed .ensures) (l .h) _ (l .inv .2)),
+          (hash-turn (l .r) (n .result) s _ (l .i) t (l .h) _ (l .inv .2)),
     )
 
 returns : tie.Need-returns Inv-loop μ-loop

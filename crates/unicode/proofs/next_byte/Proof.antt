@@ -1,3 +1,4 @@
+-- By where the reader stands: wrong, between code points, or within one.
 use mathlib.Core.Path.{_∙_}
 use borrow.Author.Tests.{not-true, not-false}
 use native.Mathlib.Omega.{arith}

@@ -1,3 +1,4 @@
+-- By the range of the first byte, as the table of the Unicode Standard has the ranges.
 use native.Mathlib.Omega.{arith}
 use Rattle.unicode.proofs.ReadingLaws.{small-wrong, opens-ascii, opens-none, opens-two, opens-three, opens-four, opens-past}
 use borrow.Author.Needs.{needs}

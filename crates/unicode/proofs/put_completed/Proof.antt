@@ -1,3 +1,4 @@
+-- By the number of units: none, two bytes, or two bytes and two behind them.
 use mathlib.Core.Path.{refl, sym}
 use native.Mathlib.Nat.{add-zero}
 use native.Mathlib.Omega.{arith}

@@ -6,7 +6,7 @@ use lib.ListN.{length, drop}
 use lib.Seq.{sets}
 use Rattle.unicode.specs.Utf8.{Small, between, unitsFrom, unitBytes, utf16}
 use Rattle.unicode.proofs.ReadingLaws.{small-between}
-use Rattle.unicode.proofs.UnitLaws.{put-turn, put-room, units-end}
+use Rattle.unicode.proofs.UnitLaws.{ByteTaken, put-turn, put-room, units-end}
 use Rattle.unicode.proofs.put_units.Statement.{statement}
 use Rattle.unicode.proofs.put_units.Tie as tie
 
@@ -38,8 +38,8 @@ put-completed-requires c κs =
     let start = at-loop .before .before .before .before in
     let l = at-loop .loop in
     let n = c .before .before .next-byte in
-    put-room (l .r) (n .result) (start .args .value .now) _ (l .i) (omega arith) (n .ensures .0) (c .completed .ensures) (l .to) _
-    (l .inv .3) .0
+    put-room (l .r) (n .result) (start .args .value .now) _ (l .i)
+    (record { more = omega arith; next = n .ensures .0; completed = c .completed .ensures }) (l .to) _ (l .inv .3) .0
 
 loop-again : tie.Need-loop-again Inv-loop μ-loop
 loop-again c =
@@ -50,16 +50,17 @@ loop-again c =
     let l = at-loop .loop in
     let s = start .args .value .now in
     let n = at-next-byte .next-byte in
-    let u = at-completed .completed .ensures in
+    let t : ByteTaken (l .r) (n .result) s _ (l .i) =
+    record { more = omega arith; next = n .ensures .0; completed = at-completed .completed .ensures } in
     let p = c .before .before .put-completed in
-    let room = put-room (l .r) (n .result) s _ (l .i) (omega arith) (n .ensures .0) u (l .to) _ (l .inv .3) in (
+    let room = put-room (l .r) (n .result) s _ (l .i) t (l .to) _ (l .inv .3) in (
       omega arith,
       n .ensures .1,
       p .kept .0
           ∙ l .inv .2,
       omega (arith, room .1, p .ensures .0, p .kept .0),
       rw (p .ensures .0, p .ensures .1)
-          (put-turn (l .r) (n .result) s _ (l .i) (omega arith) (n .ensures .0) u (l .out) _ (l .to) (l .inv .4)),
+          (put-turn (l .r) (n .result) s _ (l .i) t (l .out) _ (l .to) (l .inv .4)),
     )
 
 same-length : tie.Need-same-length Inv-loop μ-loop

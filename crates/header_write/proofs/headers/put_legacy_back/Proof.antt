@@ -2,7 +2,7 @@ use borrow.Author.Needs.{needs}
 use Rattle.header_write.proofs.headers.put_legacy_back.Statement.{statement}
 use Rattle.header_write.proofs.headers.put_legacy_back.Tie as tie
 use Rattle.header_write.specs.Headers.{legacyBack, run}
-use Rattle.header_write.proofs.HeaderLaws.{four-parts}
+use Rattle.header_write.proofs.HeaderLaws.{parts}
 
 returns : tie.Need-returns
 unfolding legacyBack run
@@ -12,8 +12,10 @@ returns c =
     let at-put-rows = at-put-rows-if .before .before .before .before .before in
     let at-segment = at-put-rows .before .before .before in
     let start = at-segment .before .before in
-    four-parts (start .args .layout) _ _ _ _ _ _ _ _ _ (rw (at-segment .segment .ensures) at (at-put-rows .put-rows .ensures))
-    (at-put-rows-if .put-rows-if .ensures) (at-put-rows2 .put-rows2 .ensures) (c .before .before .put-options .ensures)
+    let l = start .args .layout in
+    parts l _ _ _ _ _ (rw (at-segment .segment .ensures) at (at-put-rows .put-rows .ensures))
+    (parts l _ _ _ _ _ (at-put-rows-if .put-rows-if .ensures)
+    (parts l _ _ _ _ _ (at-put-rows2 .put-rows2 .ensures) (c .before .before .put-options .ensures)))
 
 pub put-legacy-back-spec : {M : Type 1} → statement M
 put-legacy-back-spec =

@@ -57,8 +57,13 @@ loop-again c =
       omega arith,
       c .before .before .put-word .kept .0
           ∙ l .inv .1,
-      run-next (s .layout) (s .first) (l .i) (s .values .now) (l .buf) _ (l .inv .2) (g .get .result) _ (g .get .ensures)
-          (word-width (g .get .result) (word g)) (omega arith) (rw (← at-place .place .ensures) (c .before .before .put-word .ensures)),
+      run-next (s .layout) (s .first) (l .i) (s .values .now) (l .buf) _ (l .inv .2) (g .get .result) _
+          (record {
+            more = omega arith;
+            row = g .get .ensures;
+            word = word-width (g .get .result) (word g);
+            stored = rw (← at-place .place .ensures) (c .before .before .put-word .ensures);
+          }),
     )
 
 same-length : tie.Need-same-length Inv-loop μ-loop
