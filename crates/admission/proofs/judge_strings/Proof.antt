@@ -1,3 +1,4 @@
+-- 4 before 5: strings are judged only where the kinds are good.
 use mathlib.Core.Path.{_≡_}
 use mathlib.Core.Bool.{true}
 use Rattle.string_tables.specs.Kinds.{kindsGood}

@@ -1,3 +1,4 @@
+-- By the layout: 12 bytes or 16.
 use borrow.Author.Needs.{needs}
 use Rattle.function_table.proofs.load_record.Statement.{statement}
 use Rattle.function_table.proofs.load_record.Tie as tie

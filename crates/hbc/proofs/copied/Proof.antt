@@ -1,3 +1,4 @@
+-- 13, or the bytes in a buffer that has room for them.
 use borrow.Author.Needs.{needs}
 use Rattle.hbc.proofs.copied.Statement.{statement}
 use Rattle.hbc.proofs.copied.Tie as tie

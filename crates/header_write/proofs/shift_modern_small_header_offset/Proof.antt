@@ -1,3 +1,4 @@
+-- A slot that is too short is left; else its number with the offset moved is what is stored.
 use native.Mathlib.Omega.{arith}
 use mir.Facts.{toZ-ofZ}
 use Rattle.format.specs.Table.{modernRecord}

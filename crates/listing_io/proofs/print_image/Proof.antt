@@ -1,3 +1,4 @@
+-- The image of an input that was opened stands behind the head and is admitted.
 use borrow.Author.Needs.{needs}
 use Rattle.listing_io.proofs.print_image.Statement.{statement}
 use Rattle.listing_io.proofs.print_image.Tie as tie

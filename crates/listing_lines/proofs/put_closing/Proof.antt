@@ -1,3 +1,4 @@
+-- A dash where there is no unit, and the line's end.
 use borrow.Author.Needs.{needs}
 use Rattle.listing_lines.proofs.put_closing.Statement.{statement}
 use Rattle.listing_lines.proofs.put_closing.Tie as tie

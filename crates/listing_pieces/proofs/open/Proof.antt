@@ -1,3 +1,4 @@
+-- A head that is none gives its number; any other is judged with what is behind it.
 use borrow.Author.Needs.{needs}
 use Rattle.listing_pieces.proofs.open.Statement.{statement}
 use Rattle.listing_pieces.proofs.open.Tie as tie

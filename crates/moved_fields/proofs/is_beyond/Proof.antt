@@ -1,3 +1,4 @@
+-- A row of a record is narrower than a word, so that the power of two fits one.
 use Rattle.moved_fields.proofs.is_beyond.Statement.{statement}
 use Rattle.moved_fields.proofs.is_beyond.Tie as tie
 use native.Mathlib.Omega.{arith}

@@ -1,3 +1,4 @@
+-- Put whole for a rebuild; else the record stays where its pointer does.
 use borrow.Author.Needs.{needs}
 use Rattle.relocate.proofs.large_record.Statement.{statement}
 use Rattle.relocate.proofs.large_record.Tie as tie

@@ -1,3 +1,4 @@
+-- Flag and pointer are put into nothing; each field lies in one word.
 use Rattle.serialize.specs.Parts.{recordOf}
 use borrow.Author.Needs.{needs}
 use Rattle.serialize.proofs.pointing_record.Statement.{statement}

@@ -1,3 +1,4 @@
+-- What lies before the body, then what lies from it on, then the end; the lengths stay as they are.
 use Rattle.serialize.proofs.PartLaws.{image-made}
 use borrow.Author.Needs.{needs}
 use Rattle.serialize.proofs.put_image.Statement.{statement}

@@ -1,3 +1,4 @@
+-- The record's slot lies before the kinds and is as long as the record.
 use Rattle.serialize.proofs.PartLaws.{record-laid}
 use borrow.Author.Needs.{needs}
 use Rattle.serialize.proofs.put_record.Statement.{statement}

@@ -1,3 +1,4 @@
+-- No sum wraps: there are no more strings than an image may have bytes.
 use Prim.Native.Nat.{_≤_}
 use native.Mathlib.Nat.{mul-le-mul-left}
 use native.Mathlib.Omega.{arith}

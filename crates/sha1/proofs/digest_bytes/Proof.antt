@@ -1,3 +1,4 @@
+-- Five words, one behind the other: each is stored over zeros, and together they fill the array.
 use mathlib.Core.Path.{refl}
 use lib.ListN.{replicate}
 use Rattle.sha1.proofs.BigEndianLaws.{five-words}

@@ -1,3 +1,4 @@
+-- Sums modulo 2^32, one after the other, as the standard adds them.
 use Rattle.sha1.specs.Sha1.{turned}
 use borrow.Author.Needs.{needs}
 use Rattle.sha1.proofs.turn.Statement.{statement}

@@ -1,3 +1,4 @@
+-- The entry lies in its table, and the table in the image.
 use Rattle.string_walk.proofs.kind_word.Statement.{statement}
 use Rattle.string_walk.proofs.kind_word.Tie as tie
 use native.Mathlib.Omega.{arith}

@@ -1,3 +1,4 @@
+-- The entry lies in its table, and the table in the image.
 use Rattle.string_walk.proofs.small_entry.Statement.{statement}
 use Rattle.string_walk.proofs.small_entry.Tie as tie
 use native.Mathlib.Omega.{arith}

@@ -1,3 +1,4 @@
+-- The parts of the room lie in it; nothing else has to hold.
 use mathlib.Core.Path.{sym}
 use native.Mathlib.Omega.{arith}
 use lib.ListN.{length-append, length-take, length-drop}

@@ -1,3 +1,4 @@
+-- By the number of units: none, one or two, each taken into the hash.
 use Rattle.format.specs.Hash.{hashFrom}
 use borrow.Author.Needs.{needs}
 use Rattle.unicode.proofs.hash_completed.Statement.{statement}
