@@ -1,6 +1,6 @@
--- One write that leaves an image's header, records, kinds, tables and large headers alone: a string in storage, a hash slot, a body
--- of equal
--- length. What was written is read back, every other string, hash slot and body stays, and the result is admitted again.
+-- One write that leaves an image's header, records, kinds, tables and large headers alone: a string in storage, a hash slot, a
+-- body of equal length. What was written is read back, every other string, hash slot and body stays, and the result is admitted
+-- again.
 use mathlib.Core.Path.{_≡_, ap, _∙_, subst}
 use mathlib.Core.Bool.{true}
 use mathlib.Core.Logic.{inl, inr}

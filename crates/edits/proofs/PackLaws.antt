@@ -5,7 +5,7 @@ use mathlib.Core.Logic.{inl, inr}
 use mathlib.Core.List.{List, [], _++_, append-assoc, append-nil}
 use Prim.Native.Nat.{ℕ, zero, suc, _+_, _≤_, _<_}
 use native.Mathlib.Omega.{arith}
-use lib.ListN.{length, getD, length-append, List·getD-append}
+use lib.ListN.{length, length-append, List·getD-append}
 use Rattle.bits.proofs.TestLaws.{below}
 use Rattle.bits.proofs.ListLaws.{AllBelow, getD-past, below-nil, below-append}
 use Rattle.image.specs.Strings.{Str}

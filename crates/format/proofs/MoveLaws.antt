@@ -15,10 +15,6 @@ pub moved-high : (from to p : ℕ) → from ≤ p → moved from to p ≡ p - fr
 unfolding moved
 moved-high from to p h = rw (le-ltb p from h)
 
--- two moves are one
-pub moved-moved : (a b c p : ℕ) → a ≤ p → moved b c (moved a b p) ≡ moved a c p
-moved-moved a b c p h = rw (moved-high a b p h, moved-high a c p h, moved-high b c (p - a + b) (omega arith)) (omega arith)
-
 -- ---- the bytes from a to b are replaced by n; w bytes from p on stand on one side of them
 
 abbrev pub Side : ℕ → ℕ → ℕ → ℕ → Type 0

@@ -1,6 +1,6 @@
 -- What is judged of a body and of what takes its place. 01, Bodies: "9 is given when another body shares a byte with it, an empty
--- one starts strictly within it,
--- any info place lies from its start to below the threshold, or a nonzero debug offset is below the threshold".
+-- one starts strictly within it, any info place lies from its start to below the threshold, or a nonzero debug offset is below
+-- the threshold".
 -- docs/FORMAT.md: Body patches.
 use mathlib.Core.Path.{_≡_}
 use mathlib.Core.Bool.{Bool, not}

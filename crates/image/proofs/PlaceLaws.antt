@@ -7,8 +7,6 @@ use native.Mathlib.Nat.{suc-mul, mul-le-mul-right}
 use native.Mathlib.Omega.{arith}
 use lib.ListN.{length}
 use Rattle.bits.specs.Choice.{sumBelow}
-use Rattle.bits.specs.Bytes.{wordAt}
-use Rattle.bits.proofs.ByteLaws.{numberAt-lt}
 use Rattle.bits.proofs.TestLaws.{sum-at}
 use Rattle.format.specs.declared.Layout.{Layout}
 use Rattle.format.specs.declared.Layout.the-variants.{Modern, Legacy}
@@ -125,9 +123,6 @@ pub record Counted (l : Layout) (s : List ℕ) : Type 0 where
   pub storage : storageIn s ≤ length s
 
 module _ {l : Layout} {s : List ℕ} (a : Admitted l s) where
-  pub word-lt : (at : ℕ) → wordAt s at < 2 ^ 32
-  word-lt at = numberAt-lt s at 4 (a .bytes)
-
   pub least-length : table.headerLength + footerLength ≤ length s
   least-length = a .least
 

@@ -1,15 +1,14 @@
 -- The job's fold, which stops at the first refused record, is the fold over a list of patches up to there.
 use mathlib.Core.Path.{_≡_, refl, ap, subst}
 use mathlib.Core.List.{List, [], _∷_}
-use Prim.Native.Nat.{ℕ, suc, _+_}
+use Prim.Native.Nat.{ℕ, suc}
 use native.Mathlib.Nat.{add-zero}
 use native.Mathlib.Omega.{arith}
-use lib.ListN.{length}
 use Rattle.bits.specs.Outcome.{Outcome, refused, made}
 use Rattle.format.specs.declared.Layout.{Layout}
 use Rattle.patches.specs.Patches.{Patch, Step, stepOf, imageAfter, run}
 use Rattle.job_records.specs.Job.{Record, asks, wrong, Ended, image, refusedAt, jobRoom, recordOutcome, onward, jobFrom}
-use Rattle.job_records.specs.Job.{asRecords, asSteps, EndsAs}
+use Rattle.job_records.specs.Job.{asSteps, EndsAs}
 use Rattle.job_records.specs.Job.EndsAs.{whole, stopped}
 
 run-next : (l : Layout) (p : Step) (ps : List Step) (s t : List ℕ) → stepOf l s p ≡ made t → run l (p ∷ ps) s ≡ run l ps t

@@ -194,12 +194,6 @@ module _ (l : Layout) (n k : ℕ) (held out new : List ℕ) (r : Answer) where
       let p : take m new ≡ t = rw (a .1, z) (take-append-seam t (drop (length t) out)) in
       (rw z, rw (p, sets-eq t held 0 (omega arith), zero-add), a .1)
 
--- nothing is done behind a refusal
-pub step-over : (room : ℕ) (p : Progress) (k m : ℕ) (held head bytes out : List ℕ) → p ≡ Refused k m
-    → Steps (turnOf room p held head bytes) p p held held out out
-step-over room p k m held head bytes out e =
-    subst⁻¹ (λ (x : Progress). Steps (turnOf room x held head bytes) x x held held out out) e (refl, refl, refl)
-
 -- record k of a job under way: the patch is asked of the h bytes that are held, and answered
 pub record Turn (p : Progress) (l : Layout) (n k h : ℕ) (held head bytes out new : List ℕ) (r : Answer) : Type 0 where
   pub under : p ≡ Under l n k

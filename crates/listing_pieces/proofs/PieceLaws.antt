@@ -200,8 +200,3 @@ module _ (l : Layout) (s : List ℕ) where
       let e : suc m + n ≡ suc (m + n) = omega arith in
       rw e (ap (λ (z : List ℕ). pieceAt l s x ++ z) (pieces-more m n (nextOf l s x))
       ∙ sym (append-assoc (pieceAt l s x) (pieces l s m (nextOf l s x)) (pieces l s n (after l s m (nextOf l s x)))))
-
-  pub after-more : (m n : ℕ) (x : Spot) → after l s (m + n) x ≡ after l s n (after l s m x)
-  unfolding after
-  after-more zero n x = ap (λ (k : ℕ). after l s k x) (let e : 0 + n ≡ n = omega arith in e)
-  after-more (suc m) n x = let e : suc m + n ≡ suc (m + n) = omega arith in rw e (after-more m n (nextOf l s x))

@@ -1,6 +1,5 @@
--- When a patch is refused, in propositions. 01, Refusal numbers and "Order"; the law `refused-exactly` says that a step is refused
--- with n exactly where fault n
--- is there and none that comes before n in that order is.
+-- When a patch is refused, in propositions. 01, Refusal numbers and "Order"; the law `refused-exactly` says that a step is
+-- refused with n exactly where fault n is there and none that comes before n in that order is.
 -- docs/FORMAT.md: Refusals, Order, Lists of patches.
 use mathlib.Core.Path.{_≡_}
 use mathlib.Core.Bool.{false}

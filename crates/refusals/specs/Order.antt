@@ -26,10 +26,6 @@ ofStringByValue = ofImage ++ (refusals.value ∷ refusals.absent ∷ ofResult)
 abbrev pub ofBody : List ℕ
 ofBody = ofImage ++ (refusals.id ∷ refusals.inside ∷ refusals.empty ∷ ofResult)
 
--- "Builder: 15, 8, 12, 11, 13"
-abbrev pub ofBuilder : List ℕ
-ofBuilder = refusals.job ∷ refusals.value ∷ refusals.field ∷ refusals.limit ∷ refusals.room ∷ []
-
 -- ---- the turn of a number: how many come before it in an order
 
 abbrev pub oneMore : Bool → ℕ → ℕ

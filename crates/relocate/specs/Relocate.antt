@@ -1,7 +1,6 @@
 -- The relocation that every patch ends in: what moves, and what is written for it. 01, Strings: "Delta, the tail's move, is added
--- to every body offset,
--- large pointer, info place and debug offset"; 01, Bodies: "an offset, pointer, info or body place at or past the threshold moves
--- by delta".
+-- to every body offset, large pointer, info place and debug offset"; 01, Bodies: "an offset, pointer, info or body place at or
+-- past the threshold moves by delta".
 -- docs/FORMAT.md: Relocation.
 use mathlib.Core.Path.{_≡_}
 use mathlib.Core.Bool.{Bool, true, false}

@@ -31,7 +31,7 @@ endsWithin text ends = allBelow (length ends) (λ i. leb (startOf ends (suc i)) 
 unfoldable pub allSmall : List ℕ → Bool
 allSmall ends = allBelow (length ends) (λ i. not (isOver (placeOf ends i)))
 
--- all refusals but 13
+-- all refusals but 13, in their order. 01: "Builder: 15, 8, 12, 11, 13"
 unfoldable pub checks : ℕ → List ℕ → List ℕ → List ℕ → List Check
 checks version text ends body =
     check refusals.job (not (endsAscend ends))

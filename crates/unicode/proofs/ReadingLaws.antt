@@ -24,9 +24,6 @@ small-between = record { few = omega arith; low = omega arith; from = omega arit
 abbrev pub Reads : Reading → Reading → Type 0
 Reads q r = (q ≡ r) × Small q
 
-pub reads : (q r : Reading) → q ≡ r → Small r → Reads q r
-reads q r e s = (e, subst Small (sym e) s)
-
 pick-from : (t : Bool) (a b k : ℕ) → k ≤ a → k ≤ b → k ≤ pick t a b
 pick-from true a b k h g = h
 pick-from false a b k h g = g
