@@ -73,6 +73,15 @@ pub fn put_word(s: &mut [u8], at: usize, x: u64)
     s[at + 3] = (x / 256 / 256 / 256 % 256) as u8;
 }
 
+// The same of a number that fits 4 bytes, so that the word holds all of it.
+pub fn put_exact(s: &mut [u8], at: usize, x: u64)
+    requires { ⌜ at + 4 ≤ length (now s) ⌝ }
+    requires { ⌜ x < 4294967296 ⌝ }
+    ensures { λ _. ⌜ (now (s .exit) ≡ sets (now (s .entry)) at (bytesOf 4 x)) × (wordAt (now (s .exit)) at ≡ x) ⌝ }
+{
+    put_word(s, at, x);
+}
+
 // The 8 bytes of `x`, stored from `at` on.
 pub fn put_word64(s: &mut [u8], at: usize, x: u64)
     requires { ⌜ at + 8 ≤ length (now s) ⌝ }

@@ -4,7 +4,7 @@ use mathlib.Core.Path.{_≡_, refl, ap, sym, _∙_, subst}
 use mathlib.Core.Bool.{true, false}
 use mathlib.Core.Logic.{_⊎_, inl, inr, _≢_}
 use mathlib.Core.List.{List}
-use Prim.Native.Nat.{ℕ, _+_, _-_, _^_, _≤_, _<_}
+use Prim.Native.Nat.{ℕ, _+_, _-_, _≤_, _<_}
 use native.Mathlib.Omega.{arith}
 use borrow.Author.Tests.{eqb-true, eqb-false}
 use lib.Dec.{eqb}
@@ -13,17 +13,16 @@ use Rattle.bits.specs.Bytes.{bytesAt, numberAt}
 use Rattle.bits.proofs.TestLaws.{which}
 use Rattle.bits.proofs.ByteLaws.{bytesAt-ext, bytesAt-is, numberAt-ext}
 use Rattle.format.specs.declared.Layout.{Layout}
-use Rattle.format.specs.declared.Layout.the-variants.{Modern, Legacy}
+use Rattle.format.specs.declared.Layout.the-variants.{Modern}
 use Rattle.format.specs.Table as table
 use Rattle.format.specs.Move.{moved}
 use Rattle.format.proofs.MoveLaws.{moved-low, Side, moved-side, moved-from, moved-within, moved-apart, moved-run}
-use Rattle.format.proofs.RecordLaws.{PointerFits}
 use Rattle.footer.specs.Footer.{footerLength}
 use Rattle.footer.specs.Finalize.{sizeLimit}
 use Rattle.image.specs.Sections.{functionsIn, kindsAt, tailAt}
 use Rattle.image.specs.Functions.{Func, funcOf, bodyOf}
 use Rattle.image.specs.Admitted.{Disjoint, InTail, Admitted}
-use Rattle.edits.specs.Fit.{offsetRow, sizeRow}
+use Rattle.edits.specs.Fit.{FitsFields}
 use Rattle.edits.specs.Edit.{writeAll, moveFunc}
 use Rattle.edits.specs.Rebuild.{resized}
 use Rattle.edits.proofs.WriteLaws.{Outside, writes-off, splice-low, splice-new, splice-high, length-splice}
@@ -69,9 +68,7 @@ pub record Parted (l : Layout) (s : List ℕ) (c : Change) : Type 0 where
 -- an edit that is not refused with 11 or 12: the result is not over the limit, and small records hold what they are to hold
 pub record Holds (l : Layout) (s : List ℕ) (c : Change) : Type 0 where
   pub limit : length s - c .b + (c .a + length (c .new)) ≤ sizeLimit
-  pub field : (j : ℕ) → j < functionsIn s → c .func j .large ≡ false
-      → (c .func j .begin < 2 ^ offsetRow l .width) × (c .func j .size < 2 ^ sizeRow l .width)
-      × (c .func j .info < 2 ^ table.legacyInfo .width)
+  pub field : (j : ℕ) → j < functionsIn s → c .func j .large ≡ false → FitsFields l (c .func j)
 
 -- a place that is 0 or in the tail, on one side of the bytes that are replaced
 pub record Beside (l : Layout) (s : List ℕ) (c : Change) (p : ℕ) : Type 0 where
@@ -90,11 +87,6 @@ abbrev pub HeadersClear : Layout → ℕ → (ℕ → Func) → Type 0
 HeadersClear l n fs =
     (i j : ℕ) → i < n → j < n → 0 < fs i .size → fs j .large ≡ true
     → Disjoint (fs j .ptr) (table.largeRow l .width) (fs i .begin) (fs i .size)
-
--- what each layout can hold, from a bound that both share
-pointer-of : (l : Layout) (p : ℕ) → p < 2 ^ 32 → PointerFits l p
-pointer-of Modern p h = h
-pointer-of (Legacy big sources) p h = omega arith
 
 module _ (l : Layout) (s : List ℕ) (c : Change) (pt : Parted l s c) where
   ad : Admitted l s
@@ -303,23 +295,22 @@ module _ (l : Layout) (s : List ℕ) (c : Change) (pt : Parted l s c) where
   module _ (hd : Holds l s c) where
     pub fits : (j : ℕ) → j < functionsIn s → RecordHolds l (fs j)
     fits j h = record {
-      asLarge = λ t. (
-        pointer-of l (fs j .ptr) (omega (arith, header-in j h t .1, hd .limit)),
-        record {
-          begin = omega (arith, body-in j h .1, hd .limit);
-          size = omega (arith, body-in j h .1, hd .limit);
-          info = omega (arith, like j h .2, place-most (funcOf l s j .info) (beside-info j h), hd .limit);
-          modern = no-info j h;
-        },
-      );
+      asLarge = λ t.
+          record {
+            words = record {
+              ptr = omega (arith, header-in j h t .1, hd .limit);
+              begin = omega (arith, body-in j h .1, hd .limit);
+              size = omega (arith, body-in j h .1, hd .limit);
+              info = omega (arith, like j h .2, place-most (funcOf l s j .info) (beside-info j h), hd .limit);
+            };
+            modern = no-info j h;
+          };
       asSmall = λ t.
           let u : funcOf l s j .large ≡ false = sym (like j h .0) ∙ t in
           record {
             large = t;
             ptr = like j h .1 ∙ ap mv (small-fits l s j u .ptr) ∙ still;
-            begin = hd .field j h t .0;
-            size = hd .field j h t .1;
-            info = hd .field j h t .2;
+            fields = hd .field j h t;
             modern = no-info j h;
           };
     }

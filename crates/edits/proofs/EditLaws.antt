@@ -3,7 +3,7 @@ use mathlib.Core.Path.{_≡_, refl, ap, sym, _∙_}
 use mathlib.Core.Bool.{Bool, true, false}
 use mathlib.Core.Logic.{_≢_}
 use mathlib.Core.List.{List, []}
-use Prim.Native.Nat.{ℕ, _+_, _^_, _≤_, _<_}
+use Prim.Native.Nat.{ℕ, _+_, _≤_, _<_}
 use native.Mathlib.Nat.{add-assoc}
 use native.Mathlib.Omega.{arith}
 use lib.ListN.{length, getD}
@@ -17,10 +17,10 @@ use Rattle.format.specs.declared.Layout.{Layout}
 use Rattle.format.specs.declared.Layout.the-variants.{Modern, Legacy}
 use Rattle.format.specs.Table as table
 use Rattle.format.specs.Record.{isLarge, pointer}
-use Rattle.format.proofs.RecordLaws.{PointerFits}
 use Rattle.image.specs.Sections.{functionsIn, recordAt, kindsAt}
 use Rattle.image.specs.Functions.{Func, small, header, recordIn, funcOf}
 use Rattle.image.specs.Admitted.{Disjoint}
+use Rattle.edits.specs.Fit.{FitsWords}
 use Rattle.edits.specs.Edit.{splice, Write, writeAll, groups, putRecord, putHeader, recordGroup, headerGroup, edit}
 use Rattle.edits.proofs.WriteLaws.{Outside, Bytes, length-writes, writes-off, writes-below, groups-off, groups-at}
 use Rattle.edits.proofs.WriteLaws.{groups-below, splice-low, splice-below}
@@ -89,9 +89,7 @@ record-bytes l whole s fs j = (below-bytesOf (table.recordRow l .width) (putReco
 
 -- what they can hold: modern ones no info place
 pub record HeaderFits (l : Layout) (f : Func) : Type 0 where
-  pub begin : f .begin < 2 ^ 32
-  pub size : f .size < 2 ^ 32
-  pub info : f .info < 2 ^ 32
+  pub words : FitsWords f
   pub modern : l ≡ Modern → f .info ≡ 0
 
 own-back : (l : Layout) (f : Func) (s : List ℕ) → f .large ≡ true → f .ptr + table.largeRow l .width ≤ length s → HeaderFits l f
@@ -106,8 +104,8 @@ own-back Modern f s t h k =
       large = sym t;
       ptr = refl;
       begin = numberAt-off s₁ (p + 12) 4 (f .size) (p + 0) 4 (omega arith)
-          ∙ numberAt-back s (p + 0) 4 (f .begin) (omega arith) (k .begin);
-      size = numberAt-back s₁ (p + 12) 4 (f .size) (omega arith) (k .size);
+          ∙ numberAt-back s (p + 0) 4 (f .begin) (omega arith) (k .words .begin);
+      size = numberAt-back s₁ (p + 12) 4 (f .size) (omega arith) (k .words .size);
       info = sym (k .modern refl);
     })
 own-back (Legacy big sources) f s t h k =
@@ -122,10 +120,10 @@ own-back (Legacy big sources) f s t h k =
       ptr = refl;
       begin = numberAt-off s₂ (p + 16) 4 (f .info) (p + 0) 4 (omega arith)
           ∙ numberAt-off s₁ (p + 8) 4 (f .size) (p + 0) 4 (omega arith)
-          ∙ numberAt-back s (p + 0) 4 (f .begin) (omega arith) (k .begin);
+          ∙ numberAt-back s (p + 0) 4 (f .begin) (omega arith) (k .words .begin);
       size = numberAt-off s₂ (p + 16) 4 (f .info) (p + 8) 4 (omega arith)
-          ∙ numberAt-back s₁ (p + 8) 4 (f .size) (omega arith) (k .size);
-      info = numberAt-back s₂ (p + 16) 4 (f .info) (omega arith) (k .info);
+          ∙ numberAt-back s₁ (p + 8) 4 (f .size) (omega arith) (k .words .size);
+      info = numberAt-back s₂ (p + 16) 4 (f .info) (omega arith) (k .words .info);
     })
 
 -- a header hangs only on its words
@@ -148,7 +146,7 @@ header-ext (Legacy big sources) p s t h =
 
 -- what a function must be for its record to hold it
 pub record RecordHolds (l : Layout) (f : Func) : Type 0 where
-  pub asLarge : f .large ≡ true → PointerFits l (f .ptr) × HeaderFits l f
+  pub asLarge : f .large ≡ true → HeaderFits l f
   pub asSmall : f .large ≡ false → SmallFits l f
 
 -- an edit: whether every large pointer is written, the new bytes for those from a to b, the functions that are to be, words of the header.
@@ -302,6 +300,6 @@ module _ (l : Layout) (c : Change) (s : List ℕ) (ok : Sound l c s) where
           → pick x (header l (pointer l (putRecord l (c .whole) (fs i) (recordIn l s i))) out)
           (small l (putRecord l (c .whole) (fs i) (recordIn l s i))) ≡ fs i
       go true t =
-          ap (λ (p : ℕ). header l p out) (record-pointer l (c .whole) (fs i) (recordIn l s i) t (re .fits .asLarge t .0))
-          ∙ header-back i (re .known) t (re .fits .asLarge t .1)
+          ap (λ (p : ℕ). header l p out) (record-pointer l (c .whole) (fs i) (recordIn l s i) t (re .fits .asLarge t .words .ptr))
+          ∙ header-back i (re .known) t (re .fits .asLarge t)
       go false t = record-small l (c .whole) (fs i) (recordIn l s i) t (re .fits .asSmall t)

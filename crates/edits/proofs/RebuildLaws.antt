@@ -202,7 +202,7 @@ module _ (l : Layout) (ps : Packed) (s : List ℕ) (ad : Admitted l s) where
     pub holds : Holds l s (rebuilding l ps s)
     holds = record {
       limit = rebuilt-limit;
-      field = λ j h t. (ok .field j h t .0, small-fits l s j t .size, ok .field j h t .1);
+      field = λ j h t. record { begin = ok .field j h t .0; size = small-fits l s j t .fields .size; info = ok .field j h t .1 };
     }
 
     -- each function is the old one at its moved places

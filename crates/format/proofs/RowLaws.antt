@@ -31,3 +31,6 @@ module _ (f : Field) (w : f .width ≡ 4) where
   pub row-write : (s t : List ℕ) (from at x : ℕ) → at ≡ f .at → t ≡ sets s (from + at) (bytesOf 4 x)
       → t ≡ sets s (from + f .at) (bytesFor f x)
   row-write s t from at x e h = rw (w, ← e) h
+
+  pub row-back : (t : List ℕ) (from at x : ℕ) → at ≡ f .at → wordAt t (from + at) ≡ x → numberFrom from f t ≡ x
+  row-back t from at x e h = rw (w, ← e) h

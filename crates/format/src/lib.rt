@@ -371,6 +371,16 @@ pub fn put_word(s: &mut [u8], from: usize, k: usize, x: u64)
     bits::put_word(s, from + at(k), x);
 }
 
+// A number that fits a word, stored in such a field, which then holds all of it.
+pub fn put_exact(s: &mut [u8], from: usize, k: usize, x: u64)
+    requires { ⌜ (k < rowCount) × (rowOf k .width ≡ 4) × (x < 4294967296) ⌝ }
+    requires { ⌜ from + rowOf k .at + rowOf k .width ≤ length (now s) ⌝ }
+    ensures { λ _. ⌜ (now (s .exit) ≡ sets (now (s .entry)) (from + rowOf k .at) (bytesFor (rowOf k) x))
+        × (numberFrom from (rowOf k) (now (s .exit)) ≡ x) ⌝ }
+{
+    bits::put_exact(s, from + at(k), x);
+}
+
 // `n` where the fact holds, else 0.
 pub fn if_set(fact: bool, n: usize) -> usize
     ensures { λ r. ⌜ (r ≡ ifSet fact n) × (r ≤ n) ⌝ }

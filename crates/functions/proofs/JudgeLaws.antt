@@ -337,6 +337,8 @@ module _ (l : Layout) (s : List ℕ) (id : ℕ) (body : List ℕ) where
         let (debug, e₄) = judge-pass _ _ (omega arith) e₃ in
         let (some, e₅) = judge-pass _ _ (omega arith) e₄ in
         let (long, e₆) = judge-pass _ _ (omega arith) e₅ in
+        let (sized, e₇) = judge-pass _ _ (omega arith) e₆ in
+        let (fields, e₈) = judge-pass _ _ (omega arith) e₇ in
         let ok : Admitted l s = admission-laws.admitted l s bytes image in
         let g : id < functionsIn s = leb-false (functionsIn s) id known in
         let m : n ≡ movedPastBody l s id body (length s) = z .1 ∙ length-patched l s id body ok g .0 in
@@ -347,4 +349,6 @@ module _ (l : Layout) (s : List ℕ) (id : ℕ) (body : List ℕ) where
           exact = m;
           limit = omega
               (arith, m, ltb-false sizeLimit (movedPastBody l s id body (length s)) long);
+          sized = not-false _ sized;
+          fields = not-false _ fields;
         }

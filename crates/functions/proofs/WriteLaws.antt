@@ -1,12 +1,12 @@
 -- The patched image as it is written.
 use mathlib.Core.Path.{_≡_, refl, ap, sym, _∙_, subst}
-use mathlib.Core.Bool.{false}
+use mathlib.Core.Bool.{true, false}
 use mathlib.Core.Logic.{inl, inr}
 use mathlib.Core.List.{List, [], append-assoc}
-use Prim.Native.Nat.{ℕ, _+_, _-_, _≤_, _<_}
+use Prim.Native.Nat.{ℕ, _+_, _-_, _^_, _≤_, _<_}
 use native.Mathlib.Nat.{sub-zero}
 use native.Mathlib.Omega.{arith}
-use borrow.Author.Tests.{eq-eqb, ne-eqb, ltb-false}
+use borrow.Author.Tests.{eq-eqb, ne-eqb, ltb-false, leb-false, not-true}
 use borrow.Rule.Slice.PartMut.{putMid}
 use lib.Dec.{ltb}
 use lib.ListN.{length, getD, take, drop, drop-of-length-le}
@@ -20,8 +20,8 @@ use Rattle.format.specs.declared.Layout.{Layout}
 use Rattle.footer.specs.Finalize.{finalizeOf}
 use Rattle.footer.proofs.FinalizeLaws.{finalize-within}
 use Rattle.image.specs.Functions.{Func, funcOf}
-use Rattle.image.proofs.CheckLaws.{bodies-in, bodies-apart}
 use Rattle.edits.specs.Edit.{splice}
+use Rattle.edits.specs.Fit.{beyond, sizeRow}
 use Rattle.function_table.specs.declared.Function.{Function}
 use Rattle.function_table.specs.Functions.{asFunc}
 use Rattle.relocate.specs.declared.Cause.the-variants.{Body}
@@ -29,13 +29,19 @@ use Rattle.relocate.specs.declared.Move.{Move}
 use Rattle.relocate.specs.Relocate.{relocated, Movable}
 use Rattle.relocate.proofs.EditLaws.{resize-is}
 use Rattle.relocate.proofs.MovableLaws.{resize-movable}
-use Rattle.function_checks.specs.Checks.{FunctionIs}
+use Rattle.function_checks.specs.Checks.{sizeFits, FunctionIs}
 use Rattle.functions.specs.Patch.{bodied, patchedBody, patchBody}
 use Rattle.functions.specs.Stages.{Accepted}
-use Rattle.functions.proofs.AdmitLaws.{fits, readable, body-ends, target-ends}
+use Rattle.functions.proofs.AdmitLaws.{body-ends, target-ends}
 use Rattle.functions.proofs.JudgeLaws.{length-moved, length-bodied, length-patched, makes, accepted}
 
 -- ---- the image with the new body
+
+-- a record without a large header holds the new size
+pub size-held : (l : Layout) (s : List ℕ) (id : ℕ) (body : List ℕ) → sizeFits l s id body ≡ true
+    → funcOf l s id .large ≡ false → length body < 2 ^ sizeRow l .width
+unfolding sizeFits
+size-held l s id body e f = leb-false (2 ^ sizeRow l .width) (length body) (not-true (beyond (sizeRow l) (length body)) (rw f at e))
 
 -- new bytes as long as the old ones
 splice-same : (a b : ℕ) (new s : List ℕ) → b ≡ a + length new → b ≤ length s → splice a b new s ≡ sets s a new
@@ -85,14 +91,8 @@ module _ {l : Layout} {s : List ℕ} {id : ℕ} {body : List ℕ} {room : ℕ} {
     pub may-move : Movable l s (record { from = f .begin + f .size; to = f .begin + length body; cause = Body id (length body) }) room
     may-move =
         subst (λ (x : Func). Movable l s (moveOf id body x) room) (sym (z .is .is))
-        (resize-movable l s room
-        (record { fits = fits l s (ok .admitted); headers = readable l s (ok .admitted) .1; limit = ok .limit }) id body
-        (record {
-          known = ok .known;
-          bodies = bodies-in l s .passed (ok .admitted .body);
-          apart = bodies-apart l s .passed (λ i b j k w. ok .admitted .clear i j b k w);
-          some = some;
-        })
+        (resize-movable l s room id body (record { known = ok .known; some = some; sized = size-held l s id body (ok .sized) })
+        (record { admitted = ok .admitted; limit = ok .limit; fields = ok .fields })
         (omega (arith, splice-asked .2, begin-is, size-is)))
 
 -- and the new body stands in the place of the old one

@@ -1,3 +1,4 @@
 pub mod SlotLaws
 pub mod HeaderLaws
 pub mod ReadLaws
+pub mod FaultLaws

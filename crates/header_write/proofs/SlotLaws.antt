@@ -1,16 +1,20 @@
--- The two ways out of a leaf on a slot: too short, and done. Over the size, the edit and what is read.
+-- The ways out of a leaf on a slot: too short, a sum that does not fit, and done. Over the size, the edit and what is read.
 use mathlib.Core.Path.{_≡_, refl, ap, sym, _∙_}
 use mathlib.Core.List.{List, _++_, append-nil}
 use Prim.Native.Nat.{ℕ, _+_, _≤_, _<_}
 use native.Mathlib.Nat.{zero-add}
 use native.Mathlib.Omega.{arith}
 use borrow.Author.Tests.{lt-leb, le-leb}
+use lib.IntN.{ℤ}
 use lib.ListN.{length, drop}
 use lib.Seq.{sets, sets-eq, length-sets, drop-length}
 use Rattle.bits.specs.Outcome.{Outcome, written}
 use Rattle.bits.specs.Bytes.{numberAt, wordAt, bytesOf}
 use Rattle.bits.proofs.ByteLaws.{length-bytesOf}
 use Rattle.bits.proofs.OutcomeLaws.{one-outcome}
+use Rattle.records.specs.declared.Sum.the-variants.{Fits, Beyond}
+use Rattle.records.specs.Sum.{summed, wordBits}
+use Rattle.records.specs.Records.{Edited, edited, beyond}
 use Rattle.header_write.specs.declared.Wrote.{Wrote}
 use Rattle.header_write.specs.declared.Wrote.the-variants.{Done, Refused}
 use Rattle.header_write.specs.Slots.{wrote, Writes, onSlot, ofSlot, shiftWord}
@@ -24,12 +28,17 @@ one-writing o r r′ old new new′ p q = one-outcome (wrote o) r r′ (written 
 pub front : (bs s : List ℕ) → length bs ≤ length s → sets s 0 bs ≡ bs ++ drop (length bs) s
 front bs s h = sets-eq bs s 0 (omega arith) ∙ rw (zero-add (length bs))
 
-pub slot-short : (size : ℕ) (edit : ℕ → ℕ) (s : List ℕ) → length s < size → Writes (onSlot size edit s) (Refused 1) s s
+pub slot-short : (size : ℕ) (edit : ℕ → Edited) (s : List ℕ) → length s < size → Writes (onSlot size edit s) (Refused 1) s s
 unfolding onSlot
 slot-short size edit s h = rw (lt-leb size (length s) h) (refl, refl)
 
-pub slot-done : (size n : ℕ) (edit : ℕ → ℕ) (s s′ : List ℕ)
-    → size ≤ length s → s′ ≡ sets s 0 (bytesOf size n) → n ≡ edit (numberAt s 0 size)
+pub slot-beyond : (size : ℕ) (edit : ℕ → Edited) (s : List ℕ) → size ≤ length s → beyond ≡ edit (numberAt s 0 size)
+    → Writes (onSlot size edit s) (Refused 12) s s
+unfolding onSlot
+slot-beyond size edit s h e = rw (le-leb size (length s) h, ← e) (refl, refl)
+
+pub slot-done : (size n : ℕ) (edit : ℕ → Edited) (s s′ : List ℕ)
+    → size ≤ length s → s′ ≡ sets s 0 (bytesOf size n) → edited n ≡ edit (numberAt s 0 size)
     → Writes (onSlot size edit s) Done s s′
 unfolding onSlot
 slot-done size n edit s s′ h e k =
@@ -47,18 +56,23 @@ module _ {A : Type 0} (size : ℕ) (read : ℕ → A) (short : A) (s : List ℕ)
 
 -- ---- a word at any position
 
-pub word-short : (at d : ℕ) (s : List ℕ) → length s < at + 4 → Writes (shiftWord at d s) (Refused 1) s s
+pub word-short : (at : ℕ) (delta : ℤ) (s : List ℕ) → length s < at + 4 → Writes (shiftWord at delta s) (Refused 1) s s
 unfolding shiftWord
-word-short at d s h = rw (lt-leb (at + 4) (length s) h) (refl, refl)
+word-short at delta s h = rw (lt-leb (at + 4) (length s) h) (refl, refl)
+
+pub word-beyond : (at : ℕ) (delta : ℤ) (s : List ℕ) → at + 4 ≤ length s → Beyond ≡ summed wordBits delta (wordAt s at)
+    → Writes (shiftWord at delta s) (Refused 12) s s
+unfolding shiftWord
+word-beyond at delta s h e = rw (le-leb (at + 4) (length s) h, ← e) (refl, refl)
 
 -- an edit that keeps the length is the buffer afterwards
 pub whole : (s s′ : List ℕ) → length s′ ≡ length s → s′ ≡ s′ ++ drop (length s′) s
 whole s s′ e = rw (e, drop-length s) (sym (append-nil s′))
 
-pub word-done : (at d x : ℕ) (s s′ : List ℕ) → at + 4 ≤ length s → s′ ≡ sets s at (bytesOf 4 x) → x ≡ wordAt s at + d
-    → Writes (shiftWord at d s) Done s s′
+pub word-done : (at : ℕ) (delta : ℤ) (x : ℕ) (s s′ : List ℕ) → at + 4 ≤ length s → s′ ≡ sets s at (bytesOf 4 x)
+    → Fits x ≡ summed wordBits delta (wordAt s at) → Writes (shiftWord at delta s) Done s s′
 unfolding shiftWord
-word-done at d x s s′ h e k =
+word-done at delta x s s′ h e k =
     let l : length s′ ≡ length s = ap length e ∙ length-sets s at (bytesOf 4 x) in
     rw (le-leb (at + 4) (length s) h, ← k, ← e) (refl, whole s s′ l)
 

@@ -1,10 +1,12 @@
--- What each leaf answers and leaves in its buffer. 01, Refusal numbers: "a record slot, word or header buffer too short" is 1.
+-- What each leaf answers and leaves in its buffer. 01, Refusal numbers: "a record slot, word or header buffer too short" is 1; 02,
+-- No. 8: a sum that its place cannot hold is 12.
 -- docs/FORMAT.md: Record leaves.
 use mathlib.Core.Bool.{false}
 use mathlib.Core.List.{List}
 use mathlib.Core.Path.{_≡_}
 use Prim.Native.Nat.{ℕ, _+_}
 use lib.Dec.{leb}
+use lib.IntN.{ℤ}
 use lib.ListN.{length}
 use lib.Seq.{sets}
 use Rattle.refusals.specs.Numbers as refusals
@@ -13,7 +15,10 @@ use Rattle.bits.specs.Bytes.{numberAt, wordAt, bytesOf}
 use Rattle.bits.specs.Outcome.{Outcome, refused, made, written}
 use Rattle.format.specs.declared.Layout.the-variants.{Modern, Legacy}
 use Rattle.format.specs.Table.{modernRecord, legacyRecord}
-use Rattle.records.specs.Records.{pointerRead, legacyFields, modernFields}
+use Rattle.records.specs.declared.Sum.{Sum}
+use Rattle.records.specs.declared.Sum.the-variants.{Fits, Beyond}
+use Rattle.records.specs.Sum.{summed, wordBits}
+use Rattle.records.specs.Records.{Edited, edited, beyond, pointerRead, legacyFields, modernFields}
 use Rattle.header_write.specs.declared.Wrote.{Wrote}
 use Rattle.header_write.specs.declared.Wrote.the-variants as wrote-is
 use Rattle.header_write.specs.declared.Pointer.{Pointer}
@@ -34,13 +39,22 @@ wrote (made new) = wrote-is.Done
 abbrev pub Writes : Outcome → Wrote → List ℕ → List ℕ → Type 0
 Writes o r old new = (r ≡ wrote o) × (new ≡ written o old)
 
--- the record in a slot of `size` bytes edited, as one number; what follows it stays
-unfoldable pub onSlot : ℕ → (ℕ → ℕ) → List ℕ → Outcome
-onSlot size edit slot = pick (leb size (length slot)) (made (bytesOf size (edit (numberAt slot 0 size)))) (refused refusals.size)
+-- the record in a slot of `size` bytes edited, as one number; what follows it stays. 02, No. 8: "12 after 1"
+abbrev pub stored : ℕ → Edited → Outcome
+stored size (edited n) = made (bytesOf size n)
+stored size beyond = refused refusals.field
 
--- delta added to the word at a position, modulo 2^32
-unfoldable pub shiftWord : ℕ → ℕ → List ℕ → Outcome
-shiftWord at d s = pick (leb (at + 4) (length s)) (made (sets s at (bytesOf 4 (wordAt s at + d)))) (refused refusals.size)
+unfoldable pub onSlot : ℕ → (ℕ → Edited) → List ℕ → Outcome
+onSlot size edit slot = pick (leb size (length slot)) (stored size (edit (numberAt slot 0 size))) (refused refusals.size)
+
+-- a sum put at a position as a word
+abbrev pub storedAt : ℕ → List ℕ → Sum → Outcome
+storedAt at s (Fits x) = made (sets s at (bytesOf 4 x))
+storedAt at s Beyond = refused refusals.field
+
+-- delta added to the word at a position
+unfoldable pub shiftWord : ℕ → ℤ → List ℕ → Outcome
+shiftWord at delta s = pick (leb (at + 4) (length s)) (storedAt at s (summed wordBits delta (wordAt s at))) (refused refusals.size)
 
 -- ---- a leaf that reads the record in a slot of `size` bytes
 

@@ -2,18 +2,19 @@
 //
 // A record is a number of 96 or 128 bits, held in two 64-bit words. Each leaf loads it from its
 // slot, edits fields that the table of crate format places, and stores it. No leaf relies on a check
-// by its caller: a slot, word or header buffer that is too short is refused with number 1 and stays
-// as it is.
+// by its caller: a slot, word or header buffer that is too short is refused with number 1, and a
+// shift whose sum is below 0 or has more bits than its place with 12; the buffer stays as it is.
 pub mod headers;
 
 use records::LegacyFunctionHeader;
 use records::ModernFunctionHeader;
+use records::Shifted;
+use records::Sum;
 ghost use mathlib.Core.Path.{_≡_};
 ghost use mathlib.Core.Bool.{false};
 ghost use Rattle.bits.specs.Bytes.{bytesOf};
 ghost use Rattle.format.specs.Table.{modernRecord, legacyRecord};
 ghost use Rattle.format.specs.declared.Layout.the-variants.{Modern, Legacy};
-ghost use Rattle.records.specs.Delta.{turned};
 ghost use Rattle.records.specs.Records.{shiftSmall, shiftPointer, putOffsetSize, packed};
 ghost use Rattle.header_write.specs.Slots.{Writes, onSlot, readLegacy, readModern, readLegacyPointer, readModernPointer, shiftWord};
 
@@ -84,30 +85,34 @@ pub fn patch_legacy_small_header_offset_size(slot: &mut [u8], offset: u32, size:
 
 // The body offset of a modern record without a large header, moved.
 pub fn shift_modern_small_header_offset(slot: &mut [u8], delta: i32) -> Wrote
-    ensures { λ r. ⌜ Writes (onSlot (modernRecord .width) (shiftSmall Modern (turned delta)) (now (slot .entry))) r (now (slot .entry))
+    ensures { λ r. ⌜ Writes (onSlot (modernRecord .width) (shiftSmall Modern delta) (now (slot .entry))) r (now (slot .entry))
         (now (slot .exit)) ⌝ }
 {
     if slot.len() < format::width(format::MODERN_RECORD) {
         return Wrote::Refused(refusals::SIZE);
     }
-    let d = records::turn(delta);
-    let moved = records::shift_field(bits::load12(slot), format::MODERN_OFFSET, d);
-    bits::store12(slot, moved);
+    let moved = records::shift_modern_offset(bits::load12(slot), delta);
+    let Shifted::To(words) = moved else {
+        return Wrote::Refused(refusals::FIELD);
+    };
+    bits::store12(slot, words);
     Wrote::Done
 }
 
 // The body offset of a legacy record without a large header, moved, and its info place unless that
-// is 0.
+// is 0. Both sums are judged before either is written.
 pub fn shift_legacy_small_header_offsets(slot: &mut [u8], delta: i32) -> Wrote
-    ensures { λ r. ⌜ Writes (onSlot (legacyRecord .width) (shiftSmall (Legacy false false) (turned delta)) (now (slot .entry))) r
+    ensures { λ r. ⌜ Writes (onSlot (legacyRecord .width) (shiftSmall (Legacy false false) delta) (now (slot .entry))) r
         (now (slot .entry)) (now (slot .exit)) ⌝ }
 {
     if slot.len() < format::width(format::LEGACY_RECORD) {
         return Wrote::Refused(refusals::SIZE);
     }
-    let d = records::turn(delta);
-    let moved = records::shift_field(bits::load16(slot), format::LEGACY_OFFSET, d);
-    bits::store16(slot, records::shift_info(moved, d));
+    let moved = records::shift_legacy_offsets(bits::load16(slot), delta);
+    let Shifted::To(words) = moved else {
+        return Wrote::Refused(refusals::FIELD);
+    };
+    bits::store16(slot, words);
     Wrote::Done
 }
 
@@ -122,19 +127,20 @@ pub fn read_legacy_large_pointer(slot: &[u8]) -> Pointer
     Pointer::At((whole % 4294967296) as u32)
 }
 
-// The large pointer of a legacy record, moved. The sum is of the pointer as it is read; of what is
-// stored, 16 bits go into the offset field, whose upper bits become 0, and 25 into the info field.
+// The large pointer of a legacy record, moved. It is the whole number of its 16 and 25 bits; of the
+// sum, 16 bits go into the offset field, whose upper bits become 0, and the rest into the info field.
 pub fn shift_legacy_large_pointer(slot: &mut [u8], delta: i32) -> Wrote
-    ensures { λ r. ⌜ Writes (onSlot (legacyRecord .width) (shiftPointer (Legacy false false) (turned delta)) (now (slot .entry))) r
+    ensures { λ r. ⌜ Writes (onSlot (legacyRecord .width) (shiftPointer (Legacy false false) delta) (now (slot .entry))) r
         (now (slot .entry)) (now (slot .exit)) ⌝ }
 {
     if slot.len() < format::width(format::LEGACY_RECORD) {
         return Wrote::Refused(refusals::SIZE);
     }
-    let d = records::turn(delta);
-    let w = bits::load16(slot);
-    let moved = records::legacy_pointer(w) % 4294967296 + d;
-    bits::store16(slot, records::with_legacy_pointer(w, moved));
+    let moved = records::shift_legacy_pointer(bits::load16(slot), delta);
+    let Shifted::To(words) = moved else {
+        return Wrote::Refused(refusals::FIELD);
+    };
+    bits::store16(slot, words);
     Wrote::Done
 }
 
@@ -150,31 +156,35 @@ pub fn read_modern_large_pointer(slot: &[u8]) -> Pointer
 
 // The large pointer of a modern record, moved. Bit 24 is no part of it and stays.
 pub fn shift_modern_large_pointer(slot: &mut [u8], delta: i32) -> Wrote
-    ensures { λ r. ⌜ Writes (onSlot (modernRecord .width) (shiftPointer Modern (turned delta)) (now (slot .entry))) r (now (slot .entry))
+    ensures { λ r. ⌜ Writes (onSlot (modernRecord .width) (shiftPointer Modern delta) (now (slot .entry))) r (now (slot .entry))
         (now (slot .exit)) ⌝ }
 {
     if slot.len() < format::width(format::MODERN_RECORD) {
         return Wrote::Refused(refusals::SIZE);
     }
-    let d = records::turn(delta);
-    let w = bits::load12(slot);
-    let moved = records::modern_pointer(w) + d;
-    bits::store12(slot, records::with_modern_pointer(w, moved));
+    let moved = records::shift_modern_pointer(bits::load12(slot), delta);
+    let Shifted::To(words) = moved else {
+        return Wrote::Refused(refusals::FIELD);
+    };
+    bits::store12(slot, words);
     Wrote::Done
 }
 
 // The word at a position, moved. The position may be any number: what is left of the buffer behind
 // it is compared with 4, so that no sum wraps.
 pub fn shift_u32_at(buf: &mut [u8], pos: usize, delta: i32) -> Wrote
-    ensures { λ r. ⌜ Writes (shiftWord pos (turned delta) (now (buf .entry))) r (now (buf .entry)) (now (buf .exit)) ⌝ }
+    ensures { λ r. ⌜ Writes (shiftWord pos delta (now (buf .entry))) r (now (buf .entry)) (now (buf .exit)) ⌝ }
 {
     if buf.len() < pos {
         return Wrote::Refused(refusals::SIZE); // the position lies past the end
     }
     if buf.len() - pos < 4 {
-        return Wrote::Refused(refusals::SIZE);
+        return Wrote::Refused(refusals::SIZE); // the word is cut off
     }
-    let d = records::turn(delta);
-    bits::put_word(buf, pos, bits::word(buf, pos) + d);
-    Wrote::Done // 4 bytes are stored, so that the sum wraps
+    let sum = records::add_delta(bits::word(buf, pos), delta, records::WORD_BITS);
+    let Sum::Fits(word) = sum else {
+        return Wrote::Refused(refusals::FIELD);
+    };
+    bits::put_exact(buf, pos, word);
+    Wrote::Done
 }

@@ -3,7 +3,7 @@ use mathlib.Core.Path.{_≡_, refl, sym, _∙_}
 use mathlib.Core.Bool.{Bool, true, false, not}
 use mathlib.Core.Logic.{inl, inr, _≢_}
 use mathlib.Core.List.{List, [], _∷_}
-use Prim.Native.Nat.{ℕ, _+_, _-_, _^_, _≤_, _<_}
+use Prim.Native.Nat.{ℕ, _+_, _-_, _≤_, _<_}
 use native.Mathlib.Omega.{arith}
 use borrow.Author.Tests.{eq-eqb, ne-eqb, eqb-true, eqb-false, leb-true, leb-false, ltb-false, lt-ltb, not-true}
 use lib.Dec.{leb, ltb, eqb}
@@ -22,7 +22,7 @@ use Rattle.image.specs.Functions.{Func, funcOf, bodyOf}
 use Rattle.image.specs.Admitted.{Disjoint, Admitted}
 use Rattle.edits.specs.Edit.{splice, edit, moveFunc}
 use Rattle.edits.specs.Rebuild.{resized, resize}
-use Rattle.edits.specs.Fit.{beyond, sizeRow, fieldsFit}
+use Rattle.edits.specs.Fit.{fieldsFit}
 use Rattle.image.proofs.PlaceLaws.{ordered, hash-in, string-in}
 use Rattle.edits.proofs.WriteLaws.{length-writes}
 use Rattle.edits.proofs.SlotLaws.{func-eq}
@@ -31,6 +31,7 @@ use Rattle.edits.proofs.FitLaws.{fields-use}
 use Rattle.edits.proofs.InPlaceLaws as inplace
 use Rattle.edits.proofs.ResizeLaws as resizing
 use Rattle.functions.specs.Patch.{threshold, sharesWith, bodyAlone, infosOutside, debugPast, movedPastBody, patchedBody, sizeFits}
+use Rattle.functions.proofs.WriteLaws.{size-held}
 use Rattle.patches.specs.Patches.{Target, aBody}
 use Rattle.patches.specs.Promise.{placeAfter, functionAfter, Kept, Promise}
 use Rattle.patches.proofs.CalmLaws.{final-calm, final-hash, final-sealed, kept-after}
@@ -185,10 +186,6 @@ module _ (l : Layout) (s : List ℕ) (id : ℕ) (body : List ℕ) (ok : BodyPass
         leb-true (threshold f₀) (debugIn l s)
         (imp-use (not (eqb (debugIn l s) 0)) (leb (threshold f₀) (debugIn l s)) (ok .debug) (rw (ne-eqb (debugIn l s) 0 d)))
 
-    small-size : f₀ .large ≡ false → length body < 2 ^ sizeRow l .width
-    unfolding sizeFits
-    small-size t = leb-false (2 ^ sizeRow l .width) (length body) (not-true (beyond (sizeRow l) (length body)) (rw t at (ok .size)))
-
     ends : threshold f₀ ≤ length s
     ends = omega (arith, ad .body id (ok .known) .1)
 
@@ -209,7 +206,7 @@ module _ (l : Layout) (s : List ℕ) (id : ℕ) (body : List ℕ) (ok : BodyPass
       some = some;
       limit = rw grown (ok .limit);
       field = fields-use l s (movedPastBody l s id body) (ok .field);
-      sized = small-size;
+      sized = size-held l s id body (ok .size);
     }
 
     -- the target's start is below the threshold and stays

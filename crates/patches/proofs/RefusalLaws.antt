@@ -46,9 +46,10 @@ size-bits (Legacy big sources) = refl
 -- a small record holds its own places
 small-most : (l : Layout) (s : List ℕ) (j : ℕ) → funcOf l s j .large ≡ false → (funcOf l s j .begin ≤ 33_554_431)
     × (funcOf l s j .info ≤ 33_554_431)
-small-most Modern s j t = (omega (arith, small-fits Modern s j t .begin), omega (arith, modern-info s j))
+small-most Modern s j t = (omega (arith, small-fits Modern s j t .fields .begin), omega (arith, modern-info s j))
 small-most (Legacy big sources) s j t =
-    (omega (arith, small-fits (Legacy big sources) s j t .begin), omega (arith, small-fits (Legacy big sources) s j t .info))
+    let f = small-fits (Legacy big sources) s j t .fields in
+    (omega (arith, f .begin), omega (arith, f .info))
 
 -- a small record that cannot hold a moved place
 abbrev pub Beyond : Layout → List ℕ → (ℕ → ℕ) → Type 0

@@ -1,2 +1,2 @@
 pub mod RowLaws
-pub mod DeltaLaws
+pub mod SumLaws

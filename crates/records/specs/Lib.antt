@@ -1,2 +1,2 @@
-pub mod Delta
+pub mod Sum
 pub mod Records

@@ -1,9 +1,11 @@
--- A row of the table that is a field of a record, and the edits of a record. 01, Image rules and Bodies.
+-- A row of the table that is a field of a record, and the edits of a record. 01, Image rules and Bodies; 02, No. 8.
 -- docs/FORMAT.md: Function records, Record leaves.
 use mathlib.Core.Bool.{Bool, true}
 use Prim.Native.Nat.{ℕ, _+_, _%_, _^_}
+use lib.IntN.{ℤ}
 use lib.Dec.{leb, ltb, eqb}
 use Rattle.bits.specs.Choice.{pick, both}
+use Rattle.bits.specs.Words.{whole}
 use Rattle.format.specs.declared.Field.{Field}
 use Rattle.format.specs.declared.Layout.{Layout}
 use Rattle.format.specs.declared.Layout.the-variants.{Modern, Legacy}
@@ -11,6 +13,11 @@ use Rattle.format.specs.Table.{rowOf, rowCount, modernOffset, modernSize, moder
 use Rattle.format.specs.Table.{legacyName, legacyInfo, legacyFrame, legacyEnvironment, legacyReadCache, legacyWriteCache}
 use Rattle.format.specs.Table.{legacyFlags}
 use Rattle.format.specs.Record.{valueOf, withValue, pointer, putPointer}
+use Rattle.records.specs.declared.Shifted.{Shifted}
+use Rattle.records.specs.declared.Shifted.the-variants as shifted-is
+use Rattle.records.specs.declared.Sum.{Sum}
+use Rattle.records.specs.declared.Sum.the-variants.{Fits, Beyond}
+use Rattle.records.specs.Sum.{summed, wordBits}
 use Rattle.records.specs.declared.LegacyFunctionHeader.{LegacyFunctionHeader}
 use Rattle.records.specs.declared.ModernFunctionHeader.{ModernFunctionHeader}
 
@@ -21,32 +28,51 @@ isRecordRow k =
     both (ltb k rowCount) (both (leb (f .width) 32)
     (both (ltb (f .at) 128) (both (leb (f .width + f .at) 128) (pick (ltb (f .at) 64) (leb (f .width + f .at) 64) true))))
 
--- ---- edits; d is the delta modulo 2^41
+-- ---- sums
 
--- a field moved by delta wraps to its width
-unfoldable pub shiftField : Field → ℕ → ℕ → ℕ
-shiftField f d n = withValue f (valueOf f n + d) n
+-- delta added to what a field holds
+abbrev pub fieldSum : Field → ℤ → ℕ → Sum
+fieldSum f delta n = summed (f .width) delta (valueOf f n)
 
--- "info 0 and debug 0 never move"
-unfoldable pub shiftInfo : ℕ → ℕ → ℕ
-shiftInfo d n = pick (eqb (valueOf legacyInfo n) 0) n (shiftField legacyInfo d n)
+-- delta added to a legacy info place: "info 0 and debug 0 never move"
+unfoldable pub infoSum : ℤ → ℕ → Sum
+infoSum delta n = pick (eqb (valueOf legacyInfo n) 0) (Fits 0) (fieldSum legacyInfo delta n)
 
--- a record without a large header: its body offset, and legacy its info place
-unfoldable pub shiftSmall : Layout → ℕ → ℕ → ℕ
-shiftSmall Modern d n = shiftField modernOffset d n
-shiftSmall (Legacy big sources) d n = shiftInfo d (shiftField legacyOffset d n)
+-- ---- edits
+
+-- a record after an edit, as a number; none where a sum does not fit
+pub data Edited : Type 0 where
+  edited : ℕ → Edited
+  beyond : Edited
+
+-- the code's answer as this
+abbrev pub asEdited : Shifted → Edited
+asEdited (shifted-is.To w) = edited (whole w)
+asEdited shifted-is.Beyond = beyond
+
+-- what is made of a sum that fits
+abbrev pub withSum : Sum → (ℕ → Edited) → Edited
+withSum (Fits v) edit = edit v
+withSum Beyond edit = beyond
+
+-- a record without a large header: its body offset, and legacy its info place; where either sum does not fit, neither is written
+unfoldable pub shiftSmall : Layout → ℤ → ℕ → Edited
+shiftSmall Modern delta n = withSum (fieldSum modernOffset delta n) (λ offset. edited (withValue modernOffset offset n))
+shiftSmall (Legacy big sources) delta n =
+    withSum (fieldSum legacyOffset delta n)
+    (λ offset. withSum (infoSum delta n) (λ info. edited (withValue legacyInfo info (withValue legacyOffset offset n))))
 
 -- the large pointer as a reader gives it: "modulo 2^32"
 unfoldable pub pointerRead : Layout → ℕ → ℕ
 pointerRead l n = pointer l n % 2 ^ 32
 
--- a record with a large header: delta is added to the pointer as read
-unfoldable pub shiftPointer : Layout → ℕ → ℕ → ℕ
-shiftPointer l d n = putPointer l (pointerRead l n + d) n
+-- a record with a large header: delta is added to the pointer as a whole number, "before any modulo"
+unfoldable pub shiftPointer : Layout → ℤ → ℕ → Edited
+shiftPointer l delta n = withSum (summed wordBits delta (pointer l n)) (λ p. edited (putPointer l p n))
 
 -- the body's offset and size, each cut to its field
-unfoldable pub putOffsetSize : ℕ → ℕ → ℕ → ℕ
-putOffsetSize offset size n = withValue legacySize size (withValue legacyOffset offset n)
+unfoldable pub putOffsetSize : ℕ → ℕ → ℕ → Edited
+putOffsetSize offset size n = edited (withValue legacySize size (withValue legacyOffset offset n))
 
 -- ---- all fields at once
 

@@ -4,14 +4,29 @@
 use bits::Words;
 ghost use mathlib.Core.Path.{_≡_};
 ghost use mathlib.Core.Bool.{true, false};
-ghost use Prim.Native.Nat.{_<_, _^_};
+ghost use Prim.Native.Nat.{_<_, _≤_, _^_};
 ghost use Rattle.bits.specs.Words.{whole};
 ghost use Rattle.format.specs.declared.Layout.the-variants.{Modern, Legacy};
 ghost use Rattle.format.specs.Table.{rowOf};
 ghost use Rattle.format.specs.Record.{valueOf, withValue, pointer, putPointer};
-ghost use Rattle.records.specs.Delta.{turned};
-ghost use Rattle.records.specs.Records.{isRecordRow, shiftField, shiftInfo, packedLow, packedMiddle, packed, legacyFields};
-ghost use Rattle.records.specs.Records.{modernFields};
+ghost use Rattle.records.specs.Sum.{summed};
+ghost use Rattle.records.specs.Records.{isRecordRow, fieldSum, infoSum, packedLow, packedMiddle, packed, legacyFields};
+ghost use Rattle.records.specs.Records.{modernFields, asEdited, shiftSmall, shiftPointer};
+
+// The bits of a large pointer, and of a word that holds a place.
+pub const WORD_BITS: usize = 32;
+
+// A sum, where its place can hold it: it is not below 0 and has no more bits.
+pub enum Sum {
+    Fits(u64),
+    Beyond,
+}
+
+// A record after a shift; none where a sum does not fit.
+pub enum Shifted {
+    To(Words),
+    Beyond,
+}
 
 // The fields of a legacy record.
 pub struct LegacyFunctionHeader {
@@ -52,37 +67,48 @@ pub fn with_value(w: Words, k: usize, v: u64) -> Words
     bits::words_with_field(w, f.at, f.width, v)
 }
 
-// A signed delta as a number modulo 2^41: to add that is to add delta, in each width that a sum
-// wraps to.
-pub fn turn(delta: i32) -> u64
-    ensures { λ r. ⌜ (r ≡ turned delta) × (r < 2 ^ 41) ⌝ }
-{
-    let d = delta as i64;
-    if d < 0 {
-        (d + 2199023255552) as u64
-    } else {
-        d as u64
-    }
-}
-
-// A field moved; the sum wraps to its width.
-pub fn shift_field(w: Words, k: usize, d: u64) -> Words
+// The record with a number in a field that can hold all of it. Whoever moves a place has tested that
+// before: the leaves by their sum, a patch by refusal 12.
+pub fn with_exact(w: Words, k: usize, v: u64) -> Words
     requires { ⌜ isRecordRow k ≡ true ⌝ }
-    requires { ⌜ d < 2 ^ 41 ⌝ }
-    ensures { λ r. ⌜ whole r ≡ shiftField (rowOf k) d (whole w) ⌝ }
+    requires { ⌜ v < 2 ^ (rowOf k .width) ⌝ }
+    ensures { λ r. ⌜ (whole r ≡ withValue (rowOf k) v (whole w)) × (valueOf (rowOf k) (whole r) ≡ v) ⌝ }
 {
-    with_value(w, k, value(w, k) + d)
+    with_value(w, k, v)
 }
 
-// A legacy info place moved, but for 0, which says that there is none.
-pub fn shift_info(w: Words, d: u64) -> Words
-    requires { ⌜ d < 2 ^ 41 ⌝ }
-    ensures { λ r. ⌜ whole r ≡ shiftInfo d (whole w) ⌝ }
+// A signed delta added to a number, exactly, where the sum is not below 0 and has at most `width` bits.
+pub fn add_delta(n: u64, delta: i32, width: usize) -> Sum
+    requires { ⌜ (n < 2 ^ 41) × (width ≤ 32) ⌝ }
+    ensures { λ r. ⌜ r ≡ summed width delta n ⌝ }
+{
+    let total = n as i64 + delta as i64;
+    if total < 0 {
+        return Sum::Beyond;
+    }
+    let sum = total as u64;
+    if 1u64 << width <= sum {
+        return Sum::Beyond; // its place would cut it
+    }
+    Sum::Fits(sum)
+}
+
+// A delta added to what a field holds.
+pub fn field_sum(w: Words, k: usize, delta: i32) -> Sum
+    requires { ⌜ isRecordRow k ≡ true ⌝ }
+    ensures { λ r. ⌜ r ≡ fieldSum (rowOf k) delta (whole w) ⌝ }
+{
+    add_delta(value(w, k), delta, format::width(k))
+}
+
+// A delta added to a legacy info place, but for 0, which says that there is none.
+pub fn info_sum(w: Words, delta: i32) -> Sum
+    ensures { λ r. ⌜ r ≡ infoSum delta (whole w) ⌝ }
 {
     if value(w, format::LEGACY_INFO) == 0 {
-        return w;
+        return Sum::Fits(0);
     }
-    shift_field(w, format::LEGACY_INFO, d)
+    field_sum(w, format::LEGACY_INFO, delta)
 }
 
 // The large pointer of a modern record.
@@ -105,7 +131,8 @@ pub fn legacy_pointer(w: Words) -> u64
 
 // A modern record with another large pointer. Bit 24 is no part of it and stays.
 pub fn with_modern_pointer(w: Words, p: u64) -> Words
-    ensures { λ r. ⌜ whole r ≡ putPointer Modern p (whole w) ⌝ }
+    requires { ⌜ p < 2 ^ 32 ⌝ }
+    ensures { λ r. ⌜ (whole r ≡ putPointer Modern p (whole w)) × (pointer Modern (whole r) ≡ p) ⌝ }
 {
     let half = format::width(format::MODERN_POINTER_LOW);
     let low = with_value(w, format::MODERN_POINTER_LOW, p);
@@ -114,11 +141,63 @@ pub fn with_modern_pointer(w: Words, p: u64) -> Words
 
 // A legacy record with another large pointer: its offset and info fields are written whole.
 pub fn with_legacy_pointer(w: Words, p: u64) -> Words
-    ensures { λ r. ⌜ whole r ≡ putPointer (Legacy false false) p (whole w) ⌝ }
+    requires { ⌜ p < 2 ^ 32 ⌝ }
+    ensures { λ r. ⌜ (whole r ≡ putPointer (Legacy false false) p (whole w)) × (pointer (Legacy false false) (whole r) ≡ p) ⌝ }
 {
     let half = format::width(format::LEGACY_POINTER_LOW);
     let low = with_value(w, format::LEGACY_OFFSET, bits::field(p, 0, half));
     with_value(low, format::LEGACY_INFO, p >> half)
+}
+
+// A modern record without a large header, its body offset moved.
+pub fn shift_modern_offset(w: Words, delta: i32) -> Shifted
+    ensures { λ r. ⌜ asEdited r ≡ shiftSmall Modern delta (whole w) ⌝ }
+{
+    let sum = field_sum(w, format::MODERN_OFFSET, delta);
+    let Sum::Fits(offset) = sum else {
+        return Shifted::Beyond;
+    };
+    Shifted::To(with_exact(w, format::MODERN_OFFSET, offset))
+}
+
+// A legacy record without a large header, its body offset moved, and its info place unless that is 0.
+// Where either cannot be, neither is.
+pub fn shift_legacy_offsets(w: Words, delta: i32) -> Shifted
+    ensures { λ r. ⌜ asEdited r ≡ shiftSmall (Legacy false false) delta (whole w) ⌝ }
+{
+    let offset_sum = field_sum(w, format::LEGACY_OFFSET, delta);
+    let Sum::Fits(offset) = offset_sum else {
+        return Shifted::Beyond;
+    };
+    let placed = with_exact(w, format::LEGACY_OFFSET, offset);
+    let moved_info = info_sum(w, delta);
+    let Sum::Fits(info) = moved_info else {
+        return Shifted::Beyond; // the offset's move goes with it
+    };
+    Shifted::To(with_exact(placed, format::LEGACY_INFO, info))
+}
+
+// A modern record with a large header, its pointer moved.
+pub fn shift_modern_pointer(w: Words, delta: i32) -> Shifted
+    ensures { λ r. ⌜ asEdited r ≡ shiftPointer Modern delta (whole w) ⌝ }
+{
+    let sum = add_delta(modern_pointer(w), delta, WORD_BITS);
+    let Sum::Fits(pointer) = sum else {
+        return Shifted::Beyond;
+    };
+    Shifted::To(with_modern_pointer(w, pointer))
+}
+
+// A legacy record with a large header, its pointer moved: the whole number, not what a reader gives
+// modulo 2^32.
+pub fn shift_legacy_pointer(w: Words, delta: i32) -> Shifted
+    ensures { λ r. ⌜ asEdited r ≡ shiftPointer (Legacy false false) delta (whole w) ⌝ }
+{
+    let sum = add_delta(legacy_pointer(w), delta, WORD_BITS);
+    let Sum::Fits(pointer) = sum else {
+        return Shifted::Beyond;
+    };
+    Shifted::To(with_legacy_pointer(w, pointer))
 }
 
 // The low word's fields of a legacy record, in a record that is 0 elsewhere.

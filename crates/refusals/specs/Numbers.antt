@@ -46,7 +46,7 @@ empty = 10
 abbrev pub limit : ℕ
 limit = 11
 
--- a moved place, a new size or a builder's string is too large for its field
+-- a moved place, a new size or a builder's string is too large for its field; 02, No. 8: a shift's sum below 0 or past its width
 abbrev pub field : ℕ
 field = 12
 

@@ -1,4 +1,4 @@
--- The order in which numbers are due, for each kind of entry. 01, Refusal numbers, "Order".
+-- The order in which numbers are due, for each kind of entry. 01, Refusal numbers, "Order"; 02.
 -- docs/FORMAT.md: Order.
 use mathlib.Core.Bool.{Bool, true, false}
 use mathlib.Core.List.{List, [], _∷_, _++_}
@@ -9,6 +9,10 @@ use Rattle.refusals.specs.Numbers as refusals
 -- "1 to 6 as numbered"
 abbrev pub ofImage : List ℕ
 ofImage = refusals.size ∷ refusals.magic ∷ refusals.sections ∷ refusals.kinds ∷ refusals.string ∷ refusals.function ∷ []
+
+-- 02, No. 8: "12 after 1"
+abbrev pub ofShift : List ℕ
+ofShift = refusals.size ∷ refusals.field ∷ []
 
 -- "then 11, 12, 13"
 abbrev pub ofResult : List ℕ

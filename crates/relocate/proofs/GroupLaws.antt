@@ -1,5 +1,5 @@
 -- The writes of one function, of all functions one by one, and of all records before all large headers.
-use mathlib.Core.Path.{_≡_, refl, ap, sym, _∙_}
+use mathlib.Core.Path.{_≡_, refl, ap, sym, _∙_, subst⁻¹}
 use mathlib.Core.Bool.{Bool, true, false, not}
 use mathlib.Core.Logic.{inl, inr}
 use mathlib.Core.List.{List, [], _∷_, _++_}
@@ -24,6 +24,7 @@ use Rattle.format.proofs.MoveLaws.{moved-low, moved-high}
 use Rattle.image.specs.Sections.{functionsIn, recordAt, kindsAt, tailAt}
 use Rattle.image.specs.Functions.{Func, small, header, recordIn, funcOf}
 use Rattle.edits.specs.Edit.{Write, writeAll, groups, putSmall, pointed, putHeader, recordGroup, headerGroup, moveFunc}
+use Rattle.edits.specs.Fit.{FitsFields, FitsWords, FitsPlaces}
 use Rattle.edits.specs.Rebuild.{resized}
 use Rattle.edits.proofs.WriteLaws.{writes-append}
 use Rattle.image.proofs.PlaceLaws.{ordered, record-in}
@@ -96,16 +97,25 @@ module _ (l : Layout) (s : List ℕ) (m : Move) (i : ℕ) where
   group-of f b h z = ap (λ (g : Func). writesBy (g .large) g) (sym h) ∙ ap (λ (x : Bool). writesBy x f) z
 
   module _ (n : ℕ) (b : Bool) (f₀ f : Func) where
+    small-after : SmallMoved l s m i n b f₀ f → (f ≡ funcAfter l s m i) × (f .large ≡ false)
+    small-after got =
+        let y : SmallRead l s i n = record { number = got .read .number; flag = sym (got .read .flag) ∙ not-true b (got .without) } in
+        let a : f ≡ funcAfter l s m i = got .read .after ∙ ap (funcFor (movedPlace m) (m .cause) i) (small-is y f₀ (got .own)) in
+        (a, ap (λ (x : Func). x .large) a ∙ after-flag (movedPlace m) (m .cause) i (funcOf l s i) ∙ is-small y)
+
     pub small-group : SmallMoved l s m i n b f₀ f → (r : ℕ) (o o₁ : List ℕ) → r ≡ putSmall l f n
         → o₁ ≡ sets o (recordAt l i) (bytesOf (table.recordRow l .width) r) → o₁ ≡ writeAll (functionGroup l s m i) o
     unfolding writeAll
     small-group got r o o₁ k j =
-        let y : SmallRead l s i n = record { number = got .read .number; flag = sym (got .read .flag) ∙ not-true b (got .without) } in
-        let a : f ≡ funcAfter l s m i = got .read .after ∙ ap (funcFor (movedPlace m) (m .cause) i) (small-is y f₀ (got .own)) in
-        let z : f .large ≡ false
-        = ap (λ (x : Func). x .large) a ∙ after-flag (movedPlace m) (m .cause) i (funcOf l s i) ∙ is-small y in
+        let a = small-after got in
         j ∙ ap (λ (x : ℕ). sets o (recordAt l i) (bytesOf (table.recordRow l .width) x)) (k ∙ ap (putSmall l f) (got .read .number))
-        ∙ ap (λ (ws : List Write). writeAll ws o) (sym (group-of f false a z))
+        ∙ ap (λ (ws : List Write). writeAll ws o) (sym (group-of f false (a .0) (a .1)))
+
+    -- its record holds it
+    pub fields-held : SmallMoved l s m i n b f₀ f → (room : ℕ) → Movable l s m room → i < functionsIn s → FitsFields l f
+    fields-held got room ok c =
+        let a = small-after got in
+        subst⁻¹ (λ (x : Func). FitsPlaces l x) (a .0) (ok .writable i c) .asSmall (a .1)
 
     module _ (p : ℕ) (got : LargeMoved l s m i n b f₀ f p) where
       large-read : LargeRead l s i n p
@@ -115,18 +125,19 @@ module _ (l : Layout) (s : List ℕ) (m : Move) (i : ℕ) where
       is-after : f ≡ funcAfter l s m i
       is-after = got .read .after ∙ ap (funcFor (movedPlace m) (m .cause) i) (header-is large-read f₀ (got .own))
 
+      flag-after : f .large ≡ true
+      flag-after = ap (λ (x : Func). x .large) is-after ∙ after-flag (movedPlace m) (m .cause) i (funcOf l s i) ∙ is-large large-read
+
       pub large-group : (r : ℕ) (all : Bool) (o o₁ o₂ : List ℕ) → LargePut l m i n f r all o o₁ o₂
           → o₂ ≡ writeAll (functionGroup l s m i) o
       unfolding writeAll
       large-group r all o o₁ o₂ put =
-          let z : f .large ≡ true
-          = ap (λ (x : Func). x .large) is-after ∙ after-flag (movedPlace m) (m .cause) i (funcOf l s i) ∙ is-large large-read in
           let y : r ≡ pointed l (writesAll (m .cause)) (f .ptr) (recordIn l s i)
           = put .number ∙ rw (put .whole, got .read .number) in
           put .words
           ∙ ap (writeAll (putHeader l f))
           (put .slot ∙ ap (λ (x : ℕ). sets o (recordAt l i) (bytesOf (table.recordRow l .width) x)) y)
-          ∙ ap (λ (ws : List Write). writeAll ws o) (sym (group-of f true is-after z))
+          ∙ ap (λ (ws : List Write). writeAll ws o) (sym (group-of f true is-after flag-after))
 
       -- its large header has room where it goes
       pub header-held : (room : ℕ) → Movable l s m room → i < functionsIn s → f .ptr + table.largeRow l .width ≤ room
@@ -134,6 +145,10 @@ module _ (l : Layout) (s : List ℕ) (m : Move) (i : ℕ) where
           let z : f .ptr ≡ movedPlace m (funcOf l s i .ptr)
           = ap (λ (x : Func). x .ptr) is-after ∙ after-pointer (movedPlace m) (m .cause) i (funcOf l s i) in
           rw z (ok .held i c (is-large large-read))
+
+      -- and its words hold it
+      pub words-held : (room : ℕ) → Movable l s m room → i < functionsIn s → FitsWords f
+      words-held room ok c = subst⁻¹ (λ (x : Func). FitsPlaces l x) is-after (ok .writable i c) .asLarge flag-after
 
 -- ---- those of all functions
 

@@ -5,7 +5,7 @@
 use mathlib.Core.Path.{_≡_}
 use mathlib.Core.Bool.{Bool, true, false}
 use mathlib.Core.List.{List, [], _∷_, _++_}
-use Prim.Native.Nat.{ℕ, _+_, _-_, _≤_, _<_}
+use Prim.Native.Nat.{ℕ, _+_, _-_, _^_, _≤_, _<_}
 use lib.Dec.{eqb}
 use lib.ListN.{take, drop}
 use lib.Seq.{sets}
@@ -18,6 +18,7 @@ use Rattle.image.specs.Sections.{functionsIn, debugIn, kindsAt}
 use Rattle.image.specs.Functions.{Func, funcOf}
 use Rattle.image.specs.Admission.{headersIn}
 use Rattle.edits.specs.Edit.{Write, putFrom, putIn, writeAll, groups, recordGroup, headerGroup, moveFunc}
+use Rattle.edits.specs.Fit.{FitsPlaces}
 use Rattle.edits.specs.Rebuild.{resized}
 use Rattle.sections.specs.Places.{Fits}
 use Rattle.relocate.specs.declared.Cause.{Cause}
@@ -75,7 +76,8 @@ pub record Copied (a b to n room : ℕ) : Type 0 where
 
 -- ---- what it is asked for
 
--- an image whose large headers may be read, in a buffer that holds its records, and its large headers where they go
+-- an image whose large headers may be read, in a buffer that holds its records, and its large headers where they go; what is written
+-- of each function, and the debug offset, fits where it is written
 pub record Movable (l : Layout) (s : List ℕ) (m : Move) (room : ℕ) : Type 0 where
   pub fits : Fits l s
   pub headers : headersIn l s ≡ true
@@ -85,3 +87,5 @@ pub record Movable (l : Layout) (s : List ℕ) (m : Move) (room : ℕ) : Type 0 
   pub limit : room ≤ sizeLimit
   pub held : (i : ℕ) → i < functionsIn s → funcOf l s i .large ≡ true
       → movedPlace m (funcOf l s i .ptr) + table.largeRow l .width ≤ room
+  pub writable : (i : ℕ) → i < functionsIn s → FitsPlaces l (funcAfter l s m i)
+  pub debug : movedPlace m (debugIn l s) < 2 ^ 32

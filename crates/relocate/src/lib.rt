@@ -1,5 +1,7 @@
 // The relocation that every patch ends in. What it reads is the old image's, what it writes goes to
 // the new one: no law about reading what was just written is needed, and no record is read twice.
+// Every place and size that it writes fits where it goes, and is not cut: whoever calls it has tested
+// that before (refusals 11 and 12).
 use bits::Words;
 use format::Layout;
 use function_table::Function;
@@ -15,6 +17,7 @@ ghost use Rattle.format.specs.Record.{pointer, putPointer};
 ghost use Rattle.format.specs.Move.{moved};
 ghost use Rattle.footer.specs.Finalize.{sizeLimit};
 ghost use Rattle.image.specs.Sections.{functionsIn, recordAt};
+ghost use Rattle.edits.specs.Fit.{FitsFields, FitsWords};
 ghost use Rattle.edits.specs.Edit.{splice, writeAll, groups, putSmall, pointed, putHeader, moveFunc};
 ghost use Rattle.function_table.specs.Functions.{asFunc, WordSized};
 ghost use Rattle.relocate.specs.Relocate.{movedPlace, writesAll, funcFor, countWords, debugWord, functionGroup};
@@ -86,28 +89,30 @@ fn writes_all(m: Move) -> bool
 
 // The record of a function without a large header.
 fn small_record(words: Words, layout: Layout, f: Function) -> Words
+    requires { ⌜ FitsFields layout (asFunc f) ⌝ }
     ensures { λ r. ⌜ whole r ≡ putSmall layout (asFunc f) (whole words) ⌝ }
 {
     let begin = f.begin as u64;
     let size = f.size as u64;
     match layout {
         Layout::Modern => {
-            let placed = records::with_value(words, format::MODERN_OFFSET, begin);
-            records::with_value(placed, format::MODERN_SIZE, size)
+            let placed = records::with_exact(words, format::MODERN_OFFSET, begin);
+            records::with_exact(placed, format::MODERN_SIZE, size)
         }
         Layout::Legacy {
             big_integers: _,
             function_sources: _,
         } => {
-            let placed = records::with_value(words, format::LEGACY_OFFSET, begin);
-            let sized = records::with_value(placed, format::LEGACY_SIZE, size);
-            records::with_value(sized, format::LEGACY_INFO, f.info as u64)
+            let placed = records::with_exact(words, format::LEGACY_OFFSET, begin);
+            let sized = records::with_exact(placed, format::LEGACY_SIZE, size);
+            records::with_exact(sized, format::LEGACY_INFO, f.info as u64)
         }
     }
 }
 
 // A record with another large pointer.
 fn with_pointer(words: Words, layout: Layout, ptr: u64) -> Words
+    requires { ⌜ ptr < 4294967296 ⌝ }
     ensures { λ r. ⌜ whole r ≡ putPointer layout ptr (whole words) ⌝ }
 {
     match layout {
@@ -123,6 +128,7 @@ fn with_pointer(words: Words, layout: Layout, ptr: u64) -> Words
 // but for a rebuild.
 fn large_record(words: Words, layout: Layout, all: bool, old: u64, new: u64) -> Words
     requires { ⌜ old ≡ pointer layout (whole words) ⌝ }
+    requires { ⌜ new < 4294967296 ⌝ }
     ensures { λ r. ⌜ whole r ≡ pointed layout all new (whole words) ⌝ }
 {
     if all {
@@ -164,19 +170,20 @@ fn put_record(out: &mut [u8], layout: Layout, i: usize, words: Words)
 // The words of a function's large header.
 fn put_header(out: &mut [u8], layout: Layout, f: Function)
     requires { ⌜ f .ptr + largeRow layout .width ≤ length (now out) ⌝ }
+    requires { ⌜ FitsWords (asFunc f) ⌝ }
     ensures { λ _. ⌜ now (out .exit) ≡ writeAll (putHeader layout (asFunc f)) (now (out .entry)) ⌝ }
 {
     let ptr = f.ptr;
     let size = f.size as u64;
-    format::put_word(out, ptr, format::LARGE_OFFSET, f.begin as u64);
+    format::put_exact(out, ptr, format::LARGE_OFFSET, f.begin as u64);
     match layout {
-        Layout::Modern => format::put_word(out, ptr, format::MODERN_LARGE_SIZE, size),
+        Layout::Modern => format::put_exact(out, ptr, format::MODERN_LARGE_SIZE, size),
         Layout::Legacy {
             big_integers: _,
             function_sources: _,
         } => {
-            format::put_word(out, ptr, format::LEGACY_LARGE_SIZE, size);
-            format::put_word(out, ptr, format::LEGACY_LARGE_INFO, f.info as u64);
+            format::put_exact(out, ptr, format::LEGACY_LARGE_SIZE, size);
+            format::put_exact(out, ptr, format::LEGACY_LARGE_INFO, f.info as u64);
         }
     }
 }
@@ -227,11 +234,11 @@ pub fn put_counts(out: &mut [u8], overflows: usize, storage: usize)
 
 // The debug offset, moved.
 fn put_debug(out: &mut [u8], image: &[u8], layout: Layout, m: Move)
-    requires { ⌜ (headerLength ≤ length (now image)) × (headerLength ≤ length (now out)) × (m .to ≤ sizeLimit) ⌝ }
+    requires { ⌜ Movable layout (now image) m (length (now out)) ⌝ }
     ensures { λ _. ⌜ now (out .exit) ≡ writeAll (debugWord layout (now (image .entry)) m ∷ []) (now (out .entry)) ⌝ }
 {
     let debug = moved_fields::move_place(m.from, m.to, sections::debug_of(image, layout));
-    bits::put_word(out, sections::debug_at(layout), debug as u64);
+    bits::put_exact(out, sections::debug_at(layout), debug as u64);
 }
 
 // The debug offset, every record and the words of every large header, as they are after the patch.

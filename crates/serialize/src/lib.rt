@@ -179,6 +179,7 @@ fn put_header(image: &mut [u8], version: u32, strings: u32, size: u32)
 
 // A record with nothing but the flag and the pointer of a large header.
 fn pointing_record(large_at: usize) -> Words
+    requires { ⌜ «large_at» < 4294967296 ⌝ }
     ensures { λ r. ⌜ whole r ≡ recordOf «large_at» ⌝ }
 {
     let at = format::at(format::LARGE_FLAG);
@@ -190,7 +191,7 @@ fn pointing_record(large_at: usize) -> Words
 
 // That record in its slot.
 fn put_record(image: &mut [u8], large_at: usize)
-    requires { ⌜ kindsAt ≤ length (now image) ⌝ }
+    requires { ⌜ (kindsAt ≤ length (now image)) × («large_at» < 4294967296) ⌝ }
     ensures { λ _. ⌜ now (image .exit) ≡ sets (now (image .entry)) (modernRecord .at)
         (bytesOf (modernRecord .width) (recordOf «large_at»)) ⌝ }
 {
@@ -223,7 +224,7 @@ fn put_small_table(image: &mut [u8], ends: &[u32])
 // All before the tail. The record points to `large_at`.
 fn put_sections(image: &mut [u8], version: u32, storage: &[u8], ends: &[u32], large_at: usize)
     requires { ⌜ bodyAt (length (now ends)) (length (now storage)) ≤ length (now image) ⌝ }
-    requires { ⌜ length (now image) ≤ sizeLimit ⌝ }
+    requires { ⌜ («large_at» ≤ length (now image)) × (length (now image) ≤ sizeLimit) ⌝ }
     requires { ⌜ endsAscend (now ends) ≡ true ⌝ }
     ensures { λ _. ⌜ now (image .exit) ≡ sets (now (image .entry)) 0
         (sections version (now (storage .entry)) (now (ends .entry)) «large_at») ⌝ }

@@ -1,5 +1,6 @@
 -- The rebuilt image as the code writes it: what stands around the strings, the strings, the counts, what moves, the end of every patch.
-use mathlib.Core.Path.{_≡_, ap, sym, _∙_, subst⁻¹}
+use mathlib.Core.Path.{_≡_, ap, sym, _∙_, subst, subst⁻¹}
+use mathlib.Core.Bool.{true}
 use mathlib.Core.List.{List}
 use Prim.Native.Nat.{ℕ, _+_, _-_, _*_, _≤_}
 use native.Mathlib.Omega.{arith}
@@ -12,14 +13,14 @@ use Rattle.format.specs.Table as table
 use Rattle.footer.specs.Finalize.{sizeLimit}
 use Rattle.image.specs.Sections.{stringsIn, smallAt, tailAt}
 use Rattle.edits.specs.Edit.{writeAll, splice}
+use Rattle.edits.specs.Fit.{fieldsFit}
 use Rattle.edits.specs.Packing.{Packed}
 use Rattle.edits.specs.Rebuild.{region, padded, newTail, rebuild}
-use Rattle.image.proofs.CheckLaws.{headers-in}
 use Rattle.sections.specs.declared.Places.{Places}
 use Rattle.sections.proofs.SectionLaws.{Sectioned, sectioned}
 use Rattle.relocate.specs.declared.Move.{Move}
 use Rattle.relocate.specs.declared.Cause.the-variants.{Strings}
-use Rattle.relocate.specs.Relocate.{Copied, countWords, relocated, around, Movable}
+use Rattle.relocate.specs.Relocate.{movedPlace, Copied, countWords, relocated, around, Movable}
 use Rattle.relocate.proofs.EditLaws.{spliced-is, rebuilding, rebuild-is}
 use Rattle.relocate.proofs.MovableLaws.{rebuild-movable}
 use Rattle.string_packing.specs.declared.Shape.{Shape}
@@ -85,12 +86,12 @@ module _ (p : Places) (s value : List ℕ) (id : ℕ) (x : Shape) (z : Sizes) (t
   pub movable : Movable (p .layout) s (moveTail p to) room
   movable =
       subst⁻¹ (λ (m : Move). Movable (p .layout) s m room) move-is
-      (rebuild-movable (p .layout) s room
+      (rebuild-movable (p .layout) s room ts
       (record {
-        fits = rd .asked .laid .placed .fits;
-        headers = headers-in (p .layout) s .passed (rd .asked .laid .admitted .header);
+        admitted = rd .asked .laid .admitted;
         limit = rd .limit;
-      }) ts
+        fields = subst (λ (m : Move). fieldsFit (p .layout) s (movedPlace m) ≡ true) move-is (rd .fields);
+      })
       (rd .long ∙ ap (λ (t : ℕ). length s - t + to) (sc .tailFrom) ∙ ap (λ (t : ℕ). length s - tailAt (p .layout) s + t) to-is))
 
   -- ---- what they leave

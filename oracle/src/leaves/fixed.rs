@@ -1,8 +1,9 @@
-//! The fixed calls: every function, each limit. They hold no call on which a listed departure bears,
-//! so that the recorded answers are at once the Rust's and ours.
+//! The fixed calls: every function, each limit. They hold no call on which a listed departure of the
+//! comparison bears, so that the recorded answers are at once the judge's and ours.
 
 use super::record::{self, set_pointer, Field, Pointer, INFO, OFFSET};
-use super::{buffer_of, FAMILY, LEAVES};
+use super::shifts;
+use super::{buffer_of, leaf, on_record, LEAVES};
 use crate::family::{halves, Argument, Function};
 use crate::stream::Call;
 
@@ -21,18 +22,8 @@ pub fn calls() -> Vec<Call> {
     large_pointers(&mut calls);
     words(&mut calls);
     record_fields(&mut calls);
+    sums(&mut calls);
     calls
-}
-
-fn leaf(name: &str) -> &'static Function {
-    FAMILY.function(name)
-}
-
-/// A call on a record that fills its slot.
-fn on_record(name: &str, arguments: &[u32], record: u128) -> Call {
-    let leaf = leaf(name);
-    let slot = record.to_le_bytes()[..buffer_of(leaf).least()].to_vec();
-    Call::new(leaf, arguments, slot)
 }
 
 /// Arguments that differ from each other and under which no function refuses a buffer that is long enough.
@@ -185,5 +176,46 @@ fn record_fields(calls: &mut Vec<Call>) {
                 calls.push(on_record(&format!("read_{layout}_function_header"), &[], record));
             }
         }
+    }
+}
+
+/// Sums on both sides of 0 and of what their place holds, each by one; slots that are too short for them; and the
+/// smallest inputs of the departures.
+fn sums(calls: &mut Vec<Call>) {
+    let middle = 1 << 20;
+    let small = ["shift_modern_small_header_offset", "shift_legacy_small_header_offsets"];
+    for step in [1, 5, 4096] {
+        for (number, up) in [(step, false), (OFFSET.most() - step, true)] {
+            for past in [0, 1] {
+                let delta = (step + past) as i32;
+                let delta = if up { delta } else { -delta } as u32;
+                for record in [ZEROS, ONES] {
+                    let offset = OFFSET.set(INFO.set(record, 0), number);
+                    small.iter().for_each(|name| calls.push(on_record(name, &[delta], offset)));
+                    // the offset could move, and the info place cannot, or just can
+                    let info = INFO.set(OFFSET.set(record, middle), number);
+                    calls.push(on_record(small[1], &[delta], info));
+                }
+            }
+        }
+    }
+    let near = |limit: u64| [limit - 2, limit - 1, limit, limit + 1];
+    for record in [ZEROS, ONES] {
+        for pointer in near(1 << 32).into_iter().chain(near((1 << 32) + (1 << 31))) {
+            for delta in [-2, -1, 0, 1, 2, i32::MIN, i32::MIN + 1] {
+                let legacy = set_pointer(record::LEGACY_POINTER, record, pointer);
+                calls.push(on_record("shift_legacy_large_pointer", &[delta as u32], legacy));
+                if pointer < 1 << 32 {
+                    let modern = set_pointer(record::MODERN_POINTER, record, pointer);
+                    calls.push(on_record("shift_modern_large_pointer", &[delta as u32], modern));
+                }
+            }
+        }
+    }
+    for (_, call, _) in shifts::shown() {
+        // 1 comes before 12
+        let short = call.buffer[1..].to_vec();
+        calls.push(Call::new(call.function, &call.arguments, short));
+        calls.push(call);
     }
 }

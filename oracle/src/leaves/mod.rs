@@ -3,6 +3,7 @@
 mod fixed;
 mod random;
 pub mod record;
+pub mod shifts;
 
 use hbc_decomp::error::Result;
 use hbc_decomp::write::header_write::*;
@@ -11,6 +12,7 @@ use crate::family::Argument::*;
 use crate::family::{long, Answered, Departure, Family, Function, STOPPED};
 use crate::stream::{words, Answer, Call, ARGUMENTS};
 use record::Field;
+use shifts::Shift;
 
 /// Refusal 1 of document 01, and every Err of the Rust here.
 pub const TOO_SHORT: u32 = 1;
@@ -21,6 +23,7 @@ pub static FAMILY: Family = Family {
     longest_buffer: LONGEST_BUFFER,
     fixed: fixed::calls,
     random: random::call,
+    // Those of the shifts the judge itself recognises: its answers are what document 02 asks for.
     departures: &[Departure { name: "position wraps", explains: position_wraps }],
 };
 
@@ -68,6 +71,17 @@ impl Buffer {
             _ => &[],
         }
     }
+}
+
+fn leaf(name: &str) -> &'static Function {
+    FAMILY.function(name)
+}
+
+/// A call on a record that fills its slot.
+fn on_record(name: &str, arguments: &[u32], record: u128) -> Call {
+    let leaf = leaf(name);
+    let slot = record.to_le_bytes()[..buffer_of(leaf).least()].to_vec();
+    Call::new(leaf, arguments, slot)
 }
 
 fn delta(word: u32) -> i64 {
@@ -215,13 +229,13 @@ static LEAVES: [Function; 13] = [
         number: 5,
         name: "shift_modern_small_header_offset",
         arguments: &[Delta],
-        run: |a, slot| nothing(shift_modern_small_header_offset(slot, delta(a[0]))),
+        run: |a, slot| shifts::run(Shift::ModernOffset, delta(a[0]), slot),
     },
     Function {
         number: 6,
         name: "shift_legacy_small_header_offsets",
         arguments: &[Delta],
-        run: |a, slot| nothing(shift_legacy_small_header_offsets(slot, delta(a[0]))),
+        run: |a, slot| shifts::run(Shift::LegacyOffsets, delta(a[0]), slot),
     },
     Function {
         number: 7,
@@ -233,7 +247,7 @@ static LEAVES: [Function; 13] = [
         number: 8,
         name: "shift_legacy_large_pointer",
         arguments: &[Delta],
-        run: |a, slot| nothing(shift_legacy_large_pointer(slot, delta(a[0]))),
+        run: |a, slot| shifts::run(Shift::LegacyPointer, delta(a[0]), slot),
     },
     Function {
         number: 9,
@@ -245,13 +259,13 @@ static LEAVES: [Function; 13] = [
         number: 10,
         name: "shift_modern_large_pointer",
         arguments: &[Delta],
-        run: |a, slot| nothing(shift_modern_large_pointer(slot, delta(a[0]))),
+        run: |a, slot| shifts::run(Shift::ModernPointer, delta(a[0]), slot),
     },
     Function {
         number: 11,
         name: "shift_u32_at",
         arguments: &[LongLow("position"), LongHigh("position"), Delta],
-        run: |a, buf| nothing(shift_u32_at(buf, long(a), delta(a[2]))),
+        run: |a, buf| shifts::run(Shift::WordAt(long(a)), delta(a[2]), buf),
     },
     // The next two are answered by the second reading, not by the Rust.
     Function {

@@ -1,6 +1,7 @@
 //! Seeded random calls of the leaves, leaning towards the limits.
 
-use super::record::number;
+use super::record::{number, INFO};
+use super::shifts::Shift;
 use super::{buffer_of, Buffer, LEAVES, LONGEST_BUFFER};
 use crate::family::{halves, Argument};
 use crate::random::Random;
@@ -10,7 +11,7 @@ pub fn call(random: &mut Random) -> Call {
     let leaf = &LEAVES[random.below(LEAVES.len() as u64) as usize];
     let buffer = buffer(random, buffer_of(leaf));
     let [low, high] = halves(position(random, buffer.len() as u64));
-    let arguments: Vec<u32> = leaf
+    let mut arguments: Vec<u32> = leaf
         .arguments
         .iter()
         .map(|argument| match argument {
@@ -21,7 +22,30 @@ pub fn call(random: &mut Random) -> Call {
             Argument::LongHigh(_) => high,
         })
         .collect();
-    Call::new(leaf, &arguments, buffer)
+    let call = Call::new(leaf, &arguments, buffer);
+    match limit(random, &call) {
+        Some(delta) => {
+            *arguments.last_mut().unwrap() = delta as u32;
+            Call::new(leaf, &arguments, call.buffer)
+        }
+        None => call,
+    }
+}
+
+/// For some shifts, a delta that makes a sum 0 or the most that its place holds, or is off by one.
+fn limit(random: &mut Random, call: &Call) -> Option<i32> {
+    let shift = Shift::of(call)?;
+    let end = match shift {
+        Shift::WordAt(position) => position.checked_add(4)?,
+        _ => buffer_of(call.function).least(),
+    };
+    if end > call.buffer.len() || random.below(2) == 0 {
+        return None;
+    }
+    let places = shift.places(&call.buffer);
+    let place = places[random.below(places.len() as u64) as usize];
+    let target = [0, 1 << place.bits()][random.below(2) as usize] - random.below(3) as i64 + 1;
+    i32::try_from(target - place.get(&call.buffer) as i64).ok()
 }
 
 fn buffer(random: &mut Random, kind: Buffer) -> Vec<u8> {
@@ -44,6 +68,10 @@ fn buffer(random: &mut Random, kind: Buffer) -> Vec<u8> {
             if random.below(2) == 0 {
                 record = field.set(record, value(random, field.width));
             }
+        }
+        // a pointer about 2^32, which a delta can bring to either side
+        if matches!(kind, Buffer::LegacySlot) && random.below(4) == 0 {
+            record = INFO.set(record, 0xffff + random.below(1 << 15));
         }
         buffer[..least].copy_from_slice(&record.to_le_bytes()[..least]);
     }

@@ -1,35 +1,40 @@
--- A slot that is too short is left; else its number with both places moved is what is stored.
+-- A slot that is too short is left, and so is one whose sum does not fit; else the moved record is what is stored.
 use native.Mathlib.Omega.{arith}
-use Rattle.header_write.proofs.SlotLaws.{slot-short, slot-done}
+use mathlib.Core.Path.{_≡_, ap, sym, _∙_}
+use mathlib.Core.Bool.{false}
+use Rattle.format.specs.declared.Layout.the-variants.{Legacy}
 use mir.Facts.{toZ-ofZ}
+use Rattle.bits.specs.Bytes.{numberAt}
 use Rattle.format.specs.Table.{legacyRecord}
-use Rattle.records.specs.Records.{shiftSmall}
+use Rattle.records.specs.Records.{asEdited, shiftSmall}
+use Rattle.header_write.proofs.SlotLaws.{slot-short, slot-beyond, slot-done}
 use borrow.Author.Needs.{needs}
 use Rattle.header_write.proofs.shift_legacy_small_header_offsets.Statement.{statement}
 use Rattle.header_write.proofs.shift_legacy_small_header_offsets.Tie as tie
+
+-- the record that the code made
+moved-is : (c : tie.After-shift-legacy-offsets) → let a = c .before .before .before .before .before .before .args in
+    asEdited (c .shift-legacy-offsets .result)
+    ≡ shiftSmall (Legacy false false) (a .delta) (numberAt (a .slot .now) 0 (legacyRecord .width))
+moved-is c =
+    let start = c .before .before .before .before .before .before in
+    c .shift-legacy-offsets .ensures ∙ rw (c .before .load16 .ensures, toZ-ofZ (start .fits .delta))
 
 returns : tie.Need-returns
 returns c = slot-short (legacyRecord .width) _ _ (omega arith)
 
 returns-2 : tie.Need-returns-2
-unfolding shiftSmall
 returns-2 c =
-    let at-shift-info = c .before .before .before in
-    let at-shift-field = at-shift-info .before .before in
-    let at-load16 = at-shift-field .before in
-    let at-turn = at-load16 .before .before in
-    let at-fits = at-turn .before .before .before .before in
+    slot-beyond (legacyRecord .width) _ _ (omega arith) (sym (ap asEdited (c .enum-told .given .1)) ∙ moved-is (c .before .before))
+
+returns-3 : tie.Need-returns-3
+returns-3 c =
+    let at-moved = c .before .before .before .before .before in
     slot-done (legacyRecord .width) _ _ _ _ (omega arith) (c .before .before .store16 .ensures)
-    (rw (
-      at-shift-info .shift-info .ensures,
-      at-shift-field .shift-field .ensures,
-      at-load16 .load16 .ensures,
-      at-turn .turn .ensures .0,
-      toZ-ofZ (at-fits .fits .delta),
-    ))
+    (sym (ap asEdited (at-moved .moved .given .1)) ∙ moved-is (at-moved .before .before))
 
 pub shift-legacy-small-header-offsets-spec : {M : Type 1} → statement M
 shift-legacy-small-header-offsets-spec =
     tie.close
-    (tie.spec (λ c κs. search needs) returns (λ c κs. search needs) (λ c κs. search needs) (λ c κs. search needs)
-    (λ c κs. search needs) (λ c κs. search needs) (λ c. search needs) returns-2)
+    (tie.spec (λ c κs. search needs) returns (λ c κs. search needs) (λ c κs. search needs) (λ c. search needs) (λ c. search needs)
+    (λ c. search needs) returns-2 (λ c κs. search needs) (λ c. search needs) returns-3)

@@ -1,28 +1,38 @@
--- A slot that is too short is left; else its number with the offset moved is what is stored.
+-- A slot that is too short is left, and so is one whose sum does not fit; else the moved record is what is stored.
 use native.Mathlib.Omega.{arith}
+use mathlib.Core.Path.{_≡_, ap, sym, _∙_}
+use Rattle.format.specs.declared.Layout.the-variants.{Modern}
 use mir.Facts.{toZ-ofZ}
+use Rattle.bits.specs.Bytes.{numberAt}
 use Rattle.format.specs.Table.{modernRecord}
-use Rattle.records.specs.Records.{shiftSmall}
-use Rattle.header_write.proofs.SlotLaws.{slot-short, slot-done}
+use Rattle.records.specs.Records.{asEdited, shiftSmall}
+use Rattle.header_write.proofs.SlotLaws.{slot-short, slot-beyond, slot-done}
 use borrow.Author.Needs.{needs}
 use Rattle.header_write.proofs.shift_modern_small_header_offset.Statement.{statement}
 use Rattle.header_write.proofs.shift_modern_small_header_offset.Tie as tie
+
+-- the record that the code made
+moved-is : (c : tie.After-shift-modern-offset) → let a = c .before .before .before .before .before .before .args in
+    asEdited (c .shift-modern-offset .result) ≡ shiftSmall Modern (a .delta) (numberAt (a .slot .now) 0 (modernRecord .width))
+moved-is c =
+    let start = c .before .before .before .before .before .before in
+    c .shift-modern-offset .ensures ∙ rw (c .before .load12 .ensures, toZ-ofZ (start .fits .delta))
 
 returns : tie.Need-returns
 returns c = slot-short (modernRecord .width) _ _ (omega arith)
 
 returns-2 : tie.Need-returns-2
-unfolding shiftSmall
 returns-2 c =
-    let at-shift-field = c .before .before .before .before in
-    let at-load12 = at-shift-field .before in
-    let at-turn = at-load12 .before .before in
-    let at-fits = at-turn .before .before .before .before in
+    slot-beyond (modernRecord .width) _ _ (omega arith) (sym (ap asEdited (c .enum-told .given .1)) ∙ moved-is (c .before .before))
+
+returns-3 : tie.Need-returns-3
+returns-3 c =
+    let at-moved = c .before .before .before .before .before in
     slot-done (modernRecord .width) _ _ _ _ (omega arith) (c .before .before .store12 .ensures)
-    (rw (at-shift-field .shift-field .ensures, at-load12 .load12 .ensures, at-turn .turn .ensures .0, toZ-ofZ (at-fits .fits .delta)))
+    (sym (ap asEdited (at-moved .moved .given .1)) ∙ moved-is (at-moved .before .before))
 
 pub shift-modern-small-header-offset-spec : {M : Type 1} → statement M
 shift-modern-small-header-offset-spec =
     tie.close
-    (tie.spec (λ c κs. search needs) returns (λ c κs. search needs) (λ c κs. search needs) (λ c κs. search needs)
-    (λ c κs. search needs) (λ c. search needs) returns-2)
+    (tie.spec (λ c κs. search needs) returns (λ c κs. search needs) (λ c κs. search needs) (λ c. search needs) (λ c. search needs)
+    (λ c. search needs) returns-2 (λ c κs. search needs) (λ c. search needs) returns-3)

@@ -13,7 +13,7 @@ returns c =
 returns-2 : tie.Need-returns-2
 returns-2 c =
     let a = c .before .before .args in
-    pointed-kept (a .layout) (a .new) (whole (a .words)) (a .all) (c .before .if1 .left) (a .old) (c .before .before .pre)
+    pointed-kept (a .layout) (a .new) (whole (a .words)) (a .all) (c .before .if1 .left) (a .old) (c .before .before .pre .0)
     (c .if2 .taken)
 
 returns-3 : tie.Need-returns-3
@@ -21,7 +21,7 @@ returns-3 c =
     let start = c .before .before .before in
     let a = start .args in
     pointed-moved (a .layout) (a .new) (whole (a .words)) (a .all) (c .before .before .if1 .left) (a .old)
-    (record { read = start .pre; other = c .before .if2 .left }) _ (c .with-pointer2 .ensures)
+    (record { read = start .pre .0; other = c .before .if2 .left }) _ (c .with-pointer2 .ensures)
 
 pub large-record-spec : {M : Type 1} → statement M
 large-record-spec =

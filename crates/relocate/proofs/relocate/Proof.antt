@@ -13,9 +13,7 @@ header-word-requires c κs =
 put-debug-requires : tie.Need-put-debug-requires
 put-debug-requires c κs =
     let start = c .before .before .before .before in
-    let a = start .args in
-    let h = header-there (a .layout) (a .image .now) (a .m) _ (start .pre) in
-    (h .0, h .1, start .pre .most)
+    start .pre
 
 relocate-functions-requires : tie.Need-relocate-functions-requires
 relocate-functions-requires c κs =

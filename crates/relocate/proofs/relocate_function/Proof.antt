@@ -9,7 +9,7 @@ use Rattle.sections.proofs.SectionLaws.{records-few}
 use Rattle.image.proofs.PlaceLaws.{record-in}
 use Rattle.function_table.specs.Functions.{asFunc}
 use Rattle.function_table.proofs.ReadLaws.{LargeRead, header-fits}
-use Rattle.relocate.proofs.GroupLaws.{LargeMoved, small-group, large-group, header-held}
+use Rattle.relocate.proofs.GroupLaws.{SmallMoved, LargeMoved, small-group, large-group, fields-held, header-held, words-held}
 use borrow.Author.Tests.{not-false}
 
 record-of-requires : tie.Need-record-of-requires
@@ -19,6 +19,30 @@ function-after-requires : tie.Need-function-after-requires
 function-after-requires c κs =
     let start = c .before .before .before .before .before .before in
     (c .small-function .ensures .1, omega (arith, start .pre .0 .most))
+
+-- the function as it is read, without a large header, and as it is to be
+small-moved : (c : tie.After-function-after) → let at-is-large = c .before .before .before in
+    let at-record-of = at-is-large .before in
+    let a = at-record-of .before .before .before .args in
+    SmallMoved (a .layout) (a .image .now) (a .m) (a .i) (whole (at-record-of .record-of .result)) (at-is-large .is-large .result)
+    (asFunc (c .before .small-function .result)) (asFunc (c .function-after .result))
+small-moved c =
+    let at-is-large = c .before .before .before in
+    record {
+      read = record {
+        number = at-is-large .before .record-of .ensures;
+        flag = at-is-large .is-large .ensures;
+        after = c .function-after .ensures;
+      };
+      without = c .before .before .if1 .taken;
+      own = c .before .small-function .ensures .0;
+    }
+
+small-record-requires : tie.Need-small-record-requires
+small-record-requires c κs =
+    let at-function-after = c .before in
+    let start = at-function-after .before .before .before .before .before .before .before in
+    fields-held _ _ _ _ _ _ _ _ (small-moved at-function-after) _ (start .pre .0) (start .pre .1)
 
 put-record-requires : tie.Need-put-record-requires
 put-record-requires c κs =
@@ -33,22 +57,8 @@ returns : tie.Need-returns
 returns c =
     let at-small-record = c .before .before .before in
     let at-function-after = at-small-record .before .before in
-    let at-small-function = at-function-after .before in
-    let at-if1 = at-small-function .before in
-    let at-is-large = at-if1 .before in
-    let at-record-of = at-is-large .before in
-    let start = at-record-of .before .before .before in
-    let a = start .args in
-    small-group (a .layout) (a .image .now) (a .m) (a .i) _ _ _ _
-    (record {
-      read = record {
-        number = at-record-of .record-of .ensures;
-        flag = at-is-large .is-large .ensures;
-        after = at-function-after .function-after .ensures;
-      };
-      without = at-if1 .if1 .taken;
-      own = at-small-function .small-function .ensures .0;
-    }) _ (a .out .now) _ (at-small-record .small-record .ensures) (c .before .before .put-record .ensures)
+    small-group _ _ _ _ _ _ _ _ (small-moved at-function-after) _ _ _ (at-small-record .small-record .ensures)
+    (c .before .before .put-record .ensures)
 
 large-function-requires : tie.Need-large-function-requires
 large-function-requires c κs =
@@ -68,20 +78,6 @@ function-after-requires-2 : tie.Need-function-after-requires-2
 function-after-requires-2 c κs =
     let start = c .before .before .before .before .before .before .before in
     (c .large-function .ensures .1, omega (arith, start .pre .0 .most))
-
-large-record-requires : tie.Need-large-record-requires
-large-record-requires c κs =
-    let at-pointer-of = c .before .before .before in
-    at-pointer-of .pointer-of .ensures .0
-
-put-record-requires-2 : tie.Need-put-record-requires-2
-put-record-requires-2 c κs =
-    let start = c .before .before .before .before .before .before .before .before .before .before .before in
-    let a = start .args in (
-      records-few (a .layout) (a .image .now) (a .i) (start .pre .0 .fits) (start .pre .1),
-      omega
-          (arith, record-in (a .layout) (a .image .now) (a .i) (start .pre .1), start .pre .0 .records),
-    )
 
 -- the function as it is read, with its large header, and as it is to be
 moved : (c : tie.After-function-after2) → let at-pointer-of = c .before .before in
@@ -104,13 +100,33 @@ moved c =
       own = c .before .large-function .ensures .0;
     }
 
+large-record-requires : tie.Need-large-record-requires
+large-record-requires c κs =
+    let at-function-after2 = c .before in
+    let at-pointer-of = at-function-after2 .before .before in
+    let start = at-pointer-of .before .before .before .before .before .before in (
+      at-pointer-of .pointer-of .ensures .0,
+      words-held _ _ _ _ _ _ _ _ _ (moved at-function-after2) _ (start .pre .0) (start .pre .1) .ptr,
+    )
+
+put-record-requires-2 : tie.Need-put-record-requires-2
+put-record-requires-2 c κs =
+    let start = c .before .before .before .before .before .before .before .before .before .before .before in
+    let a = start .args in (
+      records-few (a .layout) (a .image .now) (a .i) (start .pre .0 .fits) (start .pre .1),
+      omega
+          (arith, record-in (a .layout) (a .image .now) (a .i) (start .pre .1), start .pre .0 .records),
+    )
+
 put-header-requires : tie.Need-put-header-requires
 put-header-requires c κs =
     let at-put-record2 = c .before .before .before in
     let at-function-after2 = at-put-record2 .before .before .before .before in
     let start = at-function-after2 .before .before .before .before .before .before .before .before in
-    rw (at-put-record2 .put-record2 .kept .0)
-    (header-held _ _ _ _ _ _ _ _ _ (moved at-function-after2) _ (start .pre .0) (start .pre .1))
+    let held = moved at-function-after2 in (
+      rw (at-put-record2 .put-record2 .kept .0) (header-held _ _ _ _ _ _ _ _ _ held _ (start .pre .0) (start .pre .1)),
+      words-held _ _ _ _ _ _ _ _ _ held _ (start .pre .0) (start .pre .1),
+    )
 
 returns-2 : tie.Need-returns-2
 returns-2 c =
@@ -128,6 +144,6 @@ returns-2 c =
 pub relocate-function-spec : {M : Type 1} → statement M
 relocate-function-spec =
     tie.close
-    (tie.spec record-of-requires (λ c κs. search needs) (λ c κs. search needs) function-after-requires (λ c κs. search needs)
+    (tie.spec record-of-requires (λ c κs. search needs) (λ c κs. search needs) function-after-requires small-record-requires
     put-record-requires (λ c. search needs) returns (λ c κs. search needs) large-function-requires function-after-requires-2
     (λ c κs. search needs) large-record-requires put-record-requires-2 put-header-requires (λ c. search needs) returns-2)

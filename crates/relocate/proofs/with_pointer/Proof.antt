@@ -8,13 +8,13 @@ returns : tie.Need-returns
 returns c =
     let start = c .before .before .before in
     let a = start .args in
-    pointer-modern (a .layout) (a .ptr) (whole (a .words)) (c .before .enum-told .given .1) _ (c .with-modern-pointer .ensures)
+    pointer-modern (a .layout) (a .ptr) (whole (a .words)) (c .before .enum-told .given .1) _ (c .with-modern-pointer .ensures .0)
 
 returns-2 : tie.Need-returns-2
 returns-2 c =
     let start = c .before .before .before in
     let a = start .args in
-    pointer-legacy (a .layout) (a .ptr) (whole (a .words)) _ _ (c .before .enum-told2 .given .1) _ (c .with-legacy-pointer .ensures)
+    pointer-legacy (a .layout) (a .ptr) (whole (a .words)) _ _ (c .before .enum-told2 .given .1) _ (c .with-legacy-pointer .ensures .0)
 
 pub with-pointer-spec : {M : Type 1} → statement M
 with-pointer-spec =

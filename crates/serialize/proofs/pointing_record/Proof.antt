@@ -10,7 +10,7 @@ returns c =
     let at-width = c .before .before .before in
     let at-at = at-width .before in
     rw (
-      c .with-modern-pointer .ensures,
+      c .with-modern-pointer .ensures .0,
       c .before .with-value .ensures,
       c .before .before .with-field .ensures,
       at-width .width .ensures,

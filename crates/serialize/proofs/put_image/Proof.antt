@@ -1,8 +1,16 @@
 -- What lies before the body, then what lies from it on, then the end; the lengths stay as they are.
 use Rattle.serialize.proofs.PartLaws.{image-made}
+use native.Mathlib.Omega.{arith}
 use borrow.Author.Needs.{needs}
 use Rattle.serialize.proofs.put_image.Statement.{statement}
 use Rattle.serialize.proofs.put_image.Tie as tie
+
+put-sections-requires : tie.Need-put-sections-requires
+put-sections-requires c κs =
+    let start = c .before .before .before .before .before .before .before in (
+      search needs,
+      ((omega (arith, c .before .up4 .ensures, c .before .before .body-at .ensures, start .pre .0), start .pre .1 .0), start .pre .1 .1),
+    )
 
 returns : tie.Need-returns
 returns c =
@@ -25,5 +33,5 @@ returns c =
 pub put-image-spec : {M : Type 1} → statement M
 put-image-spec =
     tie.close
-    (tie.spec (λ c κs. search needs) (λ c. search needs) (λ c κs. search needs) (λ c κs. search needs) (λ c κs. search needs)
+    (tie.spec (λ c κs. search needs) (λ c. search needs) (λ c κs. search needs) put-sections-requires (λ c κs. search needs)
     (λ c κs. search needs) (λ c. search needs) returns)

@@ -14,7 +14,7 @@ returns c =
     (record {
       from = at-at .at .ensures;
       to = at-kinds-at .kinds-at .ensures;
-      room = start .pre;
+      room = start .pre .0;
       put = c .before .before .store12 .ensures;
       pointing = at-pointing-record .pointing-record .ensures;
     })

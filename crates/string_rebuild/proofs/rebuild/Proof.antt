@@ -2,8 +2,10 @@
 use borrow.Author.Needs.{needs}
 use Rattle.string_rebuild.proofs.rebuild.Statement.{statement}
 use Rattle.string_rebuild.proofs.rebuild.Tie as tie
+use mathlib.Core.Path.{sym, _∙_}
 use Prim.Native.Nat.{_+_, _-_}
 use native.Mathlib.Omega.{arith}
+use borrow.Author.Tests.{not-false}
 use lib.ListN.{length}
 use Rattle.sections.proofs.SectionLaws.{sectioned}
 use Rattle.string_in_place.proofs.FinishLaws.{room-short, room-written, part-length}
@@ -96,7 +98,8 @@ returns-4 c = room-short _ _ _ _ (makes _ _ _ _ _ _ _ _ (tested (c .before .befo
 
 put-rebuilt-requires : tie.Need-put-rebuilt-requires
 put-rebuilt-requires c κs =
-    let at-if2 = c .before .before .before .before in
+    let at-if3 = c .before .before in
+    let at-if2 = at-if3 .before .before in
     let at-new-tail = at-if2 .before .before in
     let at-if1 = at-new-tail .before .before in
     let start = at-if1 .before .before .before .before .before .before in
@@ -112,6 +115,7 @@ put-rebuilt-requires c κs =
       tail = g .tail;
       long = long;
       limit = rw long (omega (arith, at-if2 .if2 .left));
+      fields = sym (at-if3 .before .fields-fit .ensures) ∙ not-false _ (at-if3 .if3 .left);
     }
 
 returns-5 : tie.Need-returns-5
