@@ -1,49 +1,69 @@
--- The schedule grows word by word.
-use mathlib.Core.Path.{_≡_, ap, sym, _∙_}
+-- The words of a schedule, each by its number.
+use mathlib.Core.Path.{_≡_, refl, sym, _∙_}
 use mathlib.Core.List.{List, [], _∷_, _++_}
-use Prim.Native.Nat.{ℕ, suc, _+_, _-_, _*_, _≤_, _<_}
-use native.Mathlib.Numerals.{add-one}
+use Prim.Native.Nat.{ℕ, zero, suc, _+_, _-_, _*_, _≤_, _<_}
+use native.Mathlib.Nat.{add-zero, zero-add, add-suc}
 use native.Mathlib.Omega.{arith}
-use lib.ListN.{length, set, take, getD}
-use lib.Seq.{take-suc-set, getD-take}
-use Rattle.bits.specs.Word32.{xor32, rotl32}
+use lib.ListN.{length, getD, length-append, List·getD-append}
+use lib.Seq.{getD-append-seam}
 use Rattle.sha1.specs.BigEndian.{bigAt}
-use Rattle.sha1.specs.Sha1.{words, nextWord, extended}
+use Rattle.sha1.specs.Sha1.{words, nextWord, extended, schedule}
 
-module _ (w : List ℕ) (i x : ℕ) (h : i < length w) where
-  -- what was stored ends the words that are there
-  grown : take (i + 1) (set w i x) ≡ take i w ++ x ∷ []
-  grown = rw add-one (take-suc-set w i x h)
+-- ---- lists that grow at their end, f n by the number g n
 
-  pub loaded-more : (block : List ℕ) → x ≡ bigAt block (i * 4) 4 → take i w ≡ words i block
-      → take (i + 1) (set w i x) ≡ words (i + 1) block
+module _ (f : ℕ → List ℕ) (g : ℕ → ℕ) (more : (n : ℕ) → f (suc n) ≡ f n ++ g n ∷ []) where
+  length-grown : (n : ℕ) → length (f n) ≡ length (f 0) + n
+  length-grown zero = sym (add-zero _)
+  length-grown (suc n) = rw (more n, length-append, length-grown n) (omega arith)
+
+  -- what is there stays
+  stays : (n k j : ℕ) → j < length (f 0) + k → getD (f (k + n)) j 0 ≡ getD (f k) j 0
+  stays zero k j h = rw add-zero
+  stays (suc n) k j h =
+      rw (add-suc, more (k + n)) (List·getD-append (f (k + n)) _ 0 j (rw (length-grown (k + n)) (omega arith)) ∙ stays n k j h)
+
+  grown-at : (n k : ℕ) → getD (f (suc k + n)) (length (f 0) + k) 0 ≡ g k
+  grown-at n k =
+      stays n (suc k) (length (f 0) + k) (omega arith) ∙ rw (more k, ← length-grown k) (getD-append-seam (f k) (g k) [] 0)
+
+-- ---- the schedule of a block
+
+sixteen-words : (block : List ℕ) → length (words 16 block) ≡ 16
+unfolding words
+sixteen-words block = refl
+
+module _ (block : List ℕ) where
+  more-words : (n : ℕ) → words (suc n) block ≡ words n block ++ bigAt block (n * 4) 4 ∷ []
   unfolding words
-  loaded-more block e p = grown ∙ rw (add-one, e, p)
+  more-words n = refl
 
--- words 0 to i - 1 of w are those of the schedule that m begins, and w has room for one more
-pub record Scheduled (w m : List ℕ) (i : ℕ) : Type 0 where
-  pub begun : 16 ≤ i
-  pub room : i < length w
-  pub there : take i w ≡ extended (i - 16) m
+  more-extended : (n : ℕ)
+      → extended (suc n) (words 16 block) ≡ extended n (words 16 block) ++ nextWord (extended n (words 16 block)) (16 + n) ∷ []
+  unfolding extended
+  more-extended n = refl
 
-pub extended-more : (w m : List ℕ) (i x : ℕ) → Scheduled w m i
-    → x ≡ rotl32 1 (xor32 (xor32 (xor32 (getD w (i - 3) 0) (getD w (i - 8) 0)) (getD w (i - 14) 0)) (getD w (i - 16) 0))
-    → take (i + 1) (set w i x) ≡ extended (i + 1 - 16) m
-unfolding extended nextWord
-extended-more w m i x y e =
-    let a : i + 1 - 16 ≡ suc (i - 16) = omega arith in
-    let b : 16 + (i - 16) ≡ i = omega arith in
-    let g : (j : ℕ) → j < i → getD w j 0 ≡ getD (extended (i - 16) m) j 0
-    = λ j q. sym (getD-take i w j 0 q) ∙ ap (λ (v : List ℕ). getD v j 0) (y .there) in
-    rw (
-      grown w i x (y .room),
-      y .there,
-      a,
-      b,
-      ← g (i - 3) (omega arith),
-      ← g (i - 8) (omega arith),
-      ← g (i - 14) (omega arith),
-      ← g (i - 16)
-          (omega arith),
-      ← e,
-    )
+  first : extended 0 (words 16 block) ≡ words 16 block
+  unfolding extended
+  first = refl
+
+  -- the first 16 words are the block's
+  pub early-word : (t : ℕ) → t < 16 → getD (schedule block) t 0 ≡ bigAt block (t * 4) 4
+  unfolding schedule words
+  early-word t h =
+      let e : suc t + (15 - t) ≡ 16 = omega arith in
+      stays (λ n. extended n (words 16 block)) _ more-extended 64 0 t (rw (first, sixteen-words block) (omega arith))
+      ∙ rw first (rw (e, zero-add) at (grown-at (λ n. words n block) _ more-words (15 - t) t))
+
+  -- each later word comes from words before it
+  pub later-word : (t : ℕ) → 16 ≤ t → t < 80 → getD (schedule block) t 0 ≡ nextWord (schedule block) t
+  unfolding schedule nextWord
+  later-word t h k =
+      let f : ℕ → List ℕ = λ n. extended n (words 16 block) in
+      let l : length (f 0) ≡ 16 = rw first (sixteen-words block) in
+      let m : suc (t - 16) + (79 - t) ≡ 64 = omega arith in
+      let n : t - 16 + (80 - t) ≡ 64 = omega arith in
+      let i : 16 + (t - 16) ≡ t = omega arith in
+      let s : (j : ℕ) → j < t → getD (f 64) j 0 ≡ getD (f (t - 16)) j 0
+      = λ j q. rw n at (stays f _ more-extended (80 - t) (t - 16) j (omega arith)) in
+      (rw (m, l, i) at (grown-at f _ more-extended (79 - t) (t - 16)))
+      ∙ sym (rw (s (t - 3) (omega arith), s (t - 8) (omega arith), s (t - 14) (omega arith), s (t - 16) (omega arith)))

@@ -1,3 +1,4 @@
+use mathlib.Core.Path.{_∙_}
 use borrow.Author.Needs.{needs}
 use Rattle.sha1.proofs.next_word.Statement.{statement}
 use Rattle.sha1.proofs.next_word.Tie as tie
@@ -5,7 +6,7 @@ use Rattle.sha1.proofs.next_word.Tie as tie
 returns : tie.Need-returns
 returns c =
     let at-xor = c .before .before .before in
-    rw (c .rotl .ensures, c .before .xor3 .ensures, c .before .before .xor2 .ensures, at-xor .xor .ensures)
+    c .rotl .ensures ∙ rw (c .before .xor3 .ensures, c .before .before .xor2 .ensures, at-xor .xor .ensures)
 
 pub next-word-spec : {M : Type 1} → statement M
 next-word-spec =

@@ -7,21 +7,20 @@ use Rattle.sha1.proofs.turn.Tie as tie
 returns : tie.Need-returns
 unfolding turned
 returns c =
-    let at-add2 = c .before .before .before in
-    let at-add = at-add2 .before in
-    let at-rotl = at-add .before in
+    let at-add = c .before .before .before in
+    let at-rotl2 = at-add .before in
     rw (
-      c .rotl2 .ensures,
-      c .before .add4 .ensures,
-      c .before .before .add3 .ensures,
-      at-add2 .add2 .ensures,
+      c .add4 .ensures,
+      c .before .add3 .ensures,
+      c .before .before .add2 .ensures,
       at-add .add .ensures,
-      at-rotl .rotl .ensures,
+      at-rotl2 .rotl2 .ensures,
+      at-rotl2 .before .rotl .ensures,
     )
 
 pub turn-spec : {M : Type 1} → statement M
 turn-spec =
     tie.close
-    (tie.spec (λ c. search needs) (λ c κs. search needs) (λ c κs. search needs) (λ c. search needs) (λ c κs. search needs)
-    (λ c κs. search needs) (λ c κs. search needs) (λ c. search needs) (λ c. search needs) (λ c κs. search needs)
+    (tie.spec (λ c. search needs) (λ c κs. search needs) (λ c. search needs) (λ c κs. search needs) (λ c κs. search needs)
+    (λ c. search needs) (λ c κs. search needs) (λ c κs. search needs) (λ c κs. search needs) (λ c. search needs)
     (λ c. search needs) (λ c. search needs) returns)
