@@ -87,7 +87,15 @@ enum nepuladrim_string_fact {
     NEPULADRIM_STRING_UNITS, // of 16 bits where it is wide, else bytes
     NEPULADRIM_STRING_IS_WIDE, // 1 or 0
     NEPULADRIM_STRING_IS_IDENTIFIER, // 1 or 0
+    NEPULADRIM_STRING_SMALL_VISITED, // how many small entries are visited to find it: its own and those before it
+    NEPULADRIM_STRING_OVERFLOW_VISITED, // how many overflow pairs: those of these entries that overflow
     NEPULADRIM_STRING_FACTS
 };
+
+// What is known of the strings from `id` on, NEPULADRIM_STRING_FACTS numbers for each, one behind the other: of as many strings as
+// there are and as there is room for, in one pass over the tables. The answer counts the numbers; 0 where there is no such string.
+// Refused with 15, 1 to 6.
+uint64_t nepuladrim_string_facts_from(const uint8_t *image, size_t image_length, uint8_t layout, uint32_t id, uint64_t *out,
+                                      size_t out_length);
 
 #endif

@@ -6,7 +6,7 @@
 
 typedef int command(char **words);
 
-command demo, help, list, patch, verify;
+command demo, help, list, locate, patch, verify;
 
 // What `hbc help` prints.
 void print_usage(FILE *to);

@@ -3,7 +3,7 @@
 #include "../hbc.h"
 #include "print.h"
 #include "refusals.h"
-#include "text.h"
+#include "string_text.h"
 
 #include <stdlib.h>
 #include <string.h>
@@ -22,15 +22,11 @@ void free_edits(struct edits edits) {
 
 // ---- an edit that is refused
 
-// What the image has of ids.
-static void print_ids(struct bytes image, uint8_t layout, const struct edit *edit) {
+// How many strings or functions the image has.
+static uint64_t count_there(struct bytes image, uint8_t layout, const struct edit *edit) {
     uint64_t facts[NEPULADRIM_IMAGE_FACTS];
     nepuladrim_image_facts(image.at, image.length, layout, facts, NEPULADRIM_IMAGE_FACTS);
-    uint64_t count = facts[edit->kind == BODY ? NEPULADRIM_FUNCTIONS : NEPULADRIM_STRINGS];
-    print(stderr, " (it has ");
-    print_count(stderr, count, edit->kind == BODY ? "function" : "string");
-    if (count) print(stderr, ", ids 0 to %llu", (unsigned long long)(count - 1));
-    print(stderr, ")\n");
+    return facts[edit->kind == BODY ? NEPULADRIM_FUNCTIONS : NEPULADRIM_STRINGS];
 }
 
 // How long the string or body is that was there. Where an id is not refused, neither is a reading of it.
@@ -41,12 +37,11 @@ static uint64_t length_there(struct bytes image, uint8_t layout, const struct ed
 
 static void print_refused_edit(size_t place, const struct edit *edit, unsigned number, struct bytes image, uint8_t layout,
                                uint8_t *scratch) {
-    enum { NO_SUCH_ID = 7 };
     char who[80];
     snprintf(who, sizeof who, "edit %zu (%s %u)", place, edit->kind == BODY ? "the body of function" : "string", edit->id);
     print_refusal(who, number);
     if (number == NO_SUCH_ID) {
-        print_ids(image, layout, edit);
+        print_ids(count_there(image, layout, edit), edit->kind == BODY ? "function" : "string");
         return;
     }
     print(stderr, " (it has ");
@@ -107,22 +102,6 @@ static bool was_told(struct edits edits, size_t place) {
     for (size_t i = 0; i < place; i++)
         if (is_same(&edits.at[i], &edits.at[place])) return true;
     return false;
-}
-
-// A string of an image in its text form, and its number of units. What is long is cut.
-static void print_string(FILE *to, struct bytes image, uint8_t layout, uint32_t id, uint8_t *scratch) {
-    const uint64_t most_units = 100;
-    uint64_t facts[NEPULADRIM_STRING_FACTS];
-    nepuladrim_string_facts(image.at, image.length, layout, id, facts, NEPULADRIM_STRING_FACTS);
-    nepuladrim_string(image.at, image.length, layout, id, scratch, IMAGE_MOST);
-    uint64_t units = facts[NEPULADRIM_STRING_UNITS];
-    struct text text = begin_text(to);
-    for (uint64_t i = 0; i < units && i < most_units; i++)
-        put_unit(&text, facts[NEPULADRIM_STRING_IS_WIDE] ? scratch[2 * i] + 256u * scratch[2 * i + 1] : scratch[i]);
-    end_text(&text);
-    print(to, "%s (", units > most_units ? "..." : "");
-    print_count(to, units, "unit");
-    print(to, ")");
 }
 
 static void print_change(FILE *to, struct bytes before, struct bytes after, uint8_t layout, const struct edit *edit,

@@ -24,6 +24,17 @@ static const char LIST[] =
     "--text lists the same for people: string ID \"TEXT\" or identifier ID \"TEXT\". In a text, \\n, \\t, \\\", \\\\ and \\u with four\n"
     "digits stand for what no terminal shows, as in JSON.\n";
 
+static const char LOCATE[] =
+    "usage: hbc locate IMAGE ID [--layout LAYOUT]\n"
+    "       hbc locate IMAGE --all [--layout LAYOUT]\n"
+    "Tells where string ID stands in the image: its text, start, bytes, units, width and kind. Then how many entries are visited to\n"
+    "find it: small entries, from the first one to its own, and overflow entries, the pair of each of these that overflows. What\n"
+    "admitting the image reads is not counted.\n"
+    "\n"
+    "--all prints a table of every string, a line each, and the sums of its columns in the last line:\n"
+    "  ID START BYTES UNITS n|w s|i SMALL OVERFLOW    n narrow or w wide, s plain or i identifier, entries visited\n"
+    "  sum - BYTES UNITS - - SMALL OVERFLOW\n";
+
 static const char PATCH[] =
     "usage: hbc patch IMAGE OUT [--layout LAYOUT] [--dry-run] EDIT...\n"
     "Writes the image with the edits to OUT, and prints what changed. An EDIT is one of these; they are applied in the order in\n"
@@ -53,7 +64,7 @@ static const char HELP[] = "usage: hbc help [COMMAND]\nPrints the commands, or w
 static const struct {
     const char *name, *text;
 } TEXTS[] = {
-    {"demo", DEMO}, {"help", HELP}, {"install", INSTALL}, {"list", LIST}, {"patch", PATCH}, {"verify", VERIFY},
+    {"demo", DEMO}, {"help", HELP}, {"install", INSTALL}, {"list", LIST}, {"locate", LOCATE}, {"patch", PATCH}, {"verify", VERIFY},
 };
 
 void print_usage(FILE *to) {

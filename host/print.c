@@ -48,6 +48,8 @@ void print_bytes(FILE *to, const uint8_t *bytes, size_t length) {
 
 void finish_printing(FILE *to) { expect(to, fflush(to) == 0); }
 
+void print_number(const char *name, uint64_t number) { print(stdout, "%s: %llu\n", name, (unsigned long long)number); }
+
 void print_count(FILE *to, uint64_t count, const char *what) {
     print(to, "%llu %s%s", (unsigned long long)count, what, count == 1 ? "" : "s");
 }

@@ -24,6 +24,9 @@ void print_bytes(FILE *to, const uint8_t *bytes, size_t length);
 // Sees that all that was printed has gone out.
 void finish_printing(FILE *to);
 
+// A line `NAME: NUMBER` on standard output.
+void print_number(const char *name, uint64_t number);
+
 // `1 string`, `2 strings`.
 void print_count(FILE *to, uint64_t count, const char *what);
 

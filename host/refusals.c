@@ -32,6 +32,13 @@ void print_refusal(const char *who, unsigned number) {
     print(stderr, "hbc: %s is refused: %u, %s", who, number, number - 1 < MEANINGS ? MEANING[number - 1] : "unknown");
 }
 
+void print_ids(uint64_t count, const char *what) {
+    print(stderr, " (it has ");
+    print_count(stderr, count, what);
+    if (count) print(stderr, ", ids 0 to %llu", (unsigned long long)(count - 1));
+    print(stderr, ")\n");
+}
+
 void print_refused_image(const char *name, struct bytes image, uint8_t layout, unsigned number) {
     print_refusal(input_name(name), number);
     print(stderr, " (it has %s%zu bytes, and was read as %s", image.length > IMAGE_MOST ? "over " : "",

@@ -10,8 +10,14 @@
 bool is_refused(uint64_t answer);
 unsigned refusal_of(uint64_t answer);
 
+// The number of an id that is not there: what is there is told then.
+#define NO_SUCH_ID 7
+
 // Says WHO is refused, on standard error, without an end of line: more may be said of what was there.
 void print_refusal(const char *who, unsigned number);
+
+// Says how many strings or functions there are, with an end of line: behind an id that is refused.
+void print_ids(uint64_t count, const char *what);
 
 // Says that an image is refused, how long it is, and under which other layouts it would be taken.
 void print_refused_image(const char *name, struct bytes image, uint8_t layout, unsigned number);

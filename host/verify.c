@@ -7,8 +7,6 @@
 
 #include <stdlib.h>
 
-static void print_number(const char *name, uint64_t number) { print(stdout, "%s: %llu\n", name, (unsigned long long)number); }
-
 static void print_seals(const uint64_t *facts) {
     unsigned long long stated = facts[NEPULADRIM_STATED_LENGTH];
     if (facts[NEPULADRIM_LENGTH_IS_RIGHT]) print(stdout, "file length: right\n");

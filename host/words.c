@@ -65,16 +65,22 @@ struct request take_request(const char *command, char **left, const struct optio
     return request;
 }
 
+// The first characters of a word as an id.
+static uint32_t id_in(const char *word, size_t length) {
+    if (length == 0 || strspn(word, "0123456789") < length) fail("'%.*s' is no id: a decimal number", (int)length, word);
+    uint64_t id = 0;
+    for (size_t i = 0; i < length; i++) {
+        id = id * 10 + (uint64_t)(word[i] - '0');
+        if (id > UINT32_MAX) fail("id %.*s is over 4294967295", (int)length, word);
+    }
+    return (uint32_t)id;
+}
+
+uint32_t id_of(const char *word) { return id_in(word, strlen(word)); }
+
 uint32_t take_id(const char *word, const char **rest) {
     const char *equals = strchr(word, '=');
     if (!equals) fail("'%s' is no edit: an id, =, and a text or a file", word);
-    size_t digits = strspn(word, "0123456789");
-    if (digits == 0 || word + digits != equals) fail("'%.*s' is no id: a decimal number", (int)(equals - word), word);
-    uint64_t id = 0;
-    for (const char *digit = word; digit < equals; digit++) {
-        id = id * 10 + (uint64_t)(*digit - '0');
-        if (id > UINT32_MAX) fail("id %.*s is over 4294967295", (int)(equals - word), word);
-    }
     *rest = equals + 1;
-    return (uint32_t)id;
+    return id_in(word, (size_t)(equals - word));
 }

@@ -40,7 +40,8 @@ struct request {
 };
 struct request take_request(const char *command, char **words, const struct option *options, bool *is_given);
 
-// An id from the front of a word ID=REST, and the rest. A wrong one ends the run.
+// A word as an id, and an id from the front of a word ID=REST with the rest. A wrong one ends the run.
+uint32_t id_of(const char *word);
 uint32_t take_id(const char *word, const char **rest);
 
 #endif

@@ -6,17 +6,23 @@ pub struct Shape {
     record: usize,
     large: usize,
     is_large: fn(usize) -> bool,
+    overflows: fn(usize) -> bool,
 }
 
-const MODERN: Shape = Shape { layout: 0, record: 12, large: 40, is_large: |_| true };
-const MIXED: Shape = Shape { layout: 1, record: 16, large: 32, is_large: |i| i % 2 == 0 };
+const MODERN: Shape =
+    Shape { layout: 0, record: 12, large: 40, is_large: |_| true, overflows: |_| false };
+const MIXED: Shape =
+    Shape { layout: 1, record: 16, large: 32, is_large: |i| i % 2 == 0, overflows: |_| false };
+/// Every fourth string has its place in the overflow table.
+const PAIRS: Shape = Shape { overflows: |i| i % 4 == 3, ..MIXED };
 
 /// The shape of a name.
 pub fn shape(name: &str) -> Shape {
     match name {
         "modern" => MODERN,
         "mixed" => MIXED,
-        _ => panic!("{name}: neither modern nor mixed"),
+        "pairs" => PAIRS,
+        _ => panic!("{name}: neither modern, mixed nor pairs"),
     }
 }
 
@@ -31,23 +37,32 @@ fn string(i: usize) -> (bool, Vec<u8>) {
     (wide, (0..length / 2 * 2).map(|j| b'a' + ((i + j) % 26) as u8).collect())
 }
 
-/// The header, the records, one kind for all strings, the small table, storage, padding.
+/// The header, the records, one kind for all strings, the small table, the overflow table, storage, padding.
 fn sections(shape: &Shape, functions: usize, strings: usize) -> Vec<u8> {
     let kinds = 128 + functions * shape.record;
     let small = kinds + 4;
-    let storage = small + 4 * strings;
+    let pairs = small + 4 * strings;
+    let overflows = (0..strings).filter(|i| (shape.overflows)(*i)).count();
+    let storage = pairs + 8 * overflows;
     let mut image = vec![0; storage];
     image[..8].copy_from_slice(&0x1F19_03C1_03BC_1FC6u64.to_le_bytes());
     put(&mut image, kinds, strings);
+    let mut next = 0;
     for i in 0..strings {
         let (wide, bytes) = string(i);
-        let length = if wide { bytes.len() / 2 } else { bytes.len() };
-        let offset = image.len() - storage;
+        let mut length = if wide { bytes.len() / 2 } else { bytes.len() };
+        let mut offset = image.len() - storage;
+        if (shape.overflows)(i) {
+            put(&mut image, pairs + 8 * next, offset);
+            put(&mut image, pairs + 8 * next + 4, length);
+            (offset, length) = (next, 255);
+            next += 1;
+        }
         put(&mut image, small + 4 * i, length << 24 | offset << 1 | usize::from(wide));
         image.extend(bytes);
     }
     let size = image.len() - storage;
-    for (at, word) in [(40, functions), (44, 1), (52, strings), (60, size)] {
+    for (at, word) in [(40, functions), (44, 1), (52, strings), (56, overflows), (60, size)] {
         put(&mut image, at, word);
     }
     image.resize(image.len().next_multiple_of(4), 0);

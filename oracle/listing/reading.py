@@ -1,6 +1,7 @@
-"""A second reading of document 01 for the listing program: what it prints for all that it reads.
+"""A second reading of document 01 for the listing program: what it prints for all that it reads; and of document 02, No. 9,
+for the table of `hbc locate --all`.
 
-Written from document 01 and not from our definitions or code; only the standard library is used.
+Written from the two documents and not from our definitions or code; only the standard library is used.
 """
 
 LAYOUTS = {0: None, 1: (0, 0), 2: (1, 0), 3: (0, 1), 4: (1, 1)}  # None is modern; else big integers, function sources
@@ -161,6 +162,29 @@ def image_lines(data, layout):
         yield f"s {i} {'w' if wide else 'n'} {kind} {len(units)} {text}"
     for i, (large, start, size) in enumerate(image.functions):
         yield f"f {i} {'o' if large else 'p'} {start} {size}"
+
+
+def located_lines(data, layout):
+    """The table of `hbc locate --all`: each string is looked for by itself, from the first small entry on, and what is read on the
+    way is noted. An image of many strings takes long."""
+    image = Image(data, layout)
+    yield "id start bytes units width kind small overflow"
+    sums = [0, 0, 0, 0]
+    for i, (wide, units) in enumerate(image.strings):
+        small, pairs = set(), []
+        for at in range(image.small_at, image.small_at + 4 * i + 4, 4):
+            small.add(at)
+            entry = word(data, at)
+            offset = bits(entry, 1, 23)
+            if bits(entry, 24, 8) == 255:
+                pairs.append(image.overflow_at + 8 * len(pairs))
+                offset = word(data, pairs[-1])
+        numbers = [len(units) * (2 if wide else 1), len(units), len(small), len(pairs)]
+        sums = [a + b for a, b in zip(sums, numbers)]
+        kind = "i" if image.identifiers[i] else "s"
+        start = image.storage_at + offset
+        yield f"{i} {start} {numbers[0]} {numbers[1]} {'w' if wide else 'n'} {kind} {numbers[2]} {numbers[3]}"
+    yield f"sum - {sums[0]} {sums[1]} - - {sums[2]} {sums[3]}"
 
 
 def listing(data, lines=lines):

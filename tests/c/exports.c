@@ -84,7 +84,7 @@ int main(void) {
     // what is known of the image and of its strings
     uint64_t facts[NEPULADRIM_IMAGE_FACTS + 1], known[NEPULADRIM_STRING_FACTS + 1];
     const uint64_t of_image[] = {220, 220, 1, 1, 1, 1, 0, 2, 0, 3, 128, 140, 144, 144, 152, 152, 156, 200};
-    const uint64_t of_string[] = {153, 2, 2, 0, 0};
+    const uint64_t of_string[] = {153, 2, 2, 0, 0, 2, 0};
     is(sizeof of_image == NEPULADRIM_IMAGE_FACTS * sizeof *facts && sizeof of_string == NEPULADRIM_STRING_FACTS * sizeof *known);
     memset(facts, 0xa5, sizeof facts);
     memset(known, 0xa5, sizeof known);
@@ -102,6 +102,27 @@ int main(void) {
     is(nepuladrim_string_facts(image, 220, 0, 1, known, NEPULADRIM_STRING_FACTS + 1) == NEPULADRIM_STRING_FACTS);
     is(memcmp(known, of_string, sizeof of_string) == 0 && known[NEPULADRIM_STRING_FACTS] == facts[NEPULADRIM_IMAGE_FACTS]);
     is(facts[NEPULADRIM_STORAGE_AT] + 1 == known[NEPULADRIM_STRING_AT]);
+    is(known[NEPULADRIM_STRING_SMALL_VISITED] == 2 && known[NEPULADRIM_STRING_OVERFLOW_VISITED] == 0);
+
+    // of many strings: as many as there are, and as there is room for
+    enum { ROW = NEPULADRIM_STRING_FACTS };
+    uint64_t rows[3 * ROW];
+    const uint64_t both[] = {152, 1, 1, 0, 0, 1, 0, 153, 2, 2, 0, 0, 2, 0};
+    memset(rows, 0xa5, sizeof rows);
+    is(nepuladrim_string_facts_from(image, 220, 5, 0, rows, 3 * ROW) == refused(15));
+    is(nepuladrim_string_facts_from(image, 147, 0, 0, rows, 3 * ROW) == refused(1));
+    is(nepuladrim_string_facts_from(image, 220, 1, 2, rows, 0) == refused(4));
+    is(nepuladrim_string_facts_from(image, 220, 0, 0, rows, 0) == 0);
+    is(nepuladrim_string_facts_from(image, 220, 0, 0, rows, ROW - 1) == 0);
+    is(nepuladrim_string_facts_from(image, 220, 0, 2, rows, 3 * ROW) == 0);
+    is(nepuladrim_string_facts_from(image, 220, 0, UINT32_MAX, rows, 3 * ROW) == 0);
+    is(rows[0] == facts[NEPULADRIM_IMAGE_FACTS]);
+    is(nepuladrim_string_facts_from(image, 220, 0, 0, rows, 2 * ROW - 1) == ROW);
+    is(memcmp(rows, both, sizeof both / 2) == 0 && rows[ROW] == facts[NEPULADRIM_IMAGE_FACTS]);
+    is(nepuladrim_string_facts_from(image, 220, 0, 1, rows, 3 * ROW) == ROW);
+    is(memcmp(rows, both + ROW, sizeof both / 2) == 0 && rows[ROW] == facts[NEPULADRIM_IMAGE_FACTS]);
+    is(nepuladrim_string_facts_from(image, 220, 0, 0, rows, 3 * ROW) == 2 * ROW);
+    is(memcmp(rows, both, sizeof both) == 0 && rows[2 * ROW] == facts[NEPULADRIM_IMAGE_FACTS]);
     // stale, each by itself: the footer goes over the file length
     image[219] ^= 1;
     is(nepuladrim_image_facts(image, 220, 0, facts, NEPULADRIM_IMAGE_FACTS) == NEPULADRIM_IMAGE_FACTS);

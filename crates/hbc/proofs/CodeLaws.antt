@@ -24,10 +24,12 @@ use Rattle.image.specs.Functions.{funcOf, bodyOf}
 use Rattle.image.specs.Admission.{refusal}
 use Rattle.image.specs.Admitted.{Admitted}
 use Rattle.image.proofs.AdmitLaws.{admitted}
-use Rattle.image.proofs.PlaceLaws.{string-in}
+use Rattle.image.proofs.PlaceLaws.{string-in, counted}
 use Rattle.admission.proofs.AnswerLaws.{judged-none}
-use Rattle.reader.specs.Reading.{idRefusal, stringPlace}
+use Rattle.reader.specs.Reading.{idRefusal}
 use Rattle.reader.proofs.ReadingLaws.{read-is}
+use Rattle.facts.specs.Facts.{factsOf, imageFacts, factsOfString, stringFacts, stringsTold, stringFactsFrom}
+use Rattle.facts.proofs.PassLaws.{facts-length, told-most}
 use Rattle.strings.specs.Patch.{byIdRefusal, patchById, byValueRefusal, patchByValue}
 use Rattle.functions.specs.Patch.{bodyRefusal, patchBody}
 use Rattle.patches.specs.Patches.{Patch, byId, byValue, toBody, outcomeOf}
@@ -38,12 +40,11 @@ use Rattle.listing_pieces.proofs.PartLaws.{part-short, part-fits}
 use Rattle.input_records.specs.Heads.{layoutOf}
 use Rattle.hbc.specs.Numbers.{coded, Codes, stated}
 use Rattle.hbc.specs.Reads.{stringReading, bodyReading}
-use Rattle.hbc.specs.Facts.{factsOf, imageFacts, factsOfPlace, stringFacts}
 
--- what is made is no longer than an image
+-- the length of what is made fits 32 bits
 abbrev pub Short : Outcome → Type 0
 Short (refused n) = Unit {0}
-Short (made new) = length new ≤ sizeLimit
+Short (made new) = length new < 4294967296
 
 -- two runs that both promise `Codes` end alike
 pub one-code : (o : Outcome) (r r′ : ℕ) (old new new′ : List ℕ) → Codes o r old new → Codes o r′ old new′ → (r ≡ r′)
@@ -80,9 +81,9 @@ short-stated byte o h = go (ltb 4 byte)
 
 short-made : (o : Outcome) → ((t : List ℕ) → o ≡ made t → length t ≤ sizeLimit) → Short o
 short-made (refused n) h = tt
-short-made (made t) h = h t refl
+short-made (made t) h = omega (arith, h t refl)
 
-short-judged : (n : ℕ) (t : List ℕ) → (n ≡ 0 → length t ≤ sizeLimit) → Short (pick (eqb n 0) (made t) (refused n))
+short-judged : (n : ℕ) (t : List ℕ) → (n ≡ 0 → length t < 4294967296) → Short (pick (eqb n 0) (made t) (refused n))
 short-judged n t h = go (eqb n 0) refl
   where
     go : (b : Bool) → eqb n 0 ≡ b → Short (pick b (made t) (refused n))
@@ -102,7 +103,8 @@ short-built version text ends body =
     let (d, e₄) = judge-pass _ _ (omega arith) e₃ in
     let (f, e₅) = judge-pass _ _ (omega arith) e₄ in
     let (g, e₆) = judge-pass _ _ (omega arith) e₅ in
-    ltb-false sizeLimit _ g)
+    let fits : length (minimal version (storageOf text ends) ends body) ≤ sizeLimit = ltb-false sizeLimit _ g in
+    omega arith)
 
 -- bytes are bytes
 module _ (l : Layout) (s : List ℕ) (bytes : (i : ℕ) → getD s i 0 < 256) where
@@ -140,5 +142,13 @@ unfolding imageFacts factsOf
 short-image-facts l s = short-judged (refusal l s) (factsOf l s) (λ e. omega arith)
 
 pub short-string-facts : (l : Layout) (s : List ℕ) (id : ℕ) → Short (stringFacts l s id)
-unfolding stringFacts
-short-string-facts l s id = short-judged (idRefusal l s (stringsIn s) id) (factsOfPlace (stringPlace l s id)) (λ e. omega arith)
+unfolding stringFacts factsOfString
+short-string-facts l s id = short-judged (idRefusal l s (stringsIn s) id) (factsOfString l s id) (λ e. omega arith)
+
+pub short-facts-from : (l : Layout) (s : List ℕ) → ((i : ℕ) → getD s i 0 < 256) → (room id : ℕ)
+    → Short (stringFactsFrom room l s id)
+unfolding stringFactsFrom
+short-facts-from l s bytes room id = short-judged (refusal l s) _ (λ e.
+    let a : Admitted l s = admitted l s bytes e in
+    let n = stringsTold room (stringsIn s) id in
+    omega (arith, facts-length l s id n, told-most room (stringsIn s) id, counted a .strings, a .most))

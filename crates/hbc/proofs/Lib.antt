@@ -1,4 +1,3 @@
 pub mod NumberLaws
 pub mod ReadLaws
 pub mod CodeLaws
-pub mod FactLaws

@@ -1,18 +1,17 @@
 -- A reading as an outcome: bytes of the image at the front of a buffer, or the refusal.
-use mathlib.Core.Path.{_≡_, refl, sym, _∙_, ap}
-use mathlib.Core.List.{List, _++_}
+use mathlib.Core.Path.{_≡_, sym, _∙_, ap}
+use mathlib.Core.List.{List}
 use Prim.Native.Nat.{ℕ, _+_, _-_, _≤_, _<_}
-use native.Mathlib.Nat.{zero-add, add-sub-cancel-left}
+use native.Mathlib.Nat.{add-sub-cancel-left}
 use native.Mathlib.Omega.{arith}
-use borrow.Author.Tests.{ne-eqb}
 use lib.ListN.{length, take, drop}
-use lib.Seq.{sets, sets-eq}
+use lib.Seq.{sets}
 use Rattle.bits.specs.Bytes.{bytesAt}
-use Rattle.bits.specs.Outcome.{Outcome, made, outcomeFor, roomed, Answers}
+use Rattle.bits.specs.Outcome.{made, roomed, Answers}
 use Rattle.bits.specs.declared.Answer.{Answer}
 use Rattle.bits.specs.declared.Answer.the-variants.{Length, Refused}
 use Rattle.bits.proofs.ByteLaws.{length-bytesAt, bytesAt-take}
-use Rattle.bits.proofs.OutcomeLaws.{roomed-short, roomed-fits}
+use Rattle.bits.proofs.OutcomeLaws.{told-short, told-fits, refused-read, found-read}
 use Rattle.format.specs.declared.Layout.{Layout}
 use Rattle.image.specs.Sections.{functionsIn, stringsIn}
 use Rattle.image.specs.Strings.{stringOf}
@@ -20,6 +19,7 @@ use Rattle.image.specs.Functions.{bodyOf}
 use Rattle.function_table.specs.declared.Function.{Function}
 use Rattle.function_table.specs.declared.FunctionRead.{FunctionRead}
 use Rattle.function_table.specs.declared.FunctionRead.the-variants as function-is
+use Rattle.string_walk.specs.declared.Counts.{Counts}
 use Rattle.reader.specs.declared.StringPlace.{StringPlace}
 use Rattle.reader.specs.declared.StringRead.{StringRead}
 use Rattle.reader.specs.declared.StringRead.the-variants as string-is
@@ -27,20 +27,8 @@ use Rattle.reader.specs.Reading.{idRefusal, stringPlace, stringRead, stringNumb
 use Rattle.reader.proofs.PartLaws.{string-out, string-at, body-out, body-at}
 use Rattle.hbc.specs.Reads.{stringReading, bodyReading}
 
--- ---- at the front of a buffer
+-- ---- bytes of an image, at the front of a buffer
 
-module _ (new old : List ℕ) where
-  pub told-short : length old < length new → Answers (roomed (length old) (made new)) (Refused 13) old old
-  told-short h = rw (roomed-short (length old) new h) (refl, refl)
-
-  pub told-fits : (exit : List ℕ) → length new ≤ length old → exit ≡ sets old 0 new
-      → Answers (roomed (length old) (made new)) (Length (length new)) old exit
-  told-fits exit h e =
-      let w : exit ≡ new ++ drop (length new) old
-      = e ∙ sets-eq new old 0 (omega arith) ∙ ap (λ (j : ℕ). new ++ drop j old) (zero-add (length new)) in
-      rw (roomed-fits (length old) new h) (refl, w)
-
--- bytes of an image
 module _ (s old : List ℕ) (start size : ℕ) where
   pub copy-short : length old < size → Answers (roomed (length old) (made (bytesAt s start size))) (Refused 13) old old
   copy-short h = told-short (bytesAt s start size) old (omega (arith, length-bytesAt s start size))
@@ -55,16 +43,7 @@ module _ (s old : List ℕ) (start size : ℕ) where
       let (a, w) = told-fits bs old new (omega arith) (e ∙ ap (sets old 0) part) in
       (ap Length (sym n) ∙ a, w)
 
--- ---- by the number of a refusal
-
-pub refused-read : (n k : ℕ) (bytes : List ℕ) (room : ℕ) (old : List ℕ) → (0 < n) × (n ≡ k)
-    → Answers (roomed room (outcomeFor n bytes)) (Refused k) old old
-unfolding roomed
-refused-read n k bytes room old (h, e) = rw (ne-eqb n 0 (λ z. omega arith), e) (refl, refl)
-
-pub found-read : (n : ℕ) (bytes bytes′ : List ℕ) (o : Outcome → Outcome) (a : Answer) (old new : List ℕ) → n ≡ 0
-    → bytes ≡ bytes′ → Answers (o (made bytes)) a old new → Answers (o (outcomeFor n bytes′)) a old new
-found-read n bytes bytes′ o a old new z e w = rw (z, ← e) w
+-- ---- a string and a body
 
 module _ (l : Layout) (s : List ℕ) (id room : ℕ) (old : List ℕ) where
   module _ (r : StringRead) (e : r ≡ stringRead l s id) where
@@ -73,14 +52,14 @@ module _ (l : Layout) (s : List ℕ) (id room : ℕ) (old : List ℕ) where
     unfolding stringReading
     no-string k f n g =
         let (h, x) = string-out l s id r e k f in
-        refused-read (idRefusal l s (stringsIn s) id) n (stringOf l s id .bytes) room old (h, x ∙ sym (g ∙ ap stringNumber f))
+        refused-read (idRefusal l s (stringsIn s) id) n (stringOf l s id .bytes) (h, x ∙ sym (g ∙ ap stringNumber f)) old room
 
-    pub a-string : (q : StringPlace) (a : Answer) (new : List ℕ) → r ≡ string-is.Found q
+    pub a-string : (q : StringPlace) (c : Counts) (a : Answer) (new : List ℕ) → r ≡ string-is.Found q c
         → Answers (roomed room (made (bytesAt s (q .start) (q .size)))) a old new
         → Answers (roomed room (stringReading l s id)) a old new
     unfolding stringReading stringOf stringPlace
-    a-string q a new f w =
-        let (z, p) = string-at l s id r e q f in
+    a-string q c a new f w =
+        let (z, p, _) = string-at l s id r e q c f in
         found-read (idRefusal l s (stringsIn s) id) _ _ (roomed room) a old new z
         (ap (λ (y : StringPlace). bytesAt s (y .start) (y .size)) p) w
 
@@ -90,7 +69,7 @@ module _ (l : Layout) (s : List ℕ) (id room : ℕ) (old : List ℕ) where
     unfolding bodyReading
     no-body k f n g =
         let (h, x) = body-out l s id r e k f in
-        refused-read (idRefusal l s (functionsIn s) id) n (bodyOf l s id) room old (h, x ∙ sym (g ∙ ap bodyNumber f))
+        refused-read (idRefusal l s (functionsIn s) id) n (bodyOf l s id) (h, x ∙ sym (g ∙ ap bodyNumber f)) old room
 
     pub a-body : (q : Function) (a : Answer) (new : List ℕ) → r ≡ function-is.Found q
         → Answers (roomed room (made (bytesAt s (q .begin) (q .size)))) a old new → Answers (roomed room (bodyReading l s id)) a old new

@@ -1,26 +1,21 @@
 // The product for callers in C and in Rust: numbers and slices in, one number out. Each function here
 // hands on to the one that it is named for.
-use admission::Admission;
 use bits::Answer;
 use format::Layout;
 use function_table::FunctionRead;
-use reader::StringPlace;
 use reader::StringRead;
-use sections::Places;
 ghost use mathlib.Core.Path.{_≡_};
 ghost use Prim.Native.Nat.{_+_, _≤_};
 ghost use lib.ListN.{length};
-ghost use lib.Seq.{sets};
 ghost use Rattle.bits.specs.Bytes.{bytesAt};
 ghost use Rattle.bits.specs.Outcome.{made, roomed, Answers};
 ghost use Rattle.footer.specs.Finalize.{finalizeOf};
 ghost use Rattle.serialize.specs.Builder.{built};
 ghost use Rattle.strings.specs.Patch.{patchById, patchByValue};
 ghost use Rattle.functions.specs.Patch.{patchBody};
-ghost use Rattle.sections.specs.Places.{Placed};
 ghost use Rattle.listing_pieces.specs.Listing.{partRoom, listingPart};
+ghost use Rattle.facts.specs.Facts.{imageFacts, stringFacts, stringFactsFrom};
 ghost use Rattle.hbc.specs.Reads.{stringReading, bodyReading};
-ghost use Rattle.hbc.specs.Facts.{flag as Facts·flag, factsOf, imageFacts, factsOfPlace, stringFacts};
 ghost use Rattle.hbc.specs.Numbers.{admitNumber, numbered, Codes, stated};
 
 // A layout byte is at most that.
@@ -165,7 +160,7 @@ fn read_string(image: &[u8], layout: Layout, id: usize, out: &mut [u8]) -> Answe
         (now (out .exit)) ⌝ }
 {
     let read = reader::string(image, layout, id);
-    let StringRead::Found(place) = read else {
+    let StringRead::Found(place, _) = read else {
         return Answer::Refused(reader::string_number(read));
     };
     copied(image, place.start, place.size, out)
@@ -218,82 +213,7 @@ pub extern "C" fn nepuladrim_list(image: &[u8], layout: u8, from: usize, out: &m
     number(listing_pieces::list(image, input_records::layout_of(layout), from, out))
 }
 
-// ---- facts: what is known of an image, or of a string of it, as numbers
-
-// A fact that holds or not: 1 or 0.
-fn flag(holds: bool) -> u64
-    ensures { λ r. ⌜ r ≡ Facts·flag holds ⌝ }
-{
-    if holds { 1 } else { 0 }
-}
-
-// Numbers at the front of a buffer that has room for them.
-fn put_numbers(out: &mut [u64], numbers: &[u64])
-    requires { ⌜ length (now numbers) ≤ length (now out) ⌝ }
-    ensures { λ _. ⌜ now (out .exit) ≡ sets (now (out .entry)) 0 (now (numbers .entry)) ⌝ }
-{
-    let mut i = 0;
-    while i < numbers.len() {
-        out[i] = numbers[i];
-        i += 1;
-    }
-}
-
-// Numbers at the front of a buffer.
-fn told(numbers: &[u64], out: &mut [u64]) -> Answer
-    ensures { λ r. ⌜ Answers (roomed (length (now (out .entry))) (made (now (numbers .entry)))) r (now (out .entry)) (now (out .exit))
-        ⌝ }
-{
-    if out.len() < numbers.len() {
-        return Answer::Refused(refusals::ROOM);
-    }
-    put_numbers(out, numbers);
-    Answer::Length(numbers.len())
-}
-
-// How many facts there are of an image: its length, the file length that it states and whether that is
-// right, whether its footer is; its counts; where each section starts.
-const IMAGE_FACTS: usize = 18;
-
-fn facts_of(image: &[u8], p: Places) -> [u64; IMAGE_FACTS]
-    requires { ⌜ Placed p (now image) ⌝ }
-    ensures { λ r. ⌜ r ≡ factsOf (p .layout) (now (image .entry)) ⌝ }
-{
-    let length = image.len();
-    let stated = sections::header_word(image, format::FILE_LENGTH);
-    let layout = p.layout;
-    [
-        length as u64,
-        stated as u64,
-        flag(stated == length),
-        flag(footer::verify_footer(image)),
-        p.functions as u64,
-        p.kinds as u64,
-        p.identifiers as u64,
-        p.strings as u64,
-        p.overflows as u64,
-        p.storage_size as u64,
-        sections::record_at(layout, 0) as u64,
-        p.kinds_at as u64,
-        p.hashes_at as u64,
-        p.small_at as u64,
-        p.over_at as u64,
-        p.storage_at as u64,
-        p.tail as u64,
-        p.footer as u64,
-    ]
-}
-
-fn read_facts(image: &[u8], layout: Layout, out: &mut [u64]) -> Answer
-    ensures { λ r. ⌜ Answers (roomed (length (now (out .entry))) (imageFacts layout (now (image .entry)))) r (now (out .entry))
-        (now (out .exit)) ⌝ }
-{
-    let answer = admission::admit(image, layout);
-    let Admission::Laid(p) = answer else {
-        return Answer::Refused(admission::number_of(answer));
-    };
-    told(&facts_of(image, p), out)
-}
+// ---- facts: what is known of an image, or of its strings, as numbers
 
 // What is known of an image.
 #[no_mangle]
@@ -304,34 +224,7 @@ pub extern "C" fn nepuladrim_image_facts(image: &[u8], layout: u8, out: &mut [u6
     if LAST_LAYOUT < layout {
         return NO_LAYOUT;
     }
-    number(read_facts(image, input_records::layout_of(layout), out))
-}
-
-// How many facts there are of a string: where its bytes start, how many there are, how many units,
-// whether it is wide, whether it is an identifier.
-const STRING_FACTS: usize = 5;
-
-fn facts_of_place(place: StringPlace) -> [u64; STRING_FACTS]
-    ensures { λ r. ⌜ r ≡ factsOfPlace place ⌝ }
-{
-    [
-        place.start as u64,
-        place.size as u64,
-        place.count as u64,
-        flag(place.wide),
-        flag(place.identifier),
-    ]
-}
-
-fn read_string_facts(image: &[u8], layout: Layout, id: usize, out: &mut [u64]) -> Answer
-    ensures { λ r. ⌜ Answers (roomed (length (now (out .entry))) (stringFacts layout (now (image .entry)) id)) r (now (out .entry))
-        (now (out .exit)) ⌝ }
-{
-    let read = reader::string(image, layout, id);
-    let StringRead::Found(place) = read else {
-        return Answer::Refused(reader::string_number(read));
-    };
-    told(&facts_of_place(place), out)
+    number(facts::image_facts(image, input_records::layout_of(layout), out))
 }
 
 // What is known of string `id`.
@@ -343,5 +236,22 @@ pub extern "C" fn nepuladrim_string_facts(image: &[u8], layout: u8, id: u32, out
     if LAST_LAYOUT < layout {
         return NO_LAYOUT;
     }
-    number(read_string_facts(image, input_records::layout_of(layout), id as usize, out))
+    number(facts::string_facts(image, input_records::layout_of(layout), id as usize, out))
+}
+
+// What is known of the strings from `id` on, of as many as there is room for.
+#[no_mangle]
+pub extern "C" fn nepuladrim_string_facts_from(
+    image: &[u8],
+    layout: u8,
+    id: u32,
+    out: &mut [u64],
+) -> u64
+    ensures { λ r. ⌜ Codes (stated layout (λ l. stringFactsFrom (length (now (out .entry))) l (now (image .entry)) id)) r
+        (now (out .entry)) (now (out .exit)) ⌝ }
+{
+    if LAST_LAYOUT < layout {
+        return NO_LAYOUT;
+    }
+    number(facts::string_facts_from(image, input_records::layout_of(layout), id as usize, out))
 }

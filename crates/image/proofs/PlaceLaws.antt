@@ -100,7 +100,7 @@ module _ (l : Layout) (s : List ℕ) where
 
 -- ---- overflow entries, counted in id order
 
-over-sum : (w : ℕ → ℕ) (i : ℕ) → overBefore w i ≡ sumBelow i (λ j. bit (isFull (w j)))
+pub over-sum : (w : ℕ → ℕ) (i : ℕ) → overBefore w i ≡ sumBelow i (λ j. bit (isFull (w j)))
 unfolding overBefore sumBelow
 over-sum w zero = refl
 over-sum w (suc i) = rw (over-sum w i)

@@ -15,6 +15,9 @@ use Rattle.function_table.specs.declared.Function.{Function}
 use Rattle.function_table.specs.declared.FunctionRead.{FunctionRead}
 use Rattle.function_table.specs.declared.FunctionRead.the-variants as function-is
 use Rattle.function_table.specs.Functions.{asFunction}
+use Rattle.string_walk.specs.declared.Counts.{Counts}
+use Rattle.string_walk.specs.Walk.{visits}
+use Rattle.string_walk.proofs.VisitLaws.{small-visits, visits-most}
 use Rattle.reader.specs.declared.StringPlace.{StringPlace}
 use Rattle.reader.specs.declared.StringRead.{StringRead}
 use Rattle.reader.specs.declared.StringRead.the-variants as string-is
@@ -29,19 +32,24 @@ module _ (l : Layout) (s : List ℕ) (id : ℕ) where
     string-out k f =
         let (h, q)
         =
-        is-refused (idRefusal l s (stringsIn s) id) (string-is.Found (stringPlace l s id)) string-is.Refused (string-is.Refused k)
+        is-refused (idRefusal l s (stringsIn s) id) (string-is.Found (stringPlace l s id) (visits l s id)) string-is.Refused
+        (string-is.Refused k)
         (sym e ∙ f) (λ z. let y : _≡_ {A = ℕ} 0 1 = cc in omega arith) in
         (h, cc)
 
-    module _ (q : StringPlace) (f : r ≡ string-is.Found q) where
-      pub string-at : (idRefusal l s (stringsIn s) id ≡ 0) × (q ≡ stringPlace l s id)
+    module _ (q : StringPlace) (c : Counts) (f : r ≡ string-is.Found q c) where
+      pub string-at : (idRefusal l s (stringsIn s) id ≡ 0) × (q ≡ stringPlace l s id) × (c ≡ visits l s id)
       unfolding stringRead
       string-at =
           let (z, g)
           =
-          is-found (idRefusal l s (stringsIn s) id) (string-is.Found (stringPlace l s id)) string-is.Refused (string-is.Found q)
-          (sym e ∙ f) (λ k z. let y : _≡_ {A = ℕ} 0 1 = cc in omega arith) in
-          (z, cc)
+          is-found (idRefusal l s (stringsIn s) id) (string-is.Found (stringPlace l s id) (visits l s id)) string-is.Refused
+          (string-is.Found q c) (sym e ∙ f) (λ k z. let y : _≡_ {A = ℕ} 0 1 = cc in omega arith) in
+          (z, cc, cc)
+
+      -- 02, No. 9: "finding id n visits at most n + 1 small entries and no more overflow entries than small ones"
+      pub string-visits : (c .small ≡ id + 1) × (c .over ≤ c .small)
+      string-visits = rw (string-at .2) (small-visits l s id, visits-most l s id)
 
       module _ (bytes : (i : ℕ) → getD s i 0 < 256) where
         pub string-inside : q .start + q .size ≤ length s

@@ -24,10 +24,12 @@ use Rattle.admission.specs.declared.Admission.{Admission}
 use Rattle.admission.specs.declared.Admission.the-variants.{Laid, Refused}
 use Rattle.admission.specs.Admission.{admission, numberOf}
 use Rattle.admission.proofs.AnswerLaws.{judged-none, refused-is, refused-then, laid-is, laid-then, laid-layout}
+use Rattle.string_walk.specs.declared.Counts.{Counts}
 use Rattle.string_walk.specs.declared.Location.{Location}
 use Rattle.string_walk.specs.declared.Location.the-variants as location-is
 use Rattle.string_walk.specs.Places as location
 use Rattle.string_walk.specs.Places.{Locates}
+use Rattle.string_walk.specs.Walk.{visits}
 use Rattle.string_walk.proofs.WalkLaws.{located-at, located-none}
 use Rattle.reader.specs.declared.StringPlace.{StringPlace}
 use Rattle.reader.specs.declared.StringRead.the-variants as string-is
@@ -74,14 +76,15 @@ module _ (l : Layout) (s : List ℕ) (r : Admission) (e : r ≡ admission l s) (
     (g : n ≡ numberOf r) where
   pub string-refused : string-is.Refused n ≡ stringRead l s id
   unfolding stringRead
-  string-refused = not-admitted l s (stringsIn s) id (string-is.Found (stringPlace l s id)) string-is.Refused r e k f n g
+  string-refused =
+      not-admitted l s (stringsIn s) id (string-is.Found (stringPlace l s id) (visits l s id)) string-is.Refused r e k f n g
 
   pub body-refused : function-is.Refused n ≡ bodyRead l s id
   unfolding bodyRead
   body-refused = not-admitted l s (functionsIn s) id (function-is.Found (asFunction (funcOf l s id))) function-is.Refused r e k f n g
 
 module _ (l : Layout) (s : List ℕ) (p : Places) (f : admission l s ≡ Laid p) where
-  counts : (p .strings ≡ stringsIn s) × (p .functions ≡ functionsIn s)
+  pub counts : (p .strings ≡ stringsIn s) × (p .functions ≡ functionsIn s)
   unfolding placesOf
   counts =
       let e : p ≡ placesOf l s = laid-is l s (admission l s) refl p f .1 in
@@ -120,18 +123,20 @@ module _ {l : Layout} {s : List ℕ} {id : ℕ} {p : Places} {loc : Location} (z
   string-absent m u n v =
       let (w, b) = located-none p s id refusals.id loc (z .located) m u in
       ap string-is.Refused (v ∙ ap location.numberOf u ∙ w)
-      ∙ no-such-id l s (stringsIn s) id (string-is.Found (stringPlace l s id)) string-is.Refused p (z .answer)
+      ∙ no-such-id l s (stringsIn s) id (string-is.Found (stringPlace l s id) (visits l s id)) string-is.Refused p (z .answer)
       (omega (arith, counts l s p (z .answer) .0))
 
   -- the string that was located
-  pub string-found : (i : ℕ) (q : Place) → loc ≡ location-is.At i q → (x : StringPlace)
+  pub string-found : (i : ℕ) (q : Place) (c : Counts) → loc ≡ location-is.At i q c → (x : StringPlace)
       → x ≡ imagePlace p q (isIdentifier (p .layout) s id)
-      → string-is.Found x ≡ stringRead l s id
+      → string-is.Found x c ≡ stringRead l s id
   unfolding stringRead
-  string-found i q u x y =
-      let (_, known, st) = located-at p s id refusals.id loc (z .located) i q u in
+  string-found i q c u x y =
+      let (_, known, st, v) = located-at p s id refusals.id loc (z .located) i q c u in
+      let own : p .layout ≡ l = own-layout l s p (z .answer) in
       let w : x ≡ stringPlace l s id
-      = read-as p s (z .laid .placed) id q st x y .is ∙ ap (λ (k : Layout). stringPlace k s id) (own-layout l s p (z .answer)) in
-      ap string-is.Found w
-      ∙ id-found l s (stringsIn s) id (string-is.Found (stringPlace l s id)) string-is.Refused p (z .answer)
-      (omega (arith, counts l s p (z .answer) .0))
+      = read-as p s (z .laid .placed) id q st x y .is ∙ ap (λ (k : Layout). stringPlace k s id) own in
+      let m : c ≡ visits l s id = v ∙ ap (λ (k : Layout). visits k s id) own in
+      rw (w, m)
+      (id-found l s (stringsIn s) id (string-is.Found (stringPlace l s id) (visits l s id)) string-is.Refused p (z .answer)
+      (omega (arith, counts l s p (z .answer) .0)))

@@ -21,6 +21,7 @@ use Rattle.string_tables.specs.Strings.{asPlace}
 use Rattle.function_table.specs.declared.FunctionRead.{FunctionRead}
 use Rattle.function_table.specs.declared.FunctionRead.the-variants as function-is
 use Rattle.function_table.specs.Functions.{asFunction}
+use Rattle.string_walk.specs.Walk.{visits}
 use Rattle.reader.specs.declared.StringPlace.{StringPlace}
 use Rattle.reader.specs.declared.StringRead.{StringRead}
 use Rattle.reader.specs.declared.StringRead.the-variants as string-is
@@ -37,14 +38,15 @@ stringPlace l s id =
     let p = placeAt l s id in
     record { start = storageAt l s + p .at; count = p .count; size = sizeOf p; wide = p .wide; identifier = isIdentifier l s id }
 
+-- string id, with what locating it visits (02, No. 9); a refusal has no counts
 unfoldable pub stringRead : Layout → List ℕ → ℕ → StringRead
 stringRead l s id =
     let n = idRefusal l s (stringsIn s) id in
-    pick (eqb n 0) (string-is.Found (stringPlace l s id)) (string-is.Refused n)
+    pick (eqb n 0) (string-is.Found (stringPlace l s id) (visits l s id)) (string-is.Refused n)
 
 -- the number of a reading, 0 being none
 abbrev pub stringNumber : StringRead → ℕ
-stringNumber (string-is.Found q) = 0
+stringNumber (string-is.Found q c) = 0
 stringNumber (string-is.Refused n) = n
 
 -- ---- bodies

@@ -7,6 +7,7 @@ use function_table::Function;
 use function_table::FunctionRead;
 use sections::Places;
 use string_tables::Place;
+use string_walk::Counts;
 use string_walk::Location;
 ghost use mathlib.Core.Path.{_≡_};
 ghost use Prim.Native.Nat.{_+_, _≤_, _<_};
@@ -27,8 +28,9 @@ pub struct StringPlace {
     pub identifier: bool,
 }
 
+// A string that was read by its id: its place, and how many table entries were visited to find it.
 pub enum StringRead {
-    Found(StringPlace),
+    Found(StringPlace, Counts),
     Refused(u8),
 }
 
@@ -63,7 +65,7 @@ pub fn function_of(image: &[u8], p: Places, id: usize) -> Function
 
 // ---- any bytes
 
-// String `id`, or the refusal: 1 to 6, then 7.
+// String `id`, or the refusal: 1 to 6, then 7. What admission reads is not counted.
 pub fn string(image: &[u8], layout: Layout, id: usize) -> StringRead
     ensures { λ r. ⌜ r ≡ stringRead layout (now (image .entry)) id ⌝ }
 {
@@ -72,11 +74,11 @@ pub fn string(image: &[u8], layout: Layout, id: usize) -> StringRead
         return StringRead::Refused(admission::number_of(answer));
     };
     let location = string_walk::locate(image, p, id);
-    let Location::At(_, place) = location else {
+    let Location::At(_, place, counts) = location else {
         return StringRead::Refused(string_walk::number_of(location));
     };
     let identifier = string_walk::is_identifier(image, p, id);
-    StringRead::Found(in_image(p, place, identifier))
+    StringRead::Found(in_image(p, place, identifier), counts)
 }
 
 // Function `id` with its body's place, or the refusal: 1 to 6, then 7.
@@ -99,7 +101,7 @@ pub fn string_number(read: StringRead) -> u8
     ensures { λ r. ⌜ r ≡ stringNumber read ⌝ }
 {
     match read {
-        StringRead::Found(_) => 0,
+        StringRead::Found(_, _) => 0,
         StringRead::Refused(number) => number,
     }
 }

@@ -26,9 +26,11 @@ use Rattle.sections.specs.Places.{Placed}
 use Rattle.sections.proofs.SectionLaws.{Sectioned, sectioned}
 use Rattle.string_tables.specs.declared.Place.{Place}
 use Rattle.string_tables.specs.Strings.{asPlace}
+use Rattle.string_walk.specs.declared.Counts.{Counts}
 use Rattle.string_walk.specs.declared.Location.the-variants.{At, Refused}
 use Rattle.string_walk.specs.Places.{Stands, Locates}
 use Rattle.string_walk.specs.Units.{unitAt}
+use Rattle.string_walk.specs.Walk.{visits}
 use Rattle.string_walk.proofs.UnitLaws.{units-count, units-at}
 use Rattle.string_find.specs.Find.{findFrom, findId, unitsAt}
 
@@ -283,12 +285,13 @@ module _ (p : Places) (s units : List ℕ) where
 
   -- ---- what is answered
 
-  pub found-at : (i : ℕ) (t : Bool) → Compared p s units i t (findId (p .layout) s units) → t ≡ true → (q : Place)
+  pub found-at : (i : ℕ) (t : Bool) → Compared p s units i t (findId (p .layout) s units) → t ≡ true → (q : Place) (n : Counts)
       → Stands p s i q
-      → Locates p s (findId (p .layout) s units) refusals.absent (At i q)
-  found-at i t h g q st =
+      → n ≡ visits (p .layout) s i
+      → Locates p s (findId (p .layout) s units) refusals.absent (At i q n)
+  found-at i t h g q n st v =
       let x : i ≡ findId (p .layout) s units = found p s units i t (findId (p .layout) s units) h g in
-      (x, rw x at (h .known), subst (λ (j : ℕ). Stands p s j q) x st)
+      (x, rw x at (h .known), subst (λ (j : ℕ). Stands p s j q) x st, v ∙ ap (visits (p .layout) s) x)
 
   pub found-none : (i : ℕ) → p .strings ≤ i → findFrom (p .layout) s units i (p .strings - i) ≡ findId (p .layout) s units
       → Locates p s (findId (p .layout) s units) refusals.absent (Refused refusals.absent)

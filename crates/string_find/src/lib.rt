@@ -77,7 +77,7 @@ pub fn find(image: &[u8], p: Places, old: &[u8]) -> Location
         let step = string_walk::string_at(image, p, c);
         let place = step.place;
         if has_units(image, p, c.id, place, old, count) {
-            return Location::At(c.id, place);
+            return Location::At(c.id, place, string_walk::counts_of(step.next));
         }
         c = step.next;
     }

@@ -20,7 +20,7 @@ use Rattle.sections.specs.Places.{Placed}
 use Rattle.sections.proofs.SectionLaws.{Sectioned, sectioned}
 use Rattle.string_tables.specs.declared.Place.{Place}
 use Rattle.string_tables.specs.Strings.{asPlace}
-use Rattle.string_walk.specs.Places.{CursorOf, Visits}
+use Rattle.string_walk.specs.Places.{CursorOf, VisitedOf}
 use Rattle.string_packing.specs.declared.Shape.{Shape}
 use Rattle.string_walk.specs.declared.Cursor.{Cursor}
 use Rattle.string_walk.specs.declared.Visited.{Visited}
@@ -47,7 +47,7 @@ strings-few p s id x c it = let z : Sectioned p s = sectioned p s (it .laid .pla
 -- a string in its turn, where it stands, and its new place
 pub record PlaceFound (p : Places) (s : List ℕ) (id : ℕ) (x : Shape) (c : Packer) (r : Visited) (n : Place) : Type 0 where
   pub turn : InTurn p s id x c
-  pub visits : Visits p s (c .old) r
+  pub visits : VisitedOf p s (c .old) r
   pub new : asPlace n ≡ placeWith (eqb (c .old .id) id) x (asPlace (r .place)) (c .at)
 
 -- what a string takes at a place: one overflow entry or none, and its bytes

@@ -3,8 +3,7 @@ use mathlib.Core.Path.{_≡_, refl, sym, _∙_, ap}
 use mathlib.Core.Bool.{Bool, true, false, not}
 use mathlib.Core.Logic.{inl, inr}
 use mathlib.Core.List.{List}
-use Prim.Native.Nat.{ℕ, zero, suc, _+_, _*_, _≤_, _<_}
-use native.Mathlib.Nat.{not-suc-le-zero}
+use Prim.Native.Nat.{ℕ, _+_, _*_, _≤_, _<_}
 use native.Mathlib.Numerals.{add-one}
 use native.Mathlib.Omega.{arith}
 use lib.Bits.{bitOr, or-add-and, and-le-l, and-le-r, or-lt}
@@ -13,7 +12,7 @@ use lib.ListN.{length, getD}
 use borrow.Author.Tests.{leb-true, leb-false, le-leb, lt-leb, ltb-true, lt-ltb, le-ltb, eqb-true, not-true, not-false}
 use Rattle.bits.specs.Choice.{both, implies, allBelow}
 use Rattle.bits.specs.Bytes.{wordAt}
-use Rattle.bits.proofs.TestLaws.{which, below, both-0, imp-use, all-next}
+use Rattle.bits.proofs.TestLaws.{which, both-0, imp-use, all-next, sum-at}
 use Rattle.bits.proofs.PassLaws.{all-both, all-same, pass-next, pass-stop}
 use Rattle.format.specs.declared.Layout.{Layout}
 use Rattle.format.specs.Table.{entryOffset, entryLength, overflowEntry, overflowOffset, overflowLength, ifSet}
@@ -24,6 +23,7 @@ use Rattle.format.proofs.EntryLaws.{set-bit}
 use Rattle.image.specs.Sections.{stringsIn, overflowsIn, storageIn, overAt}
 use Rattle.image.specs.Strings.{Pair, isFull, isWide, overBefore, placeOf, locate, smallIn, pairIn, overIn, placeAt, sizeOf}
 use Rattle.image.specs.Admission.{overflowsCounted, overflowsNumbered, stringsStored, stringsNarrow, bytesNarrow}
+use Rattle.image.proofs.PlaceLaws.{over-sum}
 use Rattle.sections.specs.declared.Places.{Places}
 use Rattle.sections.specs.Places.{Placed}
 use Rattle.sections.proofs.SectionLaws.{Sectioned, sectioned}
@@ -122,10 +122,7 @@ count-none w = refl
 
 -- an overflow entry is counted: there are fewer before it than before any later one
 count-mono : (w : ℕ → ℕ) (i n : ℕ) → i < n → overBefore w i + entry.bit (isFull (w i)) ≤ overBefore w n
-unfolding overBefore
-count-mono w i zero h = absurd (not-suc-le-zero h)
-count-mono w i (suc n) h =
-    elim (below i n h) [ inl e ↦ rw e (omega arith) | inr l ↦ omega (arith, count-mono w i n l) ]
+count-mono w i n h = rw (over-sum w i, over-sum w n) (sum-at (λ j. entry.bit (isFull (w j))) i n h)
 
 -- where as many entries overflow as there are pairs, each has its pair
 module _ (l : Layout) (s : List ℕ) (c : overBefore (smallIn l s) (stringsIn s) ≡ overflowsIn s) where

@@ -8,11 +8,11 @@ ghost use lib.ListN.{length};
 ghost use Rattle.format.specs.Table.{kindEntry, overflowEntry};
 ghost use Rattle.format.specs.Number.{entryAt, entryIn};
 ghost use Rattle.footer.specs.Finalize.{sizeLimit};
-ghost use Rattle.image.specs.Strings.{isFull, isWide, placeOf, pairIn, sizeOf};
+ghost use Rattle.image.specs.Strings.{isFull, isWide, sizeOf};
 ghost use Rattle.image.specs.Kinds.{identifierRun, covered, identified};
 ghost use Rattle.sections.specs.Places.{Placed};
 ghost use Rattle.string_tables.specs.Kinds.{kindsGood};
-ghost use Rattle.string_tables.specs.Strings.{asPlace, allNarrow, numbered, stored, entryGood, stringsGood};
+ghost use Rattle.string_tables.specs.Strings.{asPlace, Gives, allNarrow, numbered, stored, entryGood, stringsGood};
 
 // Where a string stands in storage. The count is of bytes for a narrow string, of 16-bit units for a
 // wide one.
@@ -20,6 +20,12 @@ pub struct Place {
     pub wide: bool,
     pub at: usize,
     pub count: usize,
+}
+
+// A place that was read, and how many overflow pairs are read up to then.
+pub struct PlaceRead {
+    pub place: Place,
+    pub over: usize,
 }
 
 // The ids that kinds cover, and the identifiers among them.
@@ -87,24 +93,29 @@ pub fn is_wide(entry: u64) -> bool
     format::value(entry, format::ENTRY_WIDE) == 1
 }
 
-// The place that an entry gives, with `k` overflow entries before it: its own fields, or pair `k` of
-// the overflow table, which starts at `pairs`.
-pub fn place_of_entry(image: &[u8], pairs: usize, k: usize, entry: u64) -> Place
+// The place that an entry gives, with `k` overflow pairs read before it: that of its own fields, or of
+// pair `k` of the overflow table, which starts at `pairs`. A pair is counted where it is read.
+pub fn read_place(image: &[u8], pairs: usize, k: usize, entry: u64) -> PlaceRead
     requires { ⌜ (pairs < 1099511627776) × (k < 4294967296) ⌝ }
     requires { ⌜ (isFull entry ≡ true → entryAt pairs overflowEntry k + overflowEntry .width ≤ length (now image)) ⌝ }
-    ensures { λ r. ⌜ (asPlace r ≡ placeOf (pairIn pairs (now (image .entry))) k entry) × (r .at < 4294967296)
-        × (r .count < 4294967296) ⌝ }
+    ensures { λ r. ⌜ Gives (now (image .entry)) pairs k entry r ⌝ }
 {
     let wide = is_wide(entry);
     if is_full(entry) {
         let pair = sections::entry_at(pairs, k, format::OVERFLOW_ENTRY);
         let at = format::word(image, pair, format::OVERFLOW_OFFSET) as usize;
         let count = format::word(image, pair, format::OVERFLOW_LENGTH) as usize;
-        return Place { wide, at, count };
+        return PlaceRead {
+            place: Place { wide, at, count },
+            over: k + 1,
+        };
     }
     let at = format::value(entry, format::ENTRY_OFFSET) as usize;
     let count = format::value(entry, format::ENTRY_LENGTH) as usize;
-    Place { wide, at, count }
+    PlaceRead {
+        place: Place { wide, at, count },
+        over: k,
+    }
 }
 
 // How many bytes a string has.
@@ -170,8 +181,8 @@ fn is_entry_good(image: &[u8], p: Places, k: usize, entry: u64) -> bool
     if !is_numbered(entry, k, p.overflows) {
         return false;
     }
-    let place = place_of_entry(image, p.over_at, k, entry);
-    is_stored(image, p, place)
+    let read = read_place(image, p.over_at, k, entry);
+    is_stored(image, p, read.place)
 }
 
 // Whether no condition of refusal 5 holds: one pass over the small table, with the count of overflow

@@ -1,3 +1,4 @@
+pub mod VisitLaws
 pub mod WalkLaws
 pub mod RunLaws
 pub mod UnitLaws

@@ -10,7 +10,6 @@ use Rattle.bits.specs.Bytes.{wordAt}
 use Rattle.bits.specs.Choice.{pick, sumBelow}
 use Rattle.bits.proofs.TestLaws.{below-or, sum-le}
 use Rattle.format.specs.Table.{ifSet}
-use Rattle.format.specs.Entry.{bit}
 use Rattle.image.specs.Sections.{kindsIn}
 use Rattle.image.specs.Kinds.{kindIn, runOf, isIdentifierRun, identifierRun, covered, identified, isIdentifier, rankOf}
 use Rattle.image.proofs.KindLaws.{covered-next, identified-next, flag-in-run, rank-in-run, rank-lt}
@@ -19,16 +18,11 @@ use Rattle.sections.specs.Places.{Placed, Laid}
 use Rattle.sections.proofs.SectionLaws.{Sectioned, sectioned}
 use Rattle.string_walk.specs.declared.Run.{Run}
 use Rattle.string_walk.specs.Runs.{runAt, RunOf}
-use Rattle.string_walk.proofs.WalkLaws.{bit-most}
+use Rattle.string_walk.proofs.VisitLaws.{bits-most}
 
 set-pick : (b : Bool) (n : ℕ) → ifSet b n ≡ pick b n 0
 set-pick true n = refl
 set-pick false n = refl
-
-bits-most : (f : ℕ → Bool) (n : ℕ) → sumBelow n (λ j. bit (f j)) ≤ n
-unfolding sumBelow
-bits-most f zero = omega arith
-bits-most f (suc n) = omega (arith, bits-most f n, bit-most (f n))
 
 -- ---- a run among kind words
 

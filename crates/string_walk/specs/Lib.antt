@@ -1,3 +1,4 @@
 pub mod Runs
+pub mod Walk
 pub mod Places
 pub mod Units

@@ -1,6 +1,6 @@
 // The strings of an admitted image, one by one. A pass over all of them has one cursor, which carries
 // the count of overflow entries and the run of kinds along; a single id is located by the walk from
-// the table's start. Both give the same.
+// the tables' starts. Both visit a string's entries by one function, and give the same.
 use sections::Places;
 use string_tables::Place;
 ghost use mathlib.Core.Path.{_≡_};
@@ -8,15 +8,15 @@ ghost use mathlib.Core.Bool.{true};
 ghost use mathlib.Core.List.{List};
 ghost use Prim.Native.Nat.{ℕ, _+_, _*_, _≤_, _<_};
 ghost use lib.ListN.{length};
-ghost use Rattle.format.specs.Entry.{bit};
-ghost use Rattle.image.specs.Strings.{isFull, overBefore, smallIn, unitSize};
+ghost use Rattle.image.specs.Strings.{smallIn, unitSize};
 ghost use Rattle.image.specs.Kinds.{kindIn, isIdentifierRun, isIdentifier, rankOf};
 ghost use Rattle.refusals.specs.Numbers as refusals;
 ghost use Rattle.sections.specs.declared.Places.{Places};
 ghost use Rattle.sections.specs.Places.{Placed, Laid};
-ghost use Rattle.string_walk.specs.Places.{Stands, EntryAt, CursorOf, RunBefore, Visits, Locates, numberOf};
+ghost use Rattle.string_walk.specs.Places.{StepOf, countsOf, CursorOf, RunBefore, VisitedOf, Locates, numberOf};
 ghost use Rattle.string_walk.specs.Units.{unitAt};
 ghost use Rattle.string_walk.specs.Runs.{runAt, RunOf};
+ghost use Rattle.string_walk.specs.Walk.{Walked};
 
 // Where a pass over the strings has come to: the next string, the overflow entries before it, and the
 // run of kinds that the pass has reached.
@@ -26,6 +26,19 @@ pub struct Cursor {
     pub run: Run,
 }
 
+// How many entries of the two tables a walk has visited. It reads both from their starts on, so these
+// are also the numbers of its next small entry and of its next overflow pair.
+pub struct Counts {
+    pub small: usize,
+    pub over: usize,
+}
+
+// A string that a walk has come to: its place, and what is visited then.
+pub struct Step {
+    pub place: Place,
+    pub counts: Counts,
+}
+
 // One string of a pass, and where the pass goes on.
 pub struct Visited {
     pub place: Place,
@@ -33,9 +46,10 @@ pub struct Visited {
     pub next: Cursor,
 }
 
-// A string that was looked for: its id and its place, or the number of the refusal.
+// A string that was looked for: its id, its place, and what was visited on the way to it; or the number of
+// the refusal.
 pub enum Location {
-    At(usize, Place),
+    At(usize, Place, Counts),
     Refused(u8),
 }
 
@@ -53,48 +67,36 @@ fn small_entry(image: &[u8], p: Places, i: usize) -> u64
     )
 }
 
-// The overflow entries before the next id, with `k` of them before this one, whose entry is `entry`.
-fn next_over(k: usize, entry: u64) -> usize
-    requires { ⌜ k < 4294967296 ⌝ }
-    ensures { λ r. ⌜ (r ≡ k + bit (isFull entry)) × (r ≤ k + 1) ⌝ }
+// Visits the next string: its small entry and, where that overflows, its pair. Each is counted where it
+// is read.
+fn visit(image: &[u8], p: Places, before: Counts) -> Step
+    requires { ⌜ Laid p (now image) ⌝ }
+    requires { ⌜ Walked (p .layout) (now image) before × (before .small < p .strings) ⌝ }
+    ensures { λ r. ⌜ StepOf p (now (image .entry)) before r ⌝ }
 {
-    if string_tables::is_full(entry) {
-        return k + 1;
+    let entry = small_entry(image, p, before.small);
+    let read = string_tables::read_place(image, p.over_at, before.over, entry);
+    let place = read.place;
+    Step {
+        place,
+        counts: Counts {
+            small: before.small + 1,
+            over: read.over,
+        },
     }
-    k
 }
 
-// The place of string `i`, by its small entry and the count of overflow entries before it.
-fn place_of(image: &[u8], p: Places, i: usize, k: usize, entry: u64) -> Place
-    requires { ⌜ EntryAt p (now image) i k entry ⌝ }
-    ensures { λ r. ⌜ Stands p (now (image .entry)) i r ⌝ }
+// What is visited before string `id`.
+fn walk_to(image: &[u8], p: Places, id: usize) -> Counts
+    requires { ⌜ Laid p (now image) ⌝ }
+    requires { ⌜ id < p .strings ⌝ }
+    ensures { λ r. ⌜ Walked (p .layout) (now (image .entry)) r × (r .small ≡ id) ⌝ }
 {
-    string_tables::place_of_entry(image, p.over_at, k, entry)
-}
-
-// The place of string `i`, with `k` overflow entries before it.
-fn place_at(image: &[u8], p: Places, i: usize, k: usize) -> Place
-    requires { ⌜ Laid p (now image) × (i < p .strings) ⌝ }
-    requires { ⌜ k ≡ overBefore (smallIn (p .layout) (now image)) i ⌝ }
-    ensures { λ r. ⌜ Stands p (now (image .entry)) i r ⌝ }
-{
-    let entry = small_entry(image, p, i);
-    place_of(image, p, i, k, entry)
-}
-
-// How many entries overflow before string `id`: the walk from the table's start.
-fn overflows_before(image: &[u8], p: Places, id: usize) -> usize
-    requires { ⌜ Placed p (now image) ⌝ }
-    requires { ⌜ id ≤ p .strings ⌝ }
-    ensures { λ r. ⌜ (r ≡ overBefore (smallIn (p .layout) (now (image .entry))) id) × (r ≤ id) ⌝ }
-{
-    let mut k = 0;
-    let mut i = 0;
-    while i < id {
-        k = next_over(k, small_entry(image, p, i));
-        i += 1;
+    let mut counts = Counts { small: 0, over: 0 };
+    while counts.small < id {
+        counts = visit(image, p, counts).counts;
     }
-    k
+    counts
 }
 
 // String `id`, located by the walk; 7 where there is none.
@@ -105,8 +107,11 @@ pub fn locate(image: &[u8], p: Places, id: usize) -> Location
     if p.strings <= id {
         return Location::Refused(refusals::ID);
     }
-    let k = overflows_before(image, p, id);
-    Location::At(id, place_at(image, p, id, k))
+    let before = walk_to(image, p, id);
+    let step = visit(image, p, before);
+    let place = step.place;
+    let counts = step.counts;
+    Location::At(id, place, counts)
 }
 
 // The number of a refusal; 0 where a string was found.
@@ -114,7 +119,7 @@ pub fn number_of(location: Location) -> u8
     ensures { λ r. ⌜ r ≡ numberOf location ⌝ }
 {
     match location {
-        Location::At(_, _) => 0,
+        Location::At(_, _, _) => 0,
         Location::Refused(number) => number,
     }
 }
@@ -215,25 +220,48 @@ pub fn first_string() -> Cursor
     }
 }
 
+// Where a pass goes on that has come to string `id`.
+pub fn string_from(image: &[u8], p: Places, id: usize) -> Cursor
+    requires { ⌜ Laid p (now image) ⌝ }
+    requires { ⌜ id < p .strings ⌝ }
+    ensures { λ r. ⌜ CursorOf p (now (image .entry)) r × (r .id ≡ id) ⌝ }
+{
+    Cursor {
+        id,
+        over: walk_to(image, p, id).over,
+        run: run_of(image, p, first_run(), id),
+    }
+}
+
 // The string that a pass has come to. Each entry and each kind is read once in all.
 pub fn string_at(image: &[u8], p: Places, at: Cursor) -> Visited
     requires { ⌜ Laid p (now image) ⌝ }
     requires { ⌜ CursorOf p (now image) at × (at .id < p .strings) ⌝ }
-    ensures { λ r. ⌜ Visits p (now (image .entry)) at r ⌝ }
+    ensures { λ r. ⌜ VisitedOf p (now (image .entry)) at r ⌝ }
 {
-    let entry = small_entry(image, p, at.id);
-    let place = place_of(image, p, at.id, at.over, entry);
+    let step = visit(image, p, counts_of(at));
+    let place = step.place;
     let from = at.run;
     let run = run_of(image, p, from, at.id);
     let next = Cursor {
-        id: at.id + 1,
-        over: next_over(at.over, entry),
+        id: step.counts.small,
+        over: step.counts.over,
         run,
     };
     Visited {
         place,
         identifier: run.identifier,
         next,
+    }
+}
+
+// What a pass has visited up to its cursor.
+pub fn counts_of(at: Cursor) -> Counts
+    ensures { λ r. ⌜ r ≡ countsOf at ⌝ }
+{
+    Counts {
+        small: at.id,
+        over: at.over,
     }
 }
 

@@ -18,11 +18,12 @@ use Rattle.image.specs.Sections.{stringsIn}
 use Rattle.image.specs.Admission.{checks}
 use Rattle.sections.specs.declared.Places.{Places}
 use Rattle.string_tables.specs.declared.Place.{Place}
+use Rattle.string_walk.specs.declared.Counts.{Counts}
 use Rattle.string_walk.specs.declared.Location.{Location}
 use Rattle.string_walk.specs.declared.Location.the-variants as location
 use Rattle.string_walk.specs.Places.{Locates}
 use Rattle.string_walk.specs.Places.{numberOf as location-number}
-use Rattle.string_walk.proofs.WalkLaws.{located-at, located-none}
+use Rattle.string_walk.proofs.WalkLaws.{located-at, located-self, located-none}
 use Rattle.sections.specs.Places.{placesOf}
 use Rattle.admission.specs.declared.Admission.{Admission}
 use Rattle.admission.specs.declared.Admission.the-variants as answer
@@ -179,12 +180,12 @@ module _ (l : Layout) (s : List ℕ) (r : Admission) (p : Places) (old new out :
         let y : n ≡ 14 = w ∙ ap location-number v ∙ x in
         rw (sought, ← strings-is l s r p admits, le-leb (p .strings) at (rw found-here at k), y) (refl, refl)
 
-    module _ (id : ℕ) (q : Place) (v : loc ≡ location.At id q) where
+    module _ (id : ℕ) (q : Place) (n : Counts) (v : loc ≡ location.At id q n) where
       id-is : id ≡ at
-      id-is = located-at p s _ refusals.absent loc (h .location) id q v .0 ∙ found-here
+      id-is = located-at p s _ refusals.absent loc (h .location) id q n v .0 ∙ found-here
 
       id-in : id < p .strings
-      id-in = let (x, k, y) = located-at p s _ refusals.absent loc (h .location) id q v in rw x k
+      id-in = located-self p s _ refusals.absent loc (h .location) id q n v .0
 
       found-is : patchByValue l s old new ≡ patchKnown l s id new
       unfolding patchKnown judge

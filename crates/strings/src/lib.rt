@@ -53,7 +53,7 @@ pub fn patch_string_by_id<'a>(
         return Answer::Refused(admission::number_of(admitted));
     };
     let location = string_walk::locate(image, p, id);
-    let Location::At(_, own) = location else {
+    let Location::At(_, own, _) = location else {
         return Answer::Refused(string_walk::number_of(location));
     };
     if !unicode::is_utf8(value) {
@@ -86,7 +86,7 @@ pub fn patch_string_replace<'a>(
         return Answer::Refused(refusals::VALUE);
     }
     let location = string_find::find(image, p, old);
-    let Location::At(id, own) = location else {
+    let Location::At(id, own, _) = location else {
         return Answer::Refused(string_walk::number_of(location));
     };
     patch_known(out, image, new, p, id, own)

@@ -1,7 +1,10 @@
 // The calls by their numbers, with arguments in the order of the judge's table, oracle/src/image.
 use admission::Admission;
 use format::Layout;
+use reader::StringPlace;
+use reader::StringRead;
 use sections::Places;
+use string_walk::Counts;
 use test_frames::Answer;
 use test_frames::HEAD;
 use test_frames::Status;
@@ -11,6 +14,7 @@ pub fn answer_call(head: &[u8; HEAD], image: &[u8]) -> Answer {
     match test_frames::number(head) {
         30 => admitted(head, image, false),
         31 => admitted(head, image, true),
+        35 => located(head, image),
         _ => test_frames::bare(Status::Unknown),
     }
 }
@@ -82,6 +86,35 @@ fn starts_of(p: Places) -> Answer {
         cut(p.storage_at),
         cut(p.tail),
         cut(p.footer),
+        0,
+        0,
+    ])
+}
+
+// A string of an image by its id, and how many table entries are visited to find it.
+fn located(head: &[u8; HEAD], image: &[u8]) -> Answer {
+    let byte = test_frames::byte(head, 0);
+    if byte > 4 {
+        return test_frames::bare(Status::Unknown);
+    }
+    let id = test_frames::word(head, 1) as usize;
+    let read = reader::string(image, input_records::layout_of(byte), id);
+    match read {
+        StringRead::Found(place, counts) => found(place, counts),
+        StringRead::Refused(number) => test_frames::bare(Status::Refused(number)),
+    }
+}
+
+fn found(place: StringPlace, counts: Counts) -> Answer {
+    test_frames::done([
+        cut(place.start),
+        cut(place.size),
+        cut(place.count),
+        if_set(place.wide, 1, 0),
+        if_set(place.identifier, 1, 0),
+        cut(counts.small),
+        cut(counts.over),
+        0,
         0,
         0,
     ])

@@ -1,13 +1,14 @@
-//! Calls 30 and 31: admission. The Rust has none, so all answers are those of **a second reading** of
-//! document 01, over images made at random, whole and damaged.
+//! Calls 30 and 31: admission; call 35: a string by its id. The Rust has none, so all answers are those of **a
+//! second reading** of documents 01 and 02, over images made at random, whole and damaged.
 
 pub mod damage;
 pub mod layout;
 pub mod maker;
 pub mod reading;
+pub mod walk;
 
 use crate::family::Argument::*;
-use crate::family::{Family, Function};
+use crate::family::{Answered, Family, Function};
 use crate::random::Random;
 use crate::stream::{Call, ARGUMENTS};
 use damage::DAMAGES;
@@ -27,7 +28,7 @@ pub static FAMILY: Family = Family {
     departures: &[],
 };
 
-static FUNCTIONS: [Function; 2] = [
+static FUNCTIONS: [Function; 3] = [
     Function {
         number: 30,
         name: "admit: the places",
@@ -51,7 +52,26 @@ static FUNCTIONS: [Function; 2] = [
             Ok(counts.map(|at| reading.count(at)).to_vec())
         },
     },
+    Function {
+        number: LOCATE,
+        name: "locate a string",
+        arguments: &[Word("layout"), Word("id")],
+        run: |a, image| located(a, image, None),
+    },
 ];
+
+const LOCATE: u32 = 35;
+
+/// Where a string stands, its width and flag, and how many small entries and overflow pairs are visited to find it.
+fn located(a: &[u32; ARGUMENTS], image: &[u8], slip: Option<reading::Slip>) -> Answered {
+    let mut reading = admitted(a, image)?;
+    reading.slip = slip;
+    let string = walk::locate(&reading, a[1])?;
+    let place = [string.start, string.bytes, string.units].map(|number| number as u32);
+    let flags = [string.wide, string.identifier].map(u32::from);
+    let counts = [string.small, string.pairs].map(|count| count as u32);
+    Ok([&place[..], &flags, &counts].concat())
+}
 
 fn admitted<'a>(a: &[u32; ARGUMENTS], image: &'a [u8]) -> Result<Reading<'a>, u32> {
     let reading = Reading { layout: Layout(a[0] as u8), image, slip: None };
@@ -62,8 +82,15 @@ fn admitted<'a>(a: &[u32; ARGUMENTS], image: &'a [u8]) -> Result<Reading<'a>, u3
 }
 
 fn call(number: u32, layout: Layout, image: Vec<u8>) -> Call {
-    let function = FUNCTIONS.iter().find(|function| function.number == number).unwrap();
-    Call::new(function, &[layout.0.into()], image)
+    Call::new(function(number), &[layout.0.into()], image)
+}
+
+fn locating(layout: Layout, id: u32, image: Vec<u8>) -> Call {
+    Call::new(function(LOCATE), &[layout.0.into(), id], image)
+}
+
+fn function(number: u32) -> &'static Function {
+    FUNCTIONS.iter().find(|function| function.number == number).unwrap()
 }
 
 /// An image, damaged in one way or in none; None where it has nothing that could be damaged so, or is
@@ -97,7 +124,36 @@ fn fixed() -> Vec<Call> {
         let whole = image(&mut random, layout, MIDDLE, None).unwrap();
         calls.extend([30, 31].map(|number| call(number, layout, whole.clone())));
     }
+    calls.extend(fixed_locating());
     calls
+}
+
+/// Each string of some small images, the ids past the last, and images that are refused.
+fn fixed_locating() -> Vec<Call> {
+    let mut calls = vec![];
+    let mut random = Random(35);
+    for layout in LAYOUTS {
+        for _ in 0..4 {
+            let whole = image(&mut random, layout, SMALL, None).unwrap();
+            let count = layout::word(&whole, STRINGS);
+            let ids = (0..=count + 1).chain([u32::MAX]);
+            calls.extend(ids.map(|id| locating(layout, id, whole.clone())));
+        }
+        let damaged = |(_, damage): &(_, _)| image(&mut random, layout, SMALL, Some(*damage));
+        let refused = DAMAGES.iter().filter_map(damaged).take(6);
+        calls.extend(refused.map(|image| locating(layout, 0, image)));
+    }
+    calls
+}
+
+/// A string of an image, or an id past its last one.
+fn random_id(random: &mut Random, image: &[u8]) -> u32 {
+    let count = layout::word(image, STRINGS).min(LONGEST_BUFFER as u32) as usize;
+    match random.below(8) {
+        0 => random.pick(&[0, count.saturating_sub(1), count, count + 1]) as u32,
+        1 => random.next() as u32,
+        _ => random.within(0..count + 1) as u32,
+    }
 }
 
 fn random(random: &mut Random) -> Call {
@@ -108,11 +164,17 @@ fn random(random: &mut Random) -> Call {
         6..40 => MIDDLE,
         _ => SMALL,
     };
-    let damage = (!random.one_in(8)).then(|| random.pick(&DAMAGES).1);
+    // What is located is mostly whole, what is admitted mostly damaged.
+    let locates = random.one_in(4);
+    let whole = random.one_in(8) != locates;
+    let damage = (!whole).then(|| random.pick(&DAMAGES).1);
     match image(random, layout, shape, damage) {
         // At times read as another layout than it was made for.
         Some(image) => {
             let stated = if random.one_in(32) { random.pick(&LAYOUTS) } else { layout };
+            if locates {
+                return locating(stated, random_id(random, &image), image);
+            }
             call(if random.one_in(8) { 31 } else { 30 }, stated, image)
         }
         None => self::random(random),
@@ -135,5 +197,7 @@ pub fn makes_whole_images() -> bool {
 pub fn finds(call: &Call, slip: reading::Slip) -> bool {
     let layout = Layout(call.arguments[0] as u8);
     let with = |slip| Reading { layout, image: &call.buffer, slip }.refusal();
+    let located = |slip| located(&call.arguments, &call.buffer, slip);
     with(None) != with(Some(slip))
+        || call.function.number == LOCATE && located(None) != located(Some(slip))
 }

@@ -40,6 +40,11 @@ pub enum Slip {
     HeaderOfBothLayouts,
     OwnBodyMayShare,
     OnePointerTwice,
+    // Of locating a string, document 02, No. 9.
+    OwnEntryPassedOver,
+    OwnPairOnly,
+    PairOfEachEntry,
+    AbsentIdLocated,
 }
 
 /// Every mistake, but for the test of the upper limit: no call holds so long an image.
@@ -69,6 +74,10 @@ pub fn slips() -> Vec<Slip> {
         HeaderOfBothLayouts,
         OwnBodyMayShare,
         OnePointerTwice,
+        OwnEntryPassedOver,
+        OwnPairOnly,
+        PairOfEachEntry,
+        AbsentIdLocated,
     ]);
     slips
 }
@@ -209,22 +218,22 @@ pub struct Places {
 }
 
 /// A word of the small table.
-struct Small(u32);
+pub struct Small(pub u32);
 
 impl Small {
-    fn is_wide(&self) -> bool {
+    pub fn is_wide(&self) -> bool {
         self.0 & 1 == 1
     }
 
-    fn offset(&self) -> u32 {
+    pub fn offset(&self) -> u32 {
         self.0 >> 1 & 0x7f_ffff
     }
 
-    fn length(&self) -> u32 {
+    pub fn length(&self) -> u32 {
         self.0 >> 24
     }
 
-    fn overflows(&self) -> bool {
+    pub fn overflows(&self) -> bool {
         self.length() == 255
     }
 }
@@ -261,7 +270,7 @@ impl Reading<'_> {
         tests.find(|(_, test)| (test.broken)(self)).map_or(0, |(_, test)| test.number)
     }
 
-    fn slips(&self, slip: Slip) -> bool {
+    pub fn slips(&self, slip: Slip) -> bool {
         self.slip == Some(slip)
     }
 

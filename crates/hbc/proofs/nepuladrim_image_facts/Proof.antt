@@ -9,10 +9,10 @@ returns c = no-layout-codes _ _ _ (omega arith)
 
 returns-2 : tie.Need-returns-2
 returns-2 c =
-    let at-read-facts = c .before .before .before in
-    let at-layout-of = at-read-facts .before .before in
+    let at-image-facts = c .before .before .before in
+    let at-layout-of = at-image-facts .before .before in
     layout-codes _ _ _ _ _ _ _ (record { known = omega arith; is = at-layout-of .layout-of .ensures })
-    (at-read-facts .read-facts .ensures) (c .number .ensures)
+    (at-image-facts .image-facts .ensures) (c .number .ensures)
 
 pub nepuladrim-image-facts-spec : {M : Type 1} → statement M
 nepuladrim-image-facts-spec =

@@ -9,10 +9,10 @@ returns c = no-layout-codes _ _ _ (omega arith)
 
 returns-2 : tie.Need-returns-2
 returns-2 c =
-    let at-read-string-facts = c .before .before .before in
-    let at-layout-of = at-read-string-facts .before .before in
+    let at-string-facts = c .before .before .before in
+    let at-layout-of = at-string-facts .before .before in
     layout-codes _ _ _ _ _ _ _ (record { known = omega arith; is = at-layout-of .layout-of .ensures })
-    (at-read-string-facts .read-string-facts .ensures) (c .number .ensures)
+    (at-string-facts .string-facts .ensures) (c .number .ensures)
 
 pub nepuladrim-string-facts-spec : {M : Type 1} → statement M
 nepuladrim-string-facts-spec =

@@ -18,7 +18,7 @@ copied-requires c κs =
     let at-string = at-read .before .before in
     let at-bytes = at-string .before .before in
     let a = at-bytes .before .args in
-    string-inside (a .layout) (a .image .now) (a .id) _ (at-string .string .ensures) _ (at-read .read .given .1)
+    string-inside (a .layout) (a .image .now) (a .id) _ (at-string .string .ensures) _ _ (at-read .read .given .1)
     (λ i. at-bytes .shared-slice-known .given i .fits)
 
 returns-2 : tie.Need-returns-2
@@ -26,7 +26,7 @@ returns-2 c =
     let at-read = c .before .before .before .before .before in
     let at-string = at-read .before .before in
     let a = at-string .before .before .before .args in
-    a-string (a .layout) (a .image .now) (a .id) _ (a .out .now) _ (at-string .string .ensures) _ _ _ (at-read .read .given .1)
+    a-string (a .layout) (a .image .now) (a .id) _ (a .out .now) _ (at-string .string .ensures) _ _ _ _ (at-read .read .given .1)
     (c .before .before .copied .ensures)
 
 pub read-string-spec : {M : Type 1} → statement M

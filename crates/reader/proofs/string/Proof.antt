@@ -45,19 +45,19 @@ returns-2 c = string-absent (sought (c .before .before .before)) _ (c .before .e
 is-identifier-requires : tie.Need-is-identifier-requires
 is-identifier-requires c κs =
     let z = sought (c .before .before .before) in
-    (z .laid, located-at _ _ _ _ _ (z .located) _ _ (c .before .location .given .1) .1)
+    (z .laid, located-at _ _ _ _ _ (z .located) _ _ _ (c .before .location .given .1) .1)
 
 in-image-requires : tie.Need-in-image-requires
 in-image-requires c κs =
     let at-location = c .before .before in
     let z = sought (at-location .before .before) in
-    place-small _ _ (z .laid .placed) _ _ (located-at _ _ _ _ _ (z .located) _ _ (at-location .location .given .1) .2)
+    place-small _ _ (z .laid .placed) _ _ (located-at _ _ _ _ _ (z .located) _ _ _ (at-location .location .given .1) .2)
 
 returns-3 : tie.Need-returns-3
 returns-3 c =
     let at-identifier = c .before in
     let at-location = at-identifier .before .before in
-    string-found (sought (at-location .before .before)) _ _ (at-location .location .given .1) _
+    string-found (sought (at-location .before .before)) _ _ _ (at-location .location .given .1) _
     (c .in-image .ensures ∙ ap (imagePlace _ _) (at-identifier .is-identifier .ensures))
 
 pub string-spec : {M : Type 1} → statement M

@@ -7,6 +7,7 @@ use Prim.Native.Nat.{_≤_, _-_}
 use native.Mathlib.Omega.{arith}
 use Rattle.unicode.specs.Utf8.{utf16}
 use Rattle.string_walk.specs.Places.{CursorOf}
+use Rattle.string_walk.proofs.WalkLaws.{pass-visits}
 use Rattle.string_find.specs.Find.{findFrom, findId}
 use Rattle.string_find.proofs.FindLaws.{find-none, found-at, find-next, found-none}
 
@@ -37,11 +38,13 @@ has-units-requires c κs =
 
 returns : tie.Need-returns Inv-loop μ-loop
 returns c =
-    let at-string = c .before .before .before in
+    let at-test = c .before in
+    let at-string = at-test .before .before .before in
     let at-loop = at-string .before .before .before .before in
+    let e = at-string .string-at .ensures in
     found-at _ _ _ _ _
-    (record { known = at-string .before .if1 .taken; tested = c .before .has-units .ensures; finds = at-loop .loop .inv .2 })
-    (c .if2 .taken) _ (at-string .string-at .ensures .place)
+    (record { known = at-string .before .if1 .taken; tested = at-test .before .has-units .ensures; finds = at-loop .loop .inv .2 })
+    (at-test .if2 .taken) _ _ (e .place) (pass-visits _ _ _ _ e _ (c .counts-of .ensures))
 
 loop-less : tie.Need-loop-less Inv-loop μ-loop
 loop-less c =
@@ -70,5 +73,5 @@ returns-2 c =
 pub find-spec : {M : Type 1} → statement M
 find-spec =
     tie.close
-    (tie.spec Inv-loop μ-loop (λ c κs. tt) (λ c κs. search needs) loop-holds string-at-requires has-units-requires returns loop-less
-    loop-again returns-2)
+    (tie.spec Inv-loop μ-loop (λ c κs. tt) (λ c κs. search needs) loop-holds string-at-requires has-units-requires
+    (λ c κs. search needs) returns loop-less loop-again returns-2)

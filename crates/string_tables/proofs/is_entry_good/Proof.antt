@@ -11,8 +11,8 @@ returns c =
     let start = c .before .before .before in
     entry-misnumbered _ _ _ _ _ (start .pre .0) (c .before .is-numbered .ensures) (c .if1 .taken)
 
-place-of-entry-requires : tie.Need-place-of-entry-requires
-place-of-entry-requires c κs =
+read-place-requires : tie.Need-read-place-requires
+read-place-requires c κs =
     let start = c .before .before .before in
     let h = sectioned (start .args .p) (start .args .image .now) (start .pre .0) in
     let n = has-pair _ _ _ _ _ (record { placed = start .pre .0; tested = c .before .is-numbered .ensures; good = c .if1 .left }) in
@@ -24,9 +24,9 @@ returns-2 c =
     let start = at-is-numbered .before .before in
     entry-numbered _ _ _ _ _
     (record { placed = start .pre .0; tested = at-is-numbered .is-numbered .ensures; good = c .before .before .if1 .left }) _ _
-    (c .before .place-of-entry .ensures .0) (c .is-stored .ensures)
+    (c .before .read-place .ensures .place) (c .is-stored .ensures)
 
 pub is-entry-good-spec : {M : Type 1} → statement M
 is-entry-good-spec =
     tie.close
-    (tie.spec (λ c κs. search needs) returns place-of-entry-requires (λ c κs. search needs) returns-2)
+    (tie.spec (λ c κs. search needs) returns read-place-requires (λ c κs. search needs) returns-2)

@@ -1,38 +1,29 @@
--- The entry's place, the run that covers the id, and the counts carried one string further.
+-- The entries of the string, the run that covers the id, and the counts carried one string further.
 use borrow.Author.Needs.{needs}
 use Rattle.string_walk.proofs.string_at.Statement.{statement}
 use Rattle.string_walk.proofs.string_at.Tie as tie
-use mathlib.Core.Path.{refl}
 use native.Mathlib.Omega.{arith}
-use Rattle.string_walk.proofs.WalkLaws.{over-small, over-next}
 use Rattle.string_walk.proofs.RunLaws.{flag-of}
 
-next-over-requires : tie.Need-next-over-requires
-next-over-requires c κs =
-    let start = c .before .before .before .before .before .before in
-    let h = start .pre in
-    over-small _ _ (h .0 .placed) _ (h .1 .0) (h .1 .1)
+visit-requires : tie.Need-visit-requires
+visit-requires c κs =
+    let h = c .before .before .pre in
+    (h .0, rw (c .counts-of .ensures) (h .1 .0 .walked, h .1 .1))
 
 returns : tie.Need-returns
 returns c =
-    let at-run-of = c .before .before in
-    let at-place-of = at-run-of .before .before in
-    let at-small-entry = at-place-of .before in
-    let start = at-small-entry .before .before in
-    let h = start .pre in
-    let r = at-run-of .run-of .ensures in
+    let at-visit = c .before .before .before in
+    let at-counts = at-visit .before in
+    let h = at-counts .before .before .pre in
+    let e = rw (at-counts .counts-of .ensures) at (at-visit .visit .ensures) in
+    let r = c .run-of .ensures in
     record {
-      place = at-place-of .place-of .ensures;
+      place = e .place;
       identifier = flag-of _ _ _ _ (record { placed = h .0 .placed; run = r .0; reached = r .1; ends = r .2 });
-      next = record {
-        over = over-next _ _ _ _ _ (h .1 .0 .over) (at-small-entry .small-entry .ensures .0) (c .next-over .ensures .0);
-        run = r .0;
-        reached = omega arith;
-      };
-      id = refl;
+      next = record { walked = e .walked; run = r .0; reached = omega (arith, e .next) };
+      id = e .next;
     }
 
 pub string-at-spec : {M : Type 1} → statement M
 string-at-spec =
-    tie.close
-    (tie.spec (λ c κs. search needs) (λ c κs. search needs) (λ c κs. search needs) (λ c. search needs) next-over-requires returns)
+    tie.close (tie.spec (λ c κs. search needs) visit-requires (λ c κs. search needs) returns)

@@ -43,7 +43,7 @@ returns-3 c =
     let at-admitted = at-locate .before .before in
     let at-admit = at-admitted .before .before in
     let a = at-admit .before .before .before .before .args in
-    let found = located-at _ _ _ _ _ (at-locate .locate .ensures) _ _ (at-location .location .given .1) in
+    let found = located-at _ _ _ _ _ (at-locate .locate .ensures) _ _ _ (at-location .location .given .1) in
     id-value _ _ _ _ (a .id) (a .value .now) (a .out .now) _
     (record {
       admits = record { is = at-admit .admit .ensures; laid = at-admitted .admitted .given .1 };
@@ -59,7 +59,7 @@ patch-known-requires c κs =
     let at-admit = at-admitted .before .before in
     let at-bytes = at-admit .before .before .before in
     let b : (i : ℕ) → getD (at-bytes .before .args .image .now) i 0 < 256 = λ i. at-bytes .shared-slice-known .given i .fits in
-    let found = located-at _ _ _ _ _ (at-locate .locate .ensures) _ _ (at-location .location .given .1) in
+    let found = located-at _ _ _ _ _ (at-locate .locate .ensures) _ _ _ (at-location .location .given .1) in
     ((is-laid _ _ _ (at-admit .admit .ensures) _ (at-admitted .admitted .given .1) b, found .1), found .2)
 
 returns-4 : tie.Need-returns-4
@@ -70,7 +70,7 @@ returns-4 c =
     let at-admitted = at-locate .before .before in
     let at-admit = at-admitted .before .before in
     let a = at-admit .before .before .before .before .args in
-    let found = located-at _ _ _ _ _ (at-locate .locate .ensures) _ _ (at-location .location .given .1) in
+    let found = located-at _ _ _ _ _ (at-locate .locate .ensures) _ _ _ (at-location .location .given .1) in
     id-known _ _ _ _ (a .id) (a .value .now) (a .out .now) _
     (record {
       admits = record { is = at-admit .admit .ensures; laid = at-admitted .admitted .given .1 };

@@ -76,7 +76,7 @@ patch-known-requires c κs =
     let at-admit = at-admitted .before .before in
     let at-bytes = at-admit .before .before .before .before in
     let b : (i : ℕ) → getD (at-bytes .before .args .image .now) i 0 < 256 = λ i. at-bytes .shared-slice-known .given i .fits in
-    let found = located-self _ _ _ _ _ (at-find .find .ensures) _ _ (at-location .location .given .1) in
+    let found = located-self _ _ _ _ _ (at-find .find .ensures) _ _ _ (at-location .location .given .1) in
     ((is-laid _ _ _ (at-admit .admit .ensures) _ (at-admitted .admitted .given .1) b, found .0), found .1)
 
 returns-5 : tie.Need-returns-5
@@ -85,7 +85,7 @@ returns-5 c =
     let at-find = at-location .before .before in
     let at-admit = at-find .before .before .before .before .before .before .before .before in
     let a = at-admit .before .before .before .before .before .args in
-    value-known _ _ _ _ _ _ (a .out .now) _ _ _ (sought at-find) _ _ (at-location .location .given .1) _ _
+    value-known _ _ _ _ _ _ (a .out .now) _ _ _ (sought at-find) _ _ _ (at-location .location .given .1) _ _
     (c .before .before .patch-known .ensures)
 
 pub patch-string-replace-spec : {M : Type 1} → statement M
