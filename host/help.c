@@ -18,11 +18,13 @@ static const char LIST[] =
     "       hbc list IMAGE LAYOUT\n"
     "Lists the strings and functions of an image. The first line has the image's length and its numbers of strings and\n"
     "functions. Then a line for each:\n"
-    "  s ID n|w s|i COUNT UNITS    a string: narrow or wide, an identifier (i) or not, its UTF-16 units in hex, - for none\n"
-    "  f ID o|p START SIZE         a function: with a large header (o) or plain, and where its body stands\n"
+    "  s ID n|w s|i COUNT UNITS HASH    a string: narrow or wide, an identifier (i) or not, its UTF-16 units in hex, - for none,\n"
+    "                                   and the hash that an identifier has in the image, in hex, - for no identifier\n"
+    "  f ID o|p START SIZE              a function: with a large header (o) or plain, and where its body stands\n"
+    "A hash is told as it is stored, whether it is that of the string or not; a patch of the string puts it right.\n"
     "\n"
-    "--text lists the same for people: string ID \"TEXT\" or identifier ID \"TEXT\". In a text, \\n, \\t, \\\", \\\\ and \\u with four\n"
-    "digits stand for what no terminal shows, as in JSON.\n";
+    "--text lists the same for people: string ID \"TEXT\" or identifier ID \"TEXT\", hash HASH. In a text, \\n, \\t, \\\", \\\\ and \\u\n"
+    "with four digits stand for what no terminal shows, as in JSON.\n";
 
 static const char LOCATE[] =
     "usage: hbc locate IMAGE ID [--layout LAYOUT]\n"

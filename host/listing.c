@@ -26,15 +26,18 @@ void print_exactly(void *to, const uint8_t *part, size_t length) { print_bytes(t
 
 // ---- as text: a line may be longer than a part, and longer than memory, so it is taken byte by byte
 
-// The front of a line: all of it, or that of a string up to its units.
-#define FRONT_MOST 80
+// How far a line has come. Its front is all of it, but for a string, which has its units and its hash slot behind it.
+enum place { FRONT, UNITS, SLOT };
+
+// Only the units can be long. A front or a slot is kept until all of it is there.
+#define KEPT_MOST 80
 #define FIELDS 6
 
 struct telling {
     FILE *to;
-    char front[FRONT_MOST];
+    enum place place;
+    char kept[KEPT_MOST];
     size_t length;
-    bool in_units;
     struct text text;
     unsigned unit, digits;
 };
@@ -47,10 +50,21 @@ struct telling *begin_telling(FILE *to) {
 
 void end_telling(struct telling *telling) { free(telling); }
 
+// Goes on to another place of the line or of the next one, of which nothing is kept yet.
+static void go_on(struct telling *telling, enum place place) {
+    telling->place = place;
+    telling->length = 0;
+}
+
+// What was kept, as a text of C.
+static char *end_kept(struct telling *telling) {
+    telling->kept[telling->length] = 0;
+    return telling->kept;
+}
+
 // Cuts the front of a line at its spaces. A field that is not there is empty.
 static void cut(struct telling *telling, const char *fields[FIELDS]) {
-    char *next = telling->front;
-    telling->front[telling->length] = 0;
+    char *next = end_kept(telling);
     for (int i = 0; i < FIELDS; i++) {
         fields[i] = next;
         next += strcspn(next, " ");
@@ -64,8 +78,20 @@ static void begin_string(struct telling *telling) {
     cut(telling, fields);
     print(telling->to, "%s %s ", strcmp(fields[3], "i") == 0 ? "identifier" : "string", fields[1]);
     telling->text = begin_text(telling->to);
-    telling->in_units = true;
     telling->unit = telling->digits = 0;
+    go_on(telling, UNITS);
+}
+
+static void end_units(struct telling *telling) {
+    end_text(&telling->text);
+    go_on(telling, SLOT);
+}
+
+// A plain string has a - in place of the slot, of which people are told nothing.
+static void tell_slot(struct telling *telling) {
+    const char *slot = end_kept(telling);
+    if (strcmp(slot, "-") != 0) print(telling->to, ", hash %s", slot);
+    print(telling->to, "\n");
 }
 
 // `image LENGTH STRINGS FUNCTIONS` or `f ID o|p START SIZE`.
@@ -79,14 +105,9 @@ static void tell_line(struct telling *telling) {
 }
 
 static void end_line(struct telling *telling) {
-    if (telling->in_units) {
-        end_text(&telling->text);
-        print(telling->to, "\n");
-    } else {
-        tell_line(telling);
-    }
-    telling->in_units = false;
-    telling->length = 0;
+    if (telling->place == SLOT) tell_slot(telling);
+    else tell_line(telling);
+    go_on(telling, FRONT);
 }
 
 static void take_digit(struct telling *telling, char digit) {
@@ -98,22 +119,24 @@ static void take_digit(struct telling *telling, char digit) {
     telling->unit = telling->digits = 0;
 }
 
-// Whether the front of a line is that of a string: an s, and five spaces.
+// Whether what is kept is the front of a string's line: an s, and five spaces.
 static bool is_string_front(const struct telling *telling) {
     int spaces = 0;
-    for (size_t i = 0; i < telling->length; i++) spaces += telling->front[i] == ' ';
-    return telling->front[0] == 's' && spaces == 5;
+    for (size_t i = 0; i < telling->length; i++) spaces += telling->kept[i] == ' ';
+    return telling->kept[0] == 's' && spaces == 5;
+}
+
+static void keep(struct telling *telling, char byte) {
+    if (telling->length + 1 == KEPT_MOST) return;
+    telling->kept[telling->length++] = byte;
+    if (byte == ' ' && is_string_front(telling)) begin_string(telling);
 }
 
 static void take_byte(struct telling *telling, char byte) {
-    if (byte == '\n') {
-        end_line(telling);
-    } else if (telling->in_units) {
-        take_digit(telling, byte);
-    } else if (telling->length + 1 < FRONT_MOST) {
-        telling->front[telling->length++] = byte;
-        if (byte == ' ' && is_string_front(telling)) begin_string(telling);
-    }
+    if (byte == '\n') end_line(telling);
+    else if (telling->place != UNITS) keep(telling, byte);
+    else if (byte == ' ') end_units(telling);
+    else take_digit(telling, byte);
 }
 
 void print_as_text(void *with, const uint8_t *part, size_t length) {

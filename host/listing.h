@@ -15,7 +15,7 @@ unsigned list_image(struct bytes image, uint8_t layout, part_taker *take, void *
 // Prints the exact listing.
 part_taker print_exactly;
 
-// Prints the listing for people, a line of the exact one as a line: `KIND ID "TEXT"` for a string.
+// Prints the listing for people, a line of the exact one as a line: `string ID "TEXT"` or `identifier ID "TEXT", hash SLOT`.
 struct telling;
 struct telling *begin_telling(FILE *to);
 part_taker print_as_text;

@@ -7,14 +7,22 @@ pub struct Shape {
     large: usize,
     is_large: fn(usize) -> bool,
     overflows: fn(usize) -> bool,
+    is_identifier: fn(usize) -> bool,
 }
 
-const MODERN: Shape =
-    Shape { layout: 0, record: 12, large: 40, is_large: |_| true, overflows: |_| false };
-const MIXED: Shape =
-    Shape { layout: 1, record: 16, large: 32, is_large: |i| i % 2 == 0, overflows: |_| false };
+const MODERN: Shape = Shape {
+    layout: 0,
+    record: 12,
+    large: 40,
+    is_large: |_| true,
+    overflows: |_| false,
+    is_identifier: |_| false,
+};
+const MIXED: Shape = Shape { layout: 1, record: 16, large: 32, is_large: |i| i % 2 == 0, ..MODERN };
 /// Every fourth string has its place in the overflow table.
 const PAIRS: Shape = Shape { overflows: |i| i % 4 == 3, ..MIXED };
+/// Identifiers and plain strings by twos: a kind for every two strings, as no compiler has so many.
+const NAMES: Shape = Shape { is_identifier: |i| i % 4 < 2, ..MIXED };
 
 /// The shape of a name.
 pub fn shape(name: &str) -> Shape {
@@ -22,7 +30,8 @@ pub fn shape(name: &str) -> Shape {
         "modern" => MODERN,
         "mixed" => MIXED,
         "pairs" => PAIRS,
-        _ => panic!("{name}: neither modern, mixed nor pairs"),
+        "names" => NAMES,
+        _ => panic!("{name}: neither modern, mixed, pairs nor names"),
     }
 }
 
@@ -37,16 +46,32 @@ fn string(i: usize) -> (bool, Vec<u8>) {
     (wide, (0..length / 2 * 2).map(|j| b'a' + ((i + j) % 26) as u8).collect())
 }
 
-/// The header, the records, one kind for all strings, the small table, the overflow table, storage, padding.
+/// The kind words: a run of identifiers or of plain strings each, one for all strings where they are alike.
+fn kinds(shape: &Shape, strings: usize) -> Vec<usize> {
+    let flags: Vec<bool> = (0..strings).map(shape.is_identifier).collect();
+    let runs = flags.chunk_by(|one, next| one == next);
+    runs.map(|run| usize::from(run[0]) << 31 | run.len()).collect()
+}
+
+/// The header, the records, the kinds, the hash slots (which hold their numbers), the small table, the overflow table, storage,
+/// padding.
 fn sections(shape: &Shape, functions: usize, strings: usize) -> Vec<u8> {
-    let kinds = 128 + functions * shape.record;
-    let small = kinds + 4;
+    let kinds_at = 128 + functions * shape.record;
+    let kinds = kinds(shape, strings);
+    let identifiers = (0..strings).filter(|i| (shape.is_identifier)(*i)).count();
+    let hashes = kinds_at + 4 * kinds.len();
+    let small = hashes + 4 * identifiers;
     let pairs = small + 4 * strings;
     let overflows = (0..strings).filter(|i| (shape.overflows)(*i)).count();
     let storage = pairs + 8 * overflows;
     let mut image = vec![0; storage];
     image[..8].copy_from_slice(&0x1F19_03C1_03BC_1FC6u64.to_le_bytes());
-    put(&mut image, kinds, strings);
+    for (k, word) in kinds.iter().enumerate() {
+        put(&mut image, kinds_at + 4 * k, *word);
+    }
+    for rank in 0..identifiers {
+        put(&mut image, hashes + 4 * rank, rank);
+    }
     let mut next = 0;
     for i in 0..strings {
         let (wide, bytes) = string(i);
@@ -62,8 +87,9 @@ fn sections(shape: &Shape, functions: usize, strings: usize) -> Vec<u8> {
         image.extend(bytes);
     }
     let size = image.len() - storage;
-    for (at, word) in [(40, functions), (44, 1), (52, strings), (56, overflows), (60, size)] {
-        put(&mut image, at, word);
+    let counts = [functions, kinds.len(), identifiers, strings, overflows, size];
+    for (k, count) in counts.into_iter().enumerate() {
+        put(&mut image, 40 + 4 * k, count);
     }
     image.resize(image.len().next_multiple_of(4), 0);
     image

@@ -18,13 +18,22 @@ def entry(is_wide, offset, length):
     return int(is_wide) | offset << 1 | length << 24
 
 
+def stale_slots(count):
+    """Hash slots that no string gave. All differ, and each from itself with its bytes in the other order."""
+    return [(0x01020304 + 0x11111111 * rank) % (1 << 32) for rank in range(count)]
+
+
 class Maker:
     """One image. `strings` are pairs of a width and bytes, packed in order; `placed` are triples of a width, an
-    offset and a count, which may share `storage`. `functions` are pairs of a way ('small' or 'large') and a body."""
+    offset and a count, which may share `storage`. `functions` are pairs of a way ('small' or 'large') and a body.
+    `slots` are the hash slots, one for each identifier. `paired` are ids whose place is in the overflow table, though
+    it would fit a small entry."""
 
-    def __init__(self, layout, strings=(), functions=(), runs=None, storage=None, placed=None, info=False, debug=False):
+    def __init__(
+        self, layout, strings=(), functions=(), runs=None, storage=None, placed=None, slots=None, paired=(), info=False, debug=False
+    ):
         self.layout, self.modern = layout, LAYOUTS[layout] is None
-        self.functions, self.info, self.debug = list(functions), info, debug
+        self.functions, self.paired, self.info, self.debug = list(functions), paired, info, debug
         if placed is None:
             placed, storage = [], b""
             for is_wide, data in strings:
@@ -32,11 +41,13 @@ class Maker:
                 storage += data
         self.placed, self.storage = list(placed), storage
         self.runs = [(False, len(self.placed))] if runs is None else runs
+        self.identifiers = sum(count for flag, count in self.runs if flag)
+        self.slots = stale_slots(self.identifiers) if slots is None else slots
 
     def tables(self):
         small, pairs = b"", b""
-        for is_wide, offset, count in self.placed:
-            if count >= 255 or offset >= 1 << 23:
+        for i, (is_wide, offset, count) in enumerate(self.placed):
+            if count >= 255 or offset >= 1 << 23 or i in self.paired:
                 small += struct.pack("<I", entry(is_wide, len(pairs) // 8, 255))
                 pairs += struct.pack("<II", offset, count)
             else:
@@ -45,18 +56,18 @@ class Maker:
 
     def build(self):
         kinds = b"".join(struct.pack("<I", flag << 31 | count) for flag, count in self.runs)
-        identifiers = sum(count for flag, count in self.runs if flag)
+        hashes = struct.pack(f"<{self.identifiers}I", *self.slots)
         small, pairs = self.tables()
         record_size = 12 if self.modern else 16
         records_end = 128 + record_size * len(self.functions)
-        middle = kinds + b"\xAA" * (4 * identifiers) + small + pairs + self.storage
+        middle = kinds + hashes + small + pairs + self.storage
         tail = records_end + len(middle)
         middle += b"\xBB" * (-tail % 4)
         tail += -tail % 4
         records, bodies, headers = self.tail(tail)
         header = bytearray(128)
         struct.pack_into("<QI", header, 0, MAGIC, 98 if self.modern else 96)
-        counts = (len(self.functions), len(self.runs), identifiers, len(self.placed), len(pairs) // 8, len(self.storage))
+        counts = (len(self.functions), len(self.runs), self.identifiers, len(self.placed), len(pairs) // 8, len(self.storage))
         struct.pack_into("<6I", header, 40, *counts)
         if self.debug:
             struct.pack_into("<I", header, debug_position(self.layout), tail)
@@ -98,6 +109,12 @@ def record(image, layout=0, length=None, mark=b"IM"):
     return mark + bytes([layout]) + struct.pack("<I", len(image) if length is None else length) + image
 
 
+def framed(data):
+    """An input as `test_listings` reads it: its zeros at the end are counted, not written."""
+    kept = data.rstrip(b"\0")
+    return struct.pack("<II", len(kept), len(data) - len(kept)) + kept
+
+
 def put(image, at, value, size=4):
     return image[:at] + (value % (1 << 8 * size)).to_bytes(size, "little") + image[at + size :]
 
@@ -115,6 +132,12 @@ def row_j():
     return image + hashlib.sha1(image).digest()
 
 
+# Row h of the marked examples: four identifiers and their hashes.
+def row_h():
+    texts = [narrow(""), narrow("a"), narrow("ab"), wide("\u00E9")]
+    return Maker(0, texts, runs=[(True, 4)], slots=[0, 0x18270, 0x614F9F9, 0x3AA7A]).build()
+
+
 def valid():
     """Inputs that are listed: a name and the input."""
     yield "row j", record(row_j())
@@ -127,33 +150,74 @@ def valid():
         yield f"layout {layout}, strings alone", record(Maker(layout, texts[:2]).build(), layout)
         yield f"layout {layout}, functions alone", record(Maker(layout, functions=bodies).build(), layout)
     yield "every narrow byte", record(Maker(0, [(False, bytes(range(128)))]).build())
-    yield "lone surrogates, every digit", record(Maker(1, [(True, struct.pack("<6H", 0xD800, 0xDC00, 0x0123, 0x4567, 0x89AB, 0xCDEF))]).build(), 1)
-    lengths = [0, 1, 63, 64, 65, 127, 128, 129, 254, 255, 256, 300, 1000]
-    yield "lengths, narrow", record(Maker(0, [narrow("a" * n) for n in lengths]).build())
-    yield "lengths, wide", record(Maker(2, [wide("\u20AC" * n) for n in lengths]).build(), 2)
+    units = struct.pack("<6H", 0xD800, 0xDC00, 0x0123, 0x4567, 0x89AB, 0xCDEF)
+    yield "lone surrogates, every digit", record(Maker(1, [(True, units)]).build(), 1)
+    yield "lengths, narrow", record(Maker(0, [narrow("a" * n) for n in LENGTHS]).build())
+    yield "lengths, wide", record(Maker(2, [wide("\u20AC" * n) for n in LENGTHS]).build(), 2)
     storage = b"shared" * 60
     placed = [(False, i, n) for i in (0, 1, 5) for n in (0, 6, 254, 255, 355)] + [(True, i, 90) for i in (0, 1, 3)]
     yield "shared storage", record(Maker(3, storage=storage, placed=placed).build(), 3)
     yield "an empty string at the end", record(Maker(0, storage=b"abc", placed=[(False, 3, 0), (True, 3, 0)]).build())
-    yield "an overflow entry that was not needed", record(unneeded())
+    yield "an overflow entry that was not needed", record(Maker(0, [narrow("abc")], paired=[0]).build())
     yield "many strings", record(Maker(0, [narrow(f"string {i}") for i in range(300)]).build())
     yield "many functions", record(Maker(4, functions=[(("small", "large")[i % 3 == 0], b"\7" * (i % 5)) for i in range(300)]).build(), 4)
     yield "many kinds", record(Maker(0, [narrow("k")] * 90, runs=[(i % 2 == 0, i % 3) for i in range(90)]).build())
     base = Maker(0, texts, bodies).build()
     yield "65,536 bytes", record(stretched(base, 65536))
     yield "a stale file length and footer", record(put(base, 32, 12345))
+    yield from with_identifiers()
+
+
+# Around the numbers of units that a line may be cut at, and that a small entry holds.
+LENGTHS = [0, 1, 63, 64, 65, 127, 128, 129, 254, 255, 256, 300, 1000]
+
+# Where identifiers stand among six strings.
+SIX = {
+    "first": [(True, 2), (False, 4)],
+    "in the middle": [(False, 2), (True, 3), (False, 1)],
+    "last": [(False, 4), (True, 2)],
+    "all": [(True, 6)],
+    "in two runs": [(True, 2), (False, 1), (True, 2), (False, 1)],
+    "behind two plain runs": [(False, 1), (True, 1), (False, 2), (True, 2)],
+    "in runs side by side": [(True, 1), (True, 2), (False, 1), (False, 1), (True, 1)],
+    "between runs of none": [(False, 0), (True, 0), (False, 1), (True, 2), (False, 0), (True, 1), (True, 0), (False, 1), (True, 1)],
+}
+
+# All digits at both ends, leading zeros, the ends of the range, signs; none reads the same from its other end but 0 and 2^32 - 1.
+WORDS = [0, 0xFFFFFFFF, 1, 0x80000000, 0x7FFFFFFF, 0x01234567, 0x89ABCDEF, 0xFEDCBA98, 0x76543210, 0xA, 0xF00000, 0x0B0C0D0E, 0xFFFFFFFE]
+
+
+def with_identifiers():
+    """Inputs that are listed, for their hash slots: a name and the input."""
+    texts = [narrow("label"), wide("gr\u00fc\u00df"), narrow(""), wide(""), narrow("x"), wide("\U0001F600")]
+    for i, (name, runs) in enumerate(SIX.items()):
+        made = Maker(i % 5, texts, [("small", b"\1\2\3"), ("large", b"\4")][: i % 3], runs)
+        yield f"identifiers {name}", record(made.build(), i % 5)
+    image = row_h()
+    yield "row h", record(image)
+    yield "row h, each slot with the hash of the next", record(image[:132] + image[136:148] + image[132:136] + image[148:])
+    names = [narrow("k")] * len(WORDS)
+    yield "slots at their limits", record(Maker(0, names, runs=[(True, len(WORDS))], slots=WORDS).build())
+    apart = [(i % 2 == 1, 1) for i in range(2 * len(WORDS))]
+    yield "slots at their limits, plain strings between them", record(Maker(3, names * 2, runs=apart, slots=WORDS).build(), 3)
+    for is_wide, text in ((False, "a"), (True, "\u20AC")):
+        long = [(wide if is_wide else narrow)(text * n) for n in LENGTHS]
+        made = Maker(4, long, runs=[(True, len(long))])
+        yield f"lengths, identifiers, {'wide' if is_wide else 'narrow'}", record(made.build(), 4)
+    pairs = [narrow("z" * 300), narrow("p"), wide("\u20AC" * 255), wide("q"), narrow("z" * 256)]
+    runs = [(True, 1), (False, 1), (True, 2), (False, 1)]
+    yield "identifiers with overflow entries", record(Maker(1, pairs, runs=runs, paired=[1, 3]).build(), 1)
+    placed = [(False, 0, 6), (False, 0, 6), (True, 1, 2), (False, 2, 0), (False, 2, 3)]
+    yield "identifiers that share storage", record(Maker(2, storage=b"shared", placed=placed, runs=runs).build(), 2)
+    yield "300 identifiers in a run", record(Maker(0, [narrow("")] * 302, runs=[(False, 1), (True, 300), (False, 1)]).build())
+    many = [(i % 2 == 0, i % 7) for i in range(100)]
+    count = sum(run for _, run in many)
+    yield "many runs of identifiers", record(Maker(1, [narrow("n")] * count, runs=many).build(), 1)
 
 
 def stretched(image, length):
     """The image with more bytes in its tail, of zeros from some place on."""
     return image + bytes(length - len(image))
-
-
-def unneeded():
-    image = Maker(0, [narrow("abc")]).build()
-    at = 128 + 4
-    image = put(image, 56, 1)
-    return image[:at] + struct.pack("<III", entry(False, 0, 255), 0, 3) + image[at + 4 :]
 
 
 def malformed():
@@ -203,7 +267,8 @@ def damaged():
 
         def point(i, place):
             at = 128 + i * size
-            return put(image, at, image[at + 3] << 24 | place if layout == 0 else int.from_bytes(image[at + 2 : at + 4], "little") << 16 | place)
+            kept = image[at + 3] << 24 if layout == 0 else int.from_bytes(image[at + 2 : at + 4], "little") << 16
+            return put(image, at, kept | place)
 
         def given(number, name, data):
             return f"layout {layout}: {name}", number, record(data, layout)

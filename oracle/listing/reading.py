@@ -1,8 +1,10 @@
-"""A second reading of document 01 for the listing program: what it prints for all that it reads; and of document 02, No. 9,
-for the table of `hbc locate --all`.
+"""A second reading of document 01 for the listing program, with the hash slots of document 02, No. 5: what it prints for all
+that it reads; and of document 02, No. 9, for the table of `hbc locate --all`.
 
 Written from the two documents and not from our definitions or code; only the standard library is used.
 """
+
+from itertools import accumulate
 
 LAYOUTS = {0: None, 1: (0, 0), 2: (1, 0), 3: (0, 1), 4: (1, 1)}  # None is modern; else big integers, function sources
 MAGIC = 0x1F1903C103BC1FC6
@@ -51,7 +53,8 @@ class Image:
         self.record_size = 12 if self.modern else 16
         functions, kinds, identifiers, strings, overflows, storage_size = (word(data, at) for at in range(40, 64, 4))
         self.kinds_at = 128 + functions * self.record_size
-        self.small_at = self.kinds_at + 4 * kinds + 4 * identifiers
+        self.hashes_at = self.kinds_at + 4 * kinds
+        self.small_at = self.hashes_at + 4 * identifiers
         self.overflow_at = self.small_at + 4 * strings
         self.storage_at = self.overflow_at + 8 * overflows
         self.storage_size = storage_size
@@ -142,24 +145,37 @@ class Image:
         return functions
 
 
-def lines(data):
+def stored_hash(image, rank):
+    """A hash slot as it stands there, right or stale: a number in eight hex digits."""
+    return f"{word(image.data, image.hashes_at + 4 * rank):08x}"
+
+
+def slots(image):
+    """The last word of each string's line (document 02, No. 5): the hash slot of an identifier, by its rank, which is the number of
+    identifiers with a lower id; `-` for a plain string."""
+    ranks = [0, *accumulate(image.identifiers)]
+    for is_identifier, rank in zip(image.identifiers, ranks):
+        yield stored_hash(image, rank) if is_identifier else "-"
+
+
+def lines(data, slots=slots):
     """The lines for an input: one `IM` record, and nothing after it."""
     if len(data) < 7 or data[:2] != b"IM" or data[2] not in LAYOUTS:
         raise Refused(15)
     length = word(data, 3)
     if length > IMAGE_MOST or len(data) != 7 + length:
         raise Refused(15)
-    yield from image_lines(data[7:], data[2])
+    yield from image_lines(data[7:], data[2], slots)
 
 
-def image_lines(data, layout):
+def image_lines(data, layout, slots=slots):
     """The lines of an image of any length."""
     image = Image(data, layout)
     yield f"image {len(data)} {len(image.strings)} {len(image.functions)}"
-    for i, (wide, units) in enumerate(image.strings):
+    for i, ((wide, units), slot) in enumerate(zip(image.strings, slots(image))):
         kind = "i" if image.identifiers[i] else "s"
         text = "".join(f"{unit:04x}" for unit in units) or "-"
-        yield f"s {i} {'w' if wide else 'n'} {kind} {len(units)} {text}"
+        yield f"s {i} {'w' if wide else 'n'} {kind} {len(units)} {text} {slot}"
     for i, (large, start, size) in enumerate(image.functions):
         yield f"f {i} {'o' if large else 'p'} {start} {size}"
 

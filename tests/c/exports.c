@@ -64,7 +64,7 @@ int main(void) {
     is(nepuladrim_build(97, BYTES("abc"), ends, 2, BYTES("\1\2\3\4"), image, sizeof image) == 220);
 
     // the listing, whole and in parts
-    const char lines[] = "image 220 2 1\ns 0 n s 1 0061\ns 1 n s 2 00620063\nf 0 o 156 4\n";
+    const char lines[] = "image 220 2 1\ns 0 n s 1 0061 -\ns 1 n s 2 00620063 -\nf 0 o 156 4\n";
     const size_t all = sizeof lines - 1;
     memset(out, 0xa5, sizeof out);
     is(nepuladrim_list(image, 220, 5, 0, out, sizeof out) == refused(15));

@@ -1,5 +1,5 @@
 // Patches an image laid out as compilers lay them out, with as many strings as functions, 1 MiB for 10,000 of each:
-//   bench-patches ours|theirs place|rebuild|equal|body modern|mixed COUNT REPEATS
+//   bench-patches ours|theirs place|rebuild|equal|body modern|mixed|names COUNT REPEATS
 // prints the length of the image and a sum of the result's bytes. The Rust's file is parsed before, also for no repeats, so
 // that what REPEATS adds is its patch call alone.
 //   bench-patches compare

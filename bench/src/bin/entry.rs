@@ -1,9 +1,9 @@
 // Calls a function of hbc.h on an image laid out as compilers lay them out, with as many strings as functions:
-//   entry admission|listing|table|first|last modern|mixed|pairs COUNT REPEATS
-// modern: every record has a large header. mixed: legacy, every second record has one. pairs: so, and every fourth
-// string has an overflow pair. table: what is known of all strings; first, last: of one. Prints 0, or the number of a
-// refusal, and the length of what was gone over: the image, its listing, the bytes of the table, or the table entries
-// visited to find the string.
+//   entry admission|listing|table|first|last modern|mixed|pairs|names COUNT REPEATS
+// modern: every record has a large header. mixed: legacy, every second record has one. pairs: mixed, and every fourth
+// string has an overflow pair. names: mixed, and identifiers come by twos. table: what is known of all strings; first,
+// last: of one. Prints 0, or the number of a refusal, and the length of what was gone over: the image, its listing, the
+// bytes of the table, or the table entries visited to find the string.
 
 #[path = "../image.rs"]
 mod image;

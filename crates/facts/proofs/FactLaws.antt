@@ -1,5 +1,6 @@
 -- Facts as outcomes: those of the record of places, or the refusal.
 use mathlib.Core.Path.{_≡_, refl, sym, _∙_, ap}
+use mathlib.Core.Bool.{Bool}
 use mathlib.Core.List.{List, [], _∷_}
 use Prim.Native.Nat.{ℕ}
 use native.Mathlib.Omega.{arith}
@@ -12,8 +13,10 @@ use Rattle.bits.specs.declared.Answer.the-variants.{Refused}
 use Rattle.bits.proofs.OutcomeLaws.{refused-read, found-read}
 use Rattle.format.specs.declared.Layout.{Layout}
 use Rattle.format.specs.Table as table
+use Rattle.format.specs.Entry.{Place}
 use Rattle.footer.specs.Footer.{verified}
 use Rattle.image.specs.Sections.{stringsIn, recordAt}
+use Rattle.image.specs.Strings.{sizeOf}
 use Rattle.image.specs.Admission.{refusal}
 use Rattle.sections.specs.declared.Places.{Places}
 use Rattle.sections.specs.Places.{placesOf}
@@ -21,13 +24,17 @@ use Rattle.admission.specs.declared.Admission.{Admission}
 use Rattle.admission.specs.declared.Admission.the-variants as admission-is
 use Rattle.admission.specs.Admission.{admission, numberOf}
 use Rattle.admission.proofs.AnswerLaws.{refused-is, laid-is, laid-layout}
+use Rattle.string_tables.specs.Strings.{asPlace}
 use Rattle.string_walk.specs.declared.Counts.{Counts}
-use Rattle.reader.specs.declared.StringPlace.{StringPlace}
+use Rattle.string_walk.specs.declared.StringRecord.{StringRecord}
+use Rattle.string_walk.specs.Records.{isRanked, recordOf}
+use Rattle.string_walk.specs.Walk.{visits}
+use Rattle.string_walk.proofs.RankLaws.{ranked-flag}
 use Rattle.reader.specs.declared.StringRead.{StringRead}
 use Rattle.reader.specs.declared.StringRead.the-variants as string-is
 use Rattle.reader.specs.Reading.{idRefusal, stringRead, stringNumber}
 use Rattle.reader.proofs.PartLaws.{string-out, string-at}
-use Rattle.facts.specs.Facts.{flag, factsOf, imageFacts, factsOfPlace, factsOfString, stringFacts}
+use Rattle.facts.specs.Facts.{flag, factsOf, imageFacts, factsOfParts, factsOfString, stringFacts}
 
 -- ---- of an image
 
@@ -86,6 +93,18 @@ module _ (l : Layout) (s : List ℕ) (room : ℕ) (old : List ℕ) where
 
 -- ---- of a string
 
+-- as the code gathers them
+pub gathered : (start : ℕ) (q : Place) (identifier : Bool) (c : Counts) (size wide named : ℕ) → size ≡ sizeOf q
+    → wide ≡ flag (q .wide) → named ≡ flag identifier
+    → start ∷ size ∷ q .count ∷ wide ∷ named ∷ c .small ∷ c .over ∷ [] ≡ factsOfParts start q identifier c
+gathered start q identifier c size wide named e f g = rw (e, f, g)
+
+-- those of its record are its own
+pub parts-are : (l : Layout) (s : List ℕ) (id : ℕ) (r : StringRecord) (c : Counts) → r ≡ recordOf l s id → c ≡ visits l s id
+    → factsOfParts (r .start) (asPlace (r .place)) (isRanked (r .rank)) c ≡ factsOfString l s id
+unfolding factsOfString recordOf
+parts-are l s id r c e v = rw (e, v, ranked-flag l s id)
+
 module _ (l : Layout) (s : List ℕ) (id room : ℕ) (old : List ℕ) where
   pub no-facts : (r : StringRead) → r ≡ stringRead l s id → (k : ℕ) → r ≡ string-is.Refused k → (n : ℕ)
       → n ≡ stringNumber r
@@ -95,11 +114,11 @@ module _ (l : Layout) (s : List ℕ) (id room : ℕ) (old : List ℕ) where
       let (h, x) = string-out l s id r e k f in
       refused-read (idRefusal l s (stringsIn s) id) n (factsOfString l s id) (h, x ∙ sym (g ∙ ap stringNumber f)) old room
 
-  pub the-facts : (q : StringPlace) (c : Counts) → stringRead l s id ≡ string-is.Found q c → (facts : List ℕ)
-      → facts ≡ factsOfPlace q c
+  pub the-facts : (q : StringRecord) (c : Counts) → stringRead l s id ≡ string-is.Found q c → (facts : List ℕ)
+      → facts ≡ factsOfParts (q .start) (asPlace (q .place)) (isRanked (q .rank)) c
       → (a : Answer) (new : List ℕ) → Answers (roomed room (made facts)) a old new
       → Answers (roomed room (stringFacts l s id)) a old new
-  unfolding stringFacts factsOfString
+  unfolding stringFacts
   the-facts q c f facts g a new w =
       let (z, p, v) = string-at l s id (stringRead l s id) refl q c f in
-      found-read (idRefusal l s (stringsIn s) id) facts (factsOfString l s id) (roomed room) a old new z (g ∙ rw (p, v)) w
+      found-read (idRefusal l s (stringsIn s) id) facts (factsOfString l s id) (roomed room) a old new z (g ∙ parts-are l s id q c p v) w

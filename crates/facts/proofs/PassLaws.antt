@@ -24,36 +24,33 @@ use Rattle.admission.specs.declared.Admission.{Admission}
 use Rattle.admission.specs.declared.Admission.the-variants as admission-is
 use Rattle.admission.specs.Admission.{admission, numberOf}
 use Rattle.admission.proofs.AnswerLaws.{refused-is, laid-is, laid-layout}
+use Rattle.string_tables.specs.Strings.{asPlace}
 use Rattle.string_walk.specs.declared.Counts.{Counts}
 use Rattle.string_walk.specs.declared.Cursor.{Cursor}
 use Rattle.string_walk.specs.declared.Visited.{Visited}
 use Rattle.string_walk.specs.Places.{countsOf, VisitedOf}
+use Rattle.string_walk.specs.Records.{isRanked}
+use Rattle.string_walk.proofs.RecordLaws.{record-is}
 use Rattle.string_walk.proofs.WalkLaws.{pass-visits}
-use Rattle.reader.specs.declared.StringPlace.{StringPlace}
-use Rattle.reader.specs.Reading.{imagePlace}
-use Rattle.reader.proofs.PassLaws.{read-as}
 use Rattle.reader.proofs.ReadingLaws.{counts}
-use Rattle.facts.specs.Facts.{factsOfPlace, factsOfString, stringFactCount, factsFrom, stringsTold, stringFactsFrom}
+use Rattle.facts.proofs.FactLaws.{parts-are}
+use Rattle.facts.specs.Facts.{factsOfParts, factsOfString, stringFactCount, factsFrom, stringsTold, stringFactsFrom}
 
 -- ---- one string of the pass
 
--- a string was visited, and its place and its counts make its facts
-pub record Row (p : Places) (s : List ℕ) (c : Cursor) (r : Visited) (q : StringPlace) (n : Counts) (row : List ℕ) : Type 0 where
+-- a string was visited, and its record and its counts make its facts
+pub record Row (p : Places) (s : List ℕ) (c : Cursor) (r : Visited) (n : Counts) (row : List ℕ) : Type 0 where
   pub placed : Placed p s
   pub visited : VisitedOf p s c r
-  pub place : q ≡ imagePlace p (r .place) (r .identifier)
   pub counts : n ≡ countsOf (r .next)
-  pub facts : row ≡ factsOfPlace q n
+  pub facts : row ≡ factsOfParts (r .string .start) (asPlace (r .string .place)) (isRanked (r .string .rank)) n
 
-module _ (p : Places) (s : List ℕ) (c : Cursor) (r : Visited) (q : StringPlace) (n : Counts) (row : List ℕ)
-    (h : Row p s c r q n row) where
+module _ (p : Places) (s : List ℕ) (c : Cursor) (r : Visited) (n : Counts) (row : List ℕ) (h : Row p s c r n row) where
   -- they are those of locating it by itself
   pub row-is : row ≡ factsOfString (p .layout) s (c .id)
-  unfolding factsOfString
   row-is =
-      let place = read-as p s (h .placed) (c .id) (r .place) (h .visited .place) q
-      (h .place ∙ ap (imagePlace p (r .place)) (h .visited .identifier)) .is in
-      h .facts ∙ rw (place, pass-visits p s c r (h .visited) n (h .counts))
+      h .facts ∙ parts-are (p .layout) s (c .id) (r .string) n (record-is p s (h .placed) (c .id) (r .string) (h .visited .string))
+      (pass-visits p s c r (h .visited) n (h .counts))
 
 -- ---- behind those of the strings before it
 

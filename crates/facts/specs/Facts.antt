@@ -10,14 +10,16 @@ use Rattle.bits.specs.Choice.{pick}
 use Rattle.bits.specs.Outcome.{Outcome, outcomeFor}
 use Rattle.format.specs.declared.Layout.{Layout}
 use Rattle.format.specs.Table as table
+use Rattle.format.specs.Entry.{Place}
 use Rattle.footer.specs.Footer.{footerLength, verified}
 use Rattle.image.specs.Sections.{functionsIn, kindsIn, identifiersIn, stringsIn, overflowsIn, storageIn, recordAt, kindsAt}
 use Rattle.image.specs.Sections.{hashesAt, smallAt, overAt, storageAt, tailAt}
+use Rattle.image.specs.Strings.{placeAt, sizeOf}
+use Rattle.image.specs.Kinds.{isIdentifier}
 use Rattle.image.specs.Admission.{refusal}
 use Rattle.string_walk.specs.declared.Counts.{Counts}
 use Rattle.string_walk.specs.Walk.{visits}
-use Rattle.reader.specs.declared.StringPlace.{StringPlace}
-use Rattle.reader.specs.Reading.{idRefusal, stringPlace}
+use Rattle.reader.specs.Reading.{idRefusal}
 
 -- ---- of an image
 
@@ -56,8 +58,8 @@ imageFacts l s = outcomeFor (refusal l s) (factsOf l s)
 
 -- where its bytes start, how many there are, how many units, whether it is wide, whether it is an identifier; and how many small
 -- entries and overflow pairs locating it visits (02, No. 9)
-abbrev pub factsOfPlace : StringPlace → Counts → List ℕ
-factsOfPlace p c = p .start ∷ p .size ∷ p .count ∷ flag (p .wide) ∷ flag (p .identifier) ∷ c .small ∷ c .over ∷ []
+abbrev pub factsOfParts : ℕ → Place → Bool → Counts → List ℕ
+factsOfParts start q identifier c = start ∷ sizeOf q ∷ q .count ∷ flag (q .wide) ∷ flag identifier ∷ c .small ∷ c .over ∷ []
 
 -- how many numbers those are
 abbrev pub stringFactCount : ℕ
@@ -65,7 +67,9 @@ stringFactCount = 7
 
 -- those of string id
 unfoldable pub factsOfString : Layout → List ℕ → ℕ → List ℕ
-factsOfString l s id = factsOfPlace (stringPlace l s id) (visits l s id)
+factsOfString l s id =
+    let q = placeAt l s id in
+    factsOfParts (storageAt l s + q .at) q (isIdentifier l s id) (visits l s id)
 
 -- or the refusal: 1 to 6, then 7
 unfoldable pub stringFacts : Layout → List ℕ → ℕ → Outcome

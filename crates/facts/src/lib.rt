@@ -3,9 +3,9 @@
 use admission::Admission;
 use bits::Answer;
 use format::Layout;
-use reader::StringPlace;
 use reader::StringRead;
 use sections::Places;
+use string_tables::Place;
 use string_walk::Counts;
 use string_walk::Cursor;
 ghost use mathlib.Core.Path.{_≡_};
@@ -14,9 +14,10 @@ ghost use lib.ListN.{length};
 ghost use lib.Seq.{sets};
 ghost use Rattle.bits.specs.Outcome.{made, roomed, Answers};
 ghost use Rattle.sections.specs.Places.{Placed, Laid};
+ghost use Rattle.string_tables.specs.Strings.{asPlace};
 ghost use Rattle.string_walk.specs.Places.{CursorOf};
 ghost use Rattle.facts.specs.Facts.{flag as Facts·flag, factsOf, imageFacts};
-ghost use Rattle.facts.specs.Facts.{factsOfPlace, stringFactCount, factsOfString, stringFacts, factsFrom, stringFactsFrom};
+ghost use Rattle.facts.specs.Facts.{factsOfParts, stringFactCount, factsOfString, stringFacts, factsFrom, stringFactsFrom};
 
 // A fact that holds or not: 1 or 0.
 fn flag(holds: bool) -> u64
@@ -103,15 +104,22 @@ pub fn image_facts(image: &[u8], layout: Layout, out: &mut [u64]) -> Answer
 // are visited to find it.
 const STRING_FACTS: usize = 7;
 
-fn facts_of_place(place: StringPlace, counts: Counts) -> [u64; STRING_FACTS]
-    ensures { λ r. ⌜ r ≡ factsOfPlace place counts ⌝ }
+fn facts_of_parts(
+    start: usize,
+    place: Place,
+    identifier: bool,
+    counts: Counts,
+) -> [u64; STRING_FACTS]
+    requires { ⌜ place .count < 4294967296 ⌝ }
+    ensures { λ r. ⌜ r ≡ factsOfParts start (asPlace place) identifier counts ⌝ }
 {
+    let size = string_tables::size_of(place);
     [
-        place.start as u64,
-        place.size as u64,
+        start as u64,
+        size as u64,
         place.count as u64,
         flag(place.wide),
-        flag(place.identifier),
+        flag(identifier),
         counts.small as u64,
         counts.over as u64,
     ]
@@ -123,10 +131,16 @@ pub fn string_facts(image: &[u8], layout: Layout, id: usize, out: &mut [u64]) ->
         (now (out .exit)) ⌝ }
 {
     let read = reader::string(image, layout, id);
-    let StringRead::Found(place, counts) = read else {
+    let StringRead::Found(string, counts) = read else {
         return Answer::Refused(reader::string_number(read));
     };
-    told(&facts_of_place(place, counts), out)
+    let place = string.place;
+    let rank = string.rank;
+    let identifier = string_walk::is_identifier(rank);
+    told(
+        &facts_of_parts(string.start, place, identifier, counts),
+        out,
+    )
 }
 
 // ---- many strings, in one pass
@@ -140,8 +154,12 @@ fn put_string(image: &[u8], p: Places, c: Cursor, out: &mut [u64], at: usize) ->
     ensures { λ _. ⌜ now (out .exit) ≡ sets (now (out .entry)) at (factsOfString (p .layout) (now (image .entry)) (c .id)) ⌝ }
 {
     let step = string_walk::string_at(image, p, c);
-    let place = reader::in_image(p, step.place, step.identifier);
-    let facts = facts_of_place(place, string_walk::counts_of(step.next));
+    let string = step.string;
+    let place = string.place;
+    let rank = string.rank;
+    let identifier = string_walk::is_identifier(rank);
+    let counts = string_walk::counts_of(step.next);
+    let facts = facts_of_parts(string.start, place, identifier, counts);
     put_numbers(out, at, &facts);
     step.next
 }

@@ -14,16 +14,18 @@ use Rattle.bits.proofs.ByteLaws.{length-bytesAt, bytesAt-take}
 use Rattle.bits.proofs.OutcomeLaws.{told-short, told-fits, refused-read, found-read}
 use Rattle.format.specs.declared.Layout.{Layout}
 use Rattle.image.specs.Sections.{functionsIn, stringsIn}
-use Rattle.image.specs.Strings.{stringOf}
+use Rattle.image.specs.Strings.{sizeOf, stringOf}
 use Rattle.image.specs.Functions.{bodyOf}
 use Rattle.function_table.specs.declared.Function.{Function}
 use Rattle.function_table.specs.declared.FunctionRead.{FunctionRead}
 use Rattle.function_table.specs.declared.FunctionRead.the-variants as function-is
+use Rattle.string_tables.specs.Strings.{asPlace}
 use Rattle.string_walk.specs.declared.Counts.{Counts}
-use Rattle.reader.specs.declared.StringPlace.{StringPlace}
+use Rattle.string_walk.specs.declared.StringRecord.{StringRecord}
+use Rattle.string_walk.specs.Records.{recordOf}
 use Rattle.reader.specs.declared.StringRead.{StringRead}
 use Rattle.reader.specs.declared.StringRead.the-variants as string-is
-use Rattle.reader.specs.Reading.{idRefusal, stringPlace, stringRead, stringNumber, bodyRead, bodyNumber}
+use Rattle.reader.specs.Reading.{idRefusal, stringRead, stringNumber, bodyRead, bodyNumber}
 use Rattle.reader.proofs.PartLaws.{string-out, string-at, body-out, body-at}
 use Rattle.hbc.specs.Reads.{stringReading, bodyReading}
 
@@ -54,14 +56,15 @@ module _ (l : Layout) (s : List ℕ) (id room : ℕ) (old : List ℕ) where
         let (h, x) = string-out l s id r e k f in
         refused-read (idRefusal l s (stringsIn s) id) n (stringOf l s id .bytes) (h, x ∙ sym (g ∙ ap stringNumber f)) old room
 
-    pub a-string : (q : StringPlace) (c : Counts) (a : Answer) (new : List ℕ) → r ≡ string-is.Found q c
-        → Answers (roomed room (made (bytesAt s (q .start) (q .size)))) a old new
+    pub a-string : (q : StringRecord) (c : Counts) (n : ℕ) (a : Answer) (new : List ℕ) → r ≡ string-is.Found q c
+        → n ≡ sizeOf (asPlace (q .place))
+        → Answers (roomed room (made (bytesAt s (q .start) n))) a old new
         → Answers (roomed room (stringReading l s id)) a old new
-    unfolding stringReading stringOf stringPlace
-    a-string q c a new f w =
+    unfolding stringReading stringOf recordOf
+    a-string q c n a new f m w =
         let (z, p, _) = string-at l s id r e q c f in
         found-read (idRefusal l s (stringsIn s) id) _ _ (roomed room) a old new z
-        (ap (λ (y : StringPlace). bytesAt s (y .start) (y .size)) p) w
+        (ap (bytesAt s (q .start)) m ∙ ap (λ (y : StringRecord). bytesAt s (y .start) (sizeOf (asPlace (y .place)))) p) w
 
   module _ (r : FunctionRead) (e : r ≡ bodyRead l s id) where
     pub no-body : (k : ℕ) → r ≡ function-is.Refused k → (n : ℕ) → n ≡ bodyNumber r

@@ -160,10 +160,15 @@ fn read_string(image: &[u8], layout: Layout, id: usize, out: &mut [u8]) -> Answe
         (now (out .exit)) ⌝ }
 {
     let read = reader::string(image, layout, id);
-    let StringRead::Found(place, _) = read else {
+    let StringRead::Found(string, _) = read else {
         return Answer::Refused(reader::string_number(read));
     };
-    copied(image, place.start, place.size, out)
+    copied(
+        image,
+        string.start,
+        string_tables::size_of(string.place),
+        out,
+    )
 }
 
 fn read_body(image: &[u8], layout: Layout, id: usize, out: &mut [u8]) -> Answer

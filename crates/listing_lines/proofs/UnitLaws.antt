@@ -9,8 +9,10 @@ use lib.Seq.{sets}
 use Rattle.bits.proofs.WriteLaws.{sets-append}
 use Rattle.image.specs.Strings.{unitSize}
 use Rattle.string_walk.specs.Units.{unitAt}
-use Rattle.text.specs.Text.{hex4, hexes}
-use Rattle.listing_lines.specs.Lines.{closing, unitsShown}
+use Rattle.text.specs.Text.{hex4, hexes, hex8}
+use Rattle.listing_lines.specs.declared.Slot.{Slot}
+use Rattle.listing_lines.specs.declared.Slot.the-variants.{Hash, None}
+use Rattle.listing_lines.specs.Lines.{slotWord, gap, unitsShown}
 
 pub length-hex : (u : ℕ) → length (hex4 u) ≡ 4
 unfolding hex4
@@ -81,10 +83,15 @@ module _ (s : List ℕ) (start : ℕ) (wide : Bool) (first n : ℕ) where
 
 -- ---- the end of a line
 
-pub closing-none : (n : ℕ) → n ≡ 0 → closing n ≡ 0x2D ∷ 10 ∷ []
-closing-none zero e = refl
-closing-none (suc n) e = absurd (omega arith)
+pub gap-none : (n : ℕ) → n ≡ 0 → gap n ≡ 0x2D ∷ 32 ∷ []
+gap-none zero e = refl
+gap-none (suc n) e = absurd (omega arith)
 
-pub closing-some : (n : ℕ) → (n ≡ 0 → ⊥) → closing n ≡ 10 ∷ []
-closing-some zero e = absurd (e refl)
-closing-some (suc n) e = refl
+pub gap-some : (n : ℕ) → (n ≡ 0 → ⊥) → gap n ≡ 32 ∷ []
+gap-some zero e = absurd (e refl)
+gap-some (suc n) e = refl
+
+pub length-slot : (slot : Slot) → length (slotWord slot) ≤ 8
+unfolding hex4 hex8
+length-slot (Hash h) = omega arith
+length-slot None = omega arith

@@ -1,12 +1,14 @@
 -- The lines that the listing program prints. 01, Programs.
 -- docs/FORMAT.md: Listing.
 use mathlib.Core.Bool.{Bool}
-use mathlib.Core.List.{List, [], _∷_}
+use mathlib.Core.List.{List, [], _∷_, _++_}
 use Prim.Native.Nat.{ℕ, zero, suc}
 use lib.ListN.{length}
 use Rattle.bits.specs.Choice.{pick}
 use Rattle.string_walk.specs.Units.{unitAt}
-use Rattle.text.specs.Text.{lineFeed, decimal, hexes, line}
+use Rattle.text.specs.Text.{space, lineFeed, decimal, hexes, hex8, line}
+use Rattle.listing_lines.specs.declared.Slot.{Slot}
+use Rattle.listing_lines.specs.declared.Slot.the-variants.{Hash, None}
 
 -- a word of one letter
 abbrev pub letter : ℕ → List ℕ
@@ -31,14 +33,23 @@ abbrev pub unitsWord : List ℕ → List ℕ
 unitsWord [] = letter 0x2D
 unitsWord (u ∷ us) = hexes (u ∷ us)
 
--- what stands behind so many units, with the dash in place of none
-abbrev pub closing : ℕ → List ℕ
-closing zero = 0x2D ∷ lineFeed ∷ []
-closing (suc n) = lineFeed ∷ []
+-- 02, No. 5: "a last field: the stored hash slot in eight hex digits, or `-` for a plain string"
+abbrev pub slotWord : Slot → List ℕ
+slotWord (Hash h) = hex8 h
+slotWord None = letter 0x2D
 
--- the line of a string by its units
-unfoldable pub stringLine : ℕ → Bool → Bool → List ℕ → List ℕ
-stringLine id wide identifier units = line (stringWords id wide identifier (length units)) (unitsWord units)
+-- the line of a string by its units and its slot
+unfoldable pub stringLine : ℕ → Bool → Bool → List ℕ → Slot → List ℕ
+stringLine id wide identifier units slot = line (stringWords id wide identifier (length units) ++ (unitsWord units ∷ [])) (slotWord slot)
+
+-- what stands between so many units and the last field: the dash in place of none, and a space
+abbrev pub gap : ℕ → List ℕ
+gap zero = 0x2D ∷ space ∷ []
+gap (suc n) = space ∷ []
+
+-- what stands behind so many units
+abbrev pub closing : ℕ → Slot → List ℕ
+closing n slot = gap n ++ (slotWord slot ++ (lineFeed ∷ []))
 
 -- "`f`: id, o overflowed or p plain, body start, size"
 unfoldable pub functionLine : ℕ → Bool → ℕ → ℕ → List ℕ

@@ -7,7 +7,14 @@ ghost use lib.ListN.{length};
 ghost use Rattle.bits.specs.Choice.{pick};
 ghost use Rattle.image.specs.Strings.{unitSize};
 ghost use Rattle.text.specs.Text.{space, hexes, spaced, Wrote};
-ghost use Rattle.listing_lines.specs.Lines.{letter, refusedLine, countsLine, stringWords, closing, functionLine, unitsShown};
+ghost use Rattle.listing_lines.specs.Lines.{letter, refusedLine, countsLine, stringWords, slotWord, gap, closing};
+ghost use Rattle.listing_lines.specs.Lines.{functionLine, unitsShown};
+
+// The last field of a string's line: the hash that is stored for an identifier; a plain string has none.
+pub enum Slot {
+    Hash(u64),
+    None,
+}
 
 const SPACE: u8 = 32;
 
@@ -109,13 +116,35 @@ pub fn put_units(
     at + n * 4
 }
 
-// The end of a string's line, behind its units: a dash stands in place of none.
-pub fn put_closing(out: &mut [u8], at: usize, count: usize) -> usize
+// ---- the end of a string's line
+
+// What stands between a string's units and its last field: a dash stands in place of none.
+fn put_gap(out: &mut [u8], at: usize, count: usize) -> usize
     requires { ⌜ at + 2 ≤ length (now out) ⌝ }
-    ensures { λ r. ⌜ Wrote (now (out .entry)) at (closing count) r (now (out .exit)) × (r ≤ at + 2) ⌝ }
+    ensures { λ r. ⌜ Wrote (now (out .entry)) at (gap count) r (now (out .exit)) × (r ≤ at + 2) ⌝ }
 {
     if count == 0 {
-        return text::put_text(out, at, b"-\n");
+        return text::put_text(out, at, b"- ");
     }
-    text::put_text(out, at, b"\n")
+    text::put_text(out, at, b" ")
+}
+
+fn put_slot(out: &mut [u8], at: usize, slot: Slot) -> usize
+    requires { ⌜ at + 8 ≤ length (now out) ⌝ }
+    ensures { λ r. ⌜ Wrote (now (out .entry)) at (slotWord slot) r (now (out .exit)) × (r ≤ at + 8) ⌝ }
+{
+    match slot {
+        Slot::Hash(hash) => text::put_hex_word(out, at, hash),
+        Slot::None => text::put_text(out, at, b"-"),
+    }
+}
+
+// All that stands behind a string's units.
+pub fn put_closing(out: &mut [u8], at: usize, count: usize, slot: Slot) -> usize
+    requires { ⌜ at + 11 ≤ length (now out) ⌝ }
+    ensures { λ r. ⌜ Wrote (now (out .entry)) at (closing count slot) r (now (out .exit)) × (r ≤ at + 11) ⌝ }
+{
+    let a = put_gap(out, at, count);
+    let b = put_slot(out, a, slot);
+    text::put_text(out, b, b"\n")
 }

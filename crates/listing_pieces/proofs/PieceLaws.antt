@@ -11,10 +11,14 @@ use lib.Seq.{drop-cons, drop-drop}
 use Rattle.bits.proofs.TestLaws.{below-or}
 use Rattle.format.specs.declared.Layout.{Layout}
 use Rattle.image.specs.Sections.{functionsIn, stringsIn}
+use Rattle.image.specs.Strings.{stringOf}
+use Rattle.image.specs.Kinds.{isIdentifier}
 use Rattle.text.specs.Text.{hex4, hexes, spaced}
-use Rattle.listing_lines.specs.Lines.{stringLine, functionLine, unitsWord, closing}
+use Rattle.text.proofs.TextLaws.{spaced-snoc}
+use Rattle.listing_lines.specs.declared.Slot.{Slot}
+use Rattle.listing_lines.specs.Lines.{stringWords, stringLine, functionLine, unitsWord, slotWord, closing}
 use Rattle.listing_lines.proofs.UnitLaws.{length-hexes}
-use Rattle.listing_pieces.specs.Listing.{linesFrom, stringLineIn, functionLineIn, listed}
+use Rattle.listing_pieces.specs.Listing.{linesFrom, slotOf, stringLineIn, functionLineIn, listed}
 use Rattle.listing_pieces.specs.Pieces.{Spot, counts, strings, units, functions, end, unitsIn, chunk, stringStart}
 use Rattle.listing_pieces.specs.Pieces.{stringsLeft, left, pieceAt, nextOf, pieces, isEnd, after, phase, steps}
 
@@ -39,11 +43,12 @@ no-hexes : (a b : List ℕ) → (hexes [] ++ a) ++ b ≡ a ++ b
 unfolding hexes
 no-hexes a b = refl
 
--- the last word of a string's line and its line feed
-line-closes : (us : List ℕ) → unitsWord us ++ (10 ∷ []) ≡ hexes us ++ closing (length us)
+-- the last two words of a string's line and its line feed
+line-closes : (us : List ℕ) (slot : Slot)
+    → (unitsWord us ++ (32 ∷ [])) ++ (slotWord slot ++ (10 ∷ [])) ≡ hexes us ++ closing (length us) slot
 unfolding hexes
-line-closes [] = refl
-line-closes (u ∷ us) = refl
+line-closes [] slot = refl
+line-closes (u ∷ us) slot = append-assoc (hexes (u ∷ us)) (32 ∷ []) (slotWord slot ++ (10 ∷ []))
 
 regroup : (a b c d : List ℕ) → ((a ++ b) ++ c) ++ d ≡ a ++ (b ++ (c ++ d))
 regroup a b c d = append-assoc (a ++ b) c d ∙ append-assoc a b (c ++ d)
@@ -52,9 +57,15 @@ regroup′ : (a b c d : List ℕ) → ((a ++ b) ++ c) ++ d ≡ a ++ ((b ++ c) ++
 regroup′ a b c d = regroup a b c d ∙ ap (λ (z : List ℕ). a ++ z) (sym (append-assoc b c d))
 
 module _ (l : Layout) (s : List ℕ) where
-  line-is : (i : ℕ) → stringLineIn l s i ≡ stringStart l s i ++ (hexes (unitsIn l s i) ++ closing (length (unitsIn l s i)))
+  line-is : (i : ℕ)
+      → stringLineIn l s i ≡ stringStart l s i ++ (hexes (unitsIn l s i) ++ closing (length (unitsIn l s i)) (slotOf l s i))
   unfolding stringLineIn stringLine stringStart
-  line-is i = rw (line-closes (unitsIn l s i))
+  line-is i =
+      let us : List ℕ = unitsIn l s i in
+      let ws : List (List ℕ) = stringWords i (stringOf l s i .wide) (isIdentifier l s i) (length us) in
+      let end : List ℕ = slotWord (slotOf l s i) ++ (10 ∷ []) in
+      ap (λ (z : List ℕ). z ++ end) (spaced-snoc ws (unitsWord us)) ∙ append-assoc (spaced ws) (unitsWord us ++ (32 ∷ [])) end
+      ∙ ap (λ (z : List ℕ). spaced ws ++ z) (line-closes us (slotOf l s i))
 
   -- ---- what is left is the next piece, and what is left behind it
 
@@ -62,7 +73,7 @@ module _ (l : Layout) (s : List ℕ) where
       ++ left l s (nextOf l s (strings i))
   unfolding stringsLeft
   strings-left i (inl h) =
-      let us : List ℕ = hexes (unitsIn l s i) ++ closing (length (unitsIn l s i)) in
+      let us : List ℕ = hexes (unitsIn l s i) ++ closing (length (unitsIn l s i)) (slotOf l s i) in
       rw (lt-ltb i (stringsIn s) h, lines-next (stringLineIn l s) i (stringsIn s) h, line-is i)
       (regroup (stringStart l s i) us (linesFrom (stringLineIn l s) (i + 1) (stringsIn s - (i + 1)))
       (linesFrom (functionLineIn l s) 0 (functionsIn s)))
@@ -75,10 +86,11 @@ module _ (l : Layout) (s : List ℕ) where
   units-left i j (inl h) =
       let us : List ℕ = unitsIn l s i in
       rw (lt-ltb j (length us) h, hexes-split chunk (drop j us), drop-drop chunk j us)
-      (regroup′ (hexes (take chunk (drop j us))) (hexes (drop (j + chunk) us)) (closing (length us)) (stringsLeft l s (i + 1)))
+      (regroup′ (hexes (take chunk (drop j us))) (hexes (drop (j + chunk) us)) (closing (length us) (slotOf l s i))
+      (stringsLeft l s (i + 1)))
   units-left i j (inr h) =
       rw (le-ltb j (length (unitsIn l s i)) h, drop-of-length-le (unitsIn l s i) h)
-      (no-hexes (closing (length (unitsIn l s i))) (stringsLeft l s (i + 1)))
+      (no-hexes (closing (length (unitsIn l s i)) (slotOf l s i)) (stringsLeft l s (i + 1)))
 
   functions-left : (i : ℕ) → (i < functionsIn s) ⊎ (functionsIn s ≤ i) → left l s (functions i) ≡ pieceAt l s (functions i)
       ++ left l s (nextOf l s (functions i))
@@ -116,16 +128,16 @@ module _ (l : Layout) (s : List ℕ) where
   strings-fall i (inl h) = rw (lt-ltb i (stringsIn s) h) (omega arith)
   strings-fall i (inr h) = rw (le-ltb i (stringsIn s) h) (omega arith)
 
-  closing-some : (n : ℕ) → 0 < length (closing n)
-  closing-some zero = omega arith
-  closing-some (suc n) = omega arith
+  closing-some : (n : ℕ) (slot : Slot) → 0 < length (closing n slot)
+  closing-some zero slot = omega arith
+  closing-some (suc n) slot = omega arith
 
   units-fall : (i j : ℕ) → (j < length (unitsIn l s i)) ⊎ (length (unitsIn l s i) ≤ j)
       → phase (nextOf l s (units i j)) < length (pieceAt l s (units i j)) + phase (units i j)
   units-fall i j (inl h) =
       let us : List ℕ = unitsIn l s i in
       rw (lt-ltb j (length us) h, drop-cons us j 0 h) (omega (arith, length-hexes (take chunk (getD us j 0 ∷ drop (suc j) us))))
-  units-fall i j (inr h) = rw (le-ltb j (length (unitsIn l s i)) h) (omega (arith, closing-some (length (unitsIn l s i))))
+  units-fall i j (inr h) = rw (le-ltb j (length (unitsIn l s i)) h) (omega (arith, closing-some (length (unitsIn l s i)) (slotOf l s i)))
 
   functions-fall : (i : ℕ) → (i < functionsIn s) ⊎ (functionsIn s ≤ i)
       → phase (nextOf l s (functions i)) < length (pieceAt l s (functions i)) + phase (functions i)

@@ -14,25 +14,31 @@ use Rattle.bits.proofs.TestLaws.{below-or}
 use Rattle.bits.proofs.WriteLaws.{sets-append}
 use Rattle.image.specs.Sections.{functionsIn, stringsIn}
 use Rattle.image.specs.Strings.{Str, stringOf, unitSize}
+use Rattle.image.specs.Kinds.{isIdentifier, rankOf, hashIn}
 use Rattle.image.specs.Functions.{Func, funcOf}
 use Rattle.sections.specs.declared.Places.{Places}
-use Rattle.sections.specs.Places.{Placed}
+use Rattle.sections.specs.Places.{Placed, Laid}
 use Rattle.sections.proofs.SectionLaws.{sectioned}
 use Rattle.function_table.specs.declared.Function.{Function}
 use Rattle.function_table.specs.Functions.{asFunc}
 use Rattle.string_walk.specs.declared.Cursor.{Cursor}
-use Rattle.string_walk.specs.Places.{CursorOf}
-use Rattle.reader.specs.declared.StringPlace.{StringPlace}
-use Rattle.reader.specs.Reading.{ReadAs}
-use Rattle.reader.proofs.StringLaws.{read-string, read-flag, read-size, read-count, read-unit}
+use Rattle.string_walk.specs.declared.Rank.{Rank}
+use Rattle.string_walk.specs.declared.Rank.the-variants.{At, Plain}
+use Rattle.string_walk.specs.declared.StringRecord.{StringRecord}
+use Rattle.string_walk.specs.Records.{rankIn, isRanked}
+use Rattle.string_walk.specs.Places.{Stands, CursorOf}
+use Rattle.string_walk.proofs.RankLaws.{ranked-flag, is-ranked, is-plain, rank-slot}
+use Rattle.string_walk.proofs.RecordLaws.{record-string, record-count, record-unit, units-inside}
 use Rattle.text.specs.Text.{hexes, spaced, Wrote}
+use Rattle.listing_lines.specs.declared.Slot.{Slot}
+use Rattle.listing_lines.specs.declared.Slot.the-variants.{Hash, None}
 use Rattle.listing_lines.specs.Lines.{countsLine, stringWords, functionLine, closing, unitsShown}
 use Rattle.listing_pieces.specs.declared.Point.{Point}
 use Rattle.listing_pieces.specs.declared.Point.the-variants.{Counts, Strings, Units, Functions, End}
 use Rattle.listing_pieces.specs.declared.Piece.{Piece}
-use Rattle.listing_pieces.specs.Listing.{functionLineIn}
+use Rattle.listing_pieces.specs.Listing.{slotOf, functionLineIn}
 use Rattle.listing_pieces.specs.Pieces.{strings, units, functions, unitsIn, chunk, stringStart, pieceAt, isEnd, pieces}
-use Rattle.listing_pieces.specs.Pieces.{after, steps, spotOf, Good, Gives, batch, GivesAll}
+use Rattle.listing_pieces.specs.Pieces.{after, steps, spotOf, InString, slotAt, Good, Gives, batch, GivesAll}
 use Rattle.listing_pieces.proofs.PieceLaws.{after-falls}
 
 -- a piece that ends somewhere, and a point to go on from
@@ -51,12 +57,12 @@ pub record CountsPut (p : Places) (s old new : List ℕ) (at end : ℕ) (c : Cur
   pub first : c .id ≡ 0
 
 -- the start of a string's line is put: q is the string, and next the cursor behind it
-pub record StringPut (p : Places) (s old new : List ℕ) (at end : ℕ) (c next : Cursor) (q : StringPlace) : Type 0 where
+pub record StringPut (p : Places) (s old new : List ℕ) (at end : ℕ) (c next : Cursor) (q : StringRecord) : Type 0 where
   pub known : c .id < p .strings
-  pub read : ReadAs (p .layout) s (c .id) q
+  pub stands : Stands p s (c .id) q
   pub cursor : CursorOf p s next
   pub id : next .id ≡ c .id + 1
-  pub wrote : Wrote old at (spaced (stringWords (c .id) (q .wide) (q .identifier) (q .count))) end new
+  pub wrote : Wrote old at (spaced (stringWords (c .id) (q .place .wide) (isRanked (q .rank)) (q .place .count))) end new
   pub most : end ≤ at + 48
 
 module _ (p : Places) (s : List ℕ) (h : Placed p s) (old new : List ℕ) (at end : ℕ) where
@@ -80,19 +86,26 @@ module _ (p : Places) (s : List ℕ) (h : Placed p s) (old new : List ℕ) (at e
       let e : ltb (c .id) (stringsIn s) ≡ false = le-ltb (c .id) (stringsIn s) (omega (arith, sectioned p s h .strings)) in
       record { wrote = rw e (omega arith, refl); next = rw e; good = tt; most = omega arith }
 
-  pub gives-string : (c next : Cursor) (q : StringPlace) → StringPut p s old new at end c next q
+  pub gives-string : (c next : Cursor) (q : StringRecord) → StringPut p s old new at end c next q
       → Gives p s old at (Strings c) (piece end (Units q 0 next)) new
   unfolding stringStart
   gives-string c next q x =
-      let r : ReadAs (p .layout) s (c .id) q = x .read in
+      let r : Stands p s (c .id) q = x .stands in
       let e : ltb (c .id) (stringsIn s) ≡ true = lt-ltb (c .id) (stringsIn s) (omega (arith, sectioned p s h .strings)) in
       let i : c .id ≡ next .id - 1 = omega arith in
-      let wd : q .wide ≡ stringOf (p .layout) s (c .id) .wide = ap (λ (t : Str). t .wide) (read-string (p .layout) s (c .id) q r) in
+      let wd : q .place .wide ≡ stringOf (p .layout) s (c .id) .wide = ap (λ (t : Str). t .wide) (record-string p s h (c .id) q r) in
+      let flag : isRanked (q .rank) ≡ isIdentifier (p .layout) s (c .id)
+      = ap isRanked (r .rank) ∙ ranked-flag (p .layout) s (c .id) in
       record {
         wrote = rw e (subst (λ (x : List ℕ). Wrote old at x end new)
-            (same-start (c .id) _ _ _ _ _ _ wd (read-flag (p .layout) s (c .id) q r) (read-count (p .layout) s (c .id) q r)) (x .wrote));
+            (same-start (c .id) _ _ _ _ _ _ wd flag (record-count p s h (c .id) q r)) (x .wrote));
         next = rw e (ap (λ (j : ℕ). units j 0) (sym i));
-        good = (subst (λ (j : ℕ). ReadAs (p .layout) s j q) i r, x .cursor, omega arith);
+        good = record {
+          stands = subst (λ (j : ℕ). Stands p s j q) i r;
+          cursor = x .cursor;
+          some = omega arith;
+          known = omega (arith, x .known);
+        };
         most = omega arith;
       }
 
@@ -102,96 +115,113 @@ module _ (p : Places) (s : List ℕ) (h : Placed p s) (old new : List ℕ) (at e
 abbrev us : Places → List ℕ → Cursor → List ℕ
 us p s next = unitsIn (p .layout) s (next .id - 1)
 
-module _ (p : Places) (s : List ℕ) (q : StringPlace) (j : ℕ) (next : Cursor) (g : Good p s (Units q j next)) where
-  count-is : q .count ≡ length (us p s next)
-  count-is = read-count (p .layout) s (next .id - 1) q (g .0)
+module _ (p : Places) (s : List ℕ) (laid : Laid p s) (q : StringRecord) (next : Cursor) (g : InString p s q next) where
+  count-is : q .place .count ≡ length (us p s next)
+  count-is = record-count p s (laid .placed) (next .id - 1) q (g .stands)
 
   -- units one by one are those of the string
-  listed-units : (n i : ℕ) → i + n ≤ q .count → unitsShown s (q .start) (q .wide) i n ≡ take n (drop i (us p s next))
+  listed-units : (n i : ℕ) → i + n ≤ q .place .count
+      → unitsShown s (q .start) (q .place .wide) i n ≡ take n (drop i (us p s next))
   unfolding unitsShown
   listed-units zero i k = refl
   listed-units (suc n) i k =
       rw (
         drop-cons (us p s next) i 0 (omega (arith, count-is)),
-        ← read-unit (p .layout) s (next .id - 1) q (g .0) i (omega arith),
-        listed-units n
-            (suc i) (omega arith),
+        ← record-unit p s (laid .placed) (next .id - 1) q (g .stands) i (omega arith),
+        listed-units n (suc i) (omega arith),
       )
 
-  left-length : length (drop j (us p s next)) ≡ q .count - j
-  left-length = length-drop j (us p s next) ∙ ap (λ (n : ℕ). n - j) (sym count-is)
+  left-length : (j : ℕ) → length (drop j (us p s next)) ≡ q .place .count - j
+  left-length j = length-drop j (us p s next) ∙ ap (λ (n : ℕ). n - j) (sym count-is)
 
   -- there is room for them, and they lie in the image
-  pub units-in : (n : ℕ) → j + n ≤ q .count → q .start + (j + n) * unitSize (q .wide) ≤ length s
-  units-in n k = go (q .wide) (read-size (p .layout) s (next .id - 1) q (g .0))
+  pub units-in : (j n : ℕ) → j + n ≤ q .place .count → q .start + (j + n) * unitSize (q .place .wide) ≤ length s
+  units-in j n k = units-inside p s (laid .placed) (next .id - 1) q (g .stands) (j + n) k
+
+  -- ---- its hash slot
+
+  pub slot-known : (k : ℕ) → q .rank ≡ At k → k < p .identifiers
+  slot-known = rank-slot p s laid (next .id - 1) (omega (arith, g .some, g .known)) (q .rank) (g .stands .rank)
+
+  slot-is : slotAt (p .layout) s (q .rank) ≡ slotOf (p .layout) s (next .id - 1)
+  unfolding slotOf
+  slot-is = go (q .rank) (g .stands .rank)
     where
-      go : (w : Bool) → q .size ≡ q .count * unitSize w → q .start + (j + n) * unitSize w ≤ length s
-      go true e = omega (arith, g .0 .inside)
-      go false e = omega (arith, g .0 .inside)
+      go : (r : Rank) → r ≡ rankIn (p .layout) s (next .id - 1) → slotAt (p .layout) s r ≡ pick
+          (isIdentifier (p .layout) s (next .id - 1)) (Hash (hashIn (p .layout) s (rankOf (p .layout) s (next .id - 1)))) None
+      go (At k) e =
+          let (t, f) = is-ranked (p .layout) s (next .id - 1) (At k) e k refl in
+          rw (t, f)
+      go Plain e = rw (is-plain (p .layout) s (next .id - 1) Plain e refl)
 
 -- no unit is left, and the end of the line is put
-pub record ClosingPut (p : Places) (s old new : List ℕ) (at end : ℕ) (q : StringPlace) (j : ℕ) (next : Cursor) : Type 0 where
-  pub good : Good p s (Units q j next)
-  pub none : q .count ≤ j
-  pub wrote : Wrote old at (closing (q .count)) end new
-  pub most : end ≤ at + 2
+pub record ClosingPut (p : Places) (s old new : List ℕ) (at end : ℕ) (q : StringRecord) (j : ℕ) (next : Cursor) (slot : Slot)
+    : Type 0 where
+  pub laid : Laid p s
+  pub line : InString p s q next
+  pub none : q .place .count ≤ j
+  pub read : slot ≡ slotAt (p .layout) s (q .rank)
+  pub wrote : Wrote old at (closing (q .place .count) slot) end new
+  pub most : end ≤ at + 11
 
-pub gives-closing : (p : Places) (s old new : List ℕ) (at end : ℕ) (q : StringPlace) (j : ℕ) (next : Cursor)
-    → ClosingPut p s old new at end q j next
+pub gives-closing : (p : Places) (s old new : List ℕ) (at end : ℕ) (q : StringRecord) (j : ℕ) (next : Cursor) (slot : Slot)
+    → ClosingPut p s old new at end q j next slot
     → Gives p s old at (Units q j next) (piece end (Strings next)) new
-gives-closing p s old new at end q j next x =
-    let c : q .count ≡ length (us p s next) = count-is p s q j next (x .good) in
+gives-closing p s old new at end q j next slot x =
+    let c : q .place .count ≡ length (us p s next) = count-is p s (x .laid) q next (x .line) in
     let e : ltb j (length (us p s next)) ≡ false = le-ltb j (length (us p s next)) (omega (arith, c)) in
+    let f : slot ≡ slotOf (p .layout) s (next .id - 1) = x .read ∙ slot-is p s (x .laid) q next (x .line) in
     record {
-      wrote = rw (e, ← c) (x .wrote);
-      next = rw e (ap strings (let i : next .id ≡ next .id - 1 + 1 = omega (arith, x .good .2) in i));
-      good = x .good .1;
+      wrote = rw (e, ← c, ← f) (x .wrote);
+      next = rw e (ap strings (let i : next .id ≡ next .id - 1 + 1 = omega (arith, x .line .some) in i));
+      good = x .line .cursor;
       most = omega arith;
     }
 
 -- n units are to be put from unit j on: as many as are left, and at most a chunk
-pub record Chunk (p : Places) (s : List ℕ) (q : StringPlace) (j : ℕ) (next : Cursor) (n : ℕ) : Type 0 where
-  pub good : Good p s (Units q j next)
-  pub some : j < q .count
-  pub least : n ≡ pick (ltb (q .count - j) chunk) (q .count - j) chunk
+pub record Chunk (p : Places) (s : List ℕ) (q : StringRecord) (j : ℕ) (next : Cursor) (n : ℕ) : Type 0 where
+  pub laid : Laid p s
+  pub line : InString p s q next
+  pub some : j < q .place .count
+  pub least : n ≡ pick (ltb (q .place .count - j) chunk) (q .place .count - j) chunk
 
-module _ {p : Places} {s : List ℕ} {q : StringPlace} {j : ℕ} {next : Cursor} {n : ℕ} (x : Chunk p s q j next n) where
-  pub least-units : (n ≤ chunk) × (j + n ≤ q .count)
-      × (unitsShown s (q .start) (q .wide) j n ≡ take chunk (drop j (us p s next)))
-  least-units = go (below-or (q .count - j) chunk)
+module _ {p : Places} {s : List ℕ} {q : StringRecord} {j : ℕ} {next : Cursor} {n : ℕ} (x : Chunk p s q j next n) where
+  pub least-units : (n ≤ chunk) × (j + n ≤ q .place .count)
+      × (unitsShown s (q .start) (q .place .wide) j n ≡ take chunk (drop j (us p s next)))
+  least-units = go (below-or (q .place .count - j) chunk)
     where
-      shown : j + n ≤ q .count → unitsShown s (q .start) (q .wide) j n ≡ take n (drop j (us p s next))
-      shown h = listed-units p s q j next (x .good) n j h
+      shown : j + n ≤ q .place .count → unitsShown s (q .start) (q .place .wide) j n ≡ take n (drop j (us p s next))
+      shown h = listed-units p s (x .laid) q next (x .line) n j h
 
-      few : length (drop j (us p s next)) ≡ q .count - j
-      few = left-length p s q j next (x .good)
+      few : length (drop j (us p s next)) ≡ q .place .count - j
+      few = left-length p s (x .laid) q next (x .line) j
 
-      go : (q .count - j < chunk) ⊎ (chunk ≤ q .count - j) → (n ≤ chunk) × (j + n ≤ q .count)
-          × (unitsShown s (q .start) (q .wide) j n ≡ take chunk (drop j (us p s next)))
+      go : (q .place .count - j < chunk) ⊎ (chunk ≤ q .place .count - j) → (n ≤ chunk) × (j + n ≤ q .place .count)
+          × (unitsShown s (q .start) (q .place .wide) j n ≡ take chunk (drop j (us p s next)))
       go (inl b) =
-          let m : n ≡ q .count - j = x .least ∙ rw (lt-ltb (q .count - j) chunk b) in (
+          let m : n ≡ q .place .count - j = x .least ∙ rw (lt-ltb (q .place .count - j) chunk b) in (
             omega arith,
             omega (arith, x .some),
             shown (omega (arith, x .some)) ∙ take-all n (drop j (us p s next)) (omega (arith, few))
                 ∙ sym (take-all chunk (drop j (us p s next)) (omega (arith, few))),
           )
       go (inr b) =
-          let m : n ≡ chunk = x .least ∙ rw (le-ltb (q .count - j) chunk b) in (
+          let m : n ≡ chunk = x .least ∙ rw (le-ltb (q .place .count - j) chunk b) in (
             omega arith,
             omega (arith, x .some),
             shown (omega (arith, x .some)) ∙ ap (λ (a : ℕ). take a (drop j (us p s next))) m,
           )
 
-  pub gives-units : (old new : List ℕ) (at end : ℕ) → Wrote old at (hexes (unitsShown s (q .start) (q .wide) j n)) end new
+  pub gives-units : (old new : List ℕ) (at end : ℕ) → Wrote old at (hexes (unitsShown s (q .start) (q .place .wide) j n)) end new
       → end ≡ at + n * 4
       → Gives p s old at (Units q j next) (piece end (Units q (j + 64) next)) new
   gives-units old new at end w v =
       let e : ltb j (length (us p s next)) ≡ true
-      = lt-ltb j (length (us p s next)) (omega (arith, x .some, count-is p s q j next (x .good))) in
+      = lt-ltb j (length (us p s next)) (omega (arith, x .some, count-is p s (x .laid) q next (x .line))) in
       record {
         wrote = rw (e, ← least-units .2) w;
         next = rw e;
-        good = x .good;
+        good = x .line;
         most = omega (arith, least-units .0);
       }
 

@@ -11,12 +11,14 @@ use Rattle.format.specs.declared.Layout.{Layout}
 use Rattle.footer.specs.Finalize.{sizeLimit}
 use Rattle.image.specs.Sections.{functionsIn, stringsIn}
 use Rattle.image.specs.Strings.{stringOf, unitsOf}
-use Rattle.image.specs.Kinds.{isIdentifier}
+use Rattle.image.specs.Kinds.{isIdentifier, rankOf, hashIn}
 use Rattle.image.specs.Functions.{funcOf}
 use Rattle.image.specs.Admission.{refusal}
 use Rattle.input_records.specs.declared.ImageHead.{ImageHead}
 use Rattle.input_records.specs.declared.ImageHead.the-variants.{Image, Refused}
 use Rattle.input_records.specs.Heads.{imageHeadLength, imageHead}
+use Rattle.listing_lines.specs.declared.Slot.{Slot}
+use Rattle.listing_lines.specs.declared.Slot.the-variants.{Hash, None}
 use Rattle.listing_lines.specs.Lines.{refusedLine, countsLine, stringLine, functionLine}
 
 -- the lines of the ids from i on, n of them
@@ -24,9 +26,13 @@ unfoldable pub linesFrom : (ℕ → List ℕ) → ℕ → ℕ → List ℕ
 linesFrom f i zero = []
 linesFrom f i (suc n) = f i ++ linesFrom f (i + 1) n
 
+-- the last field of string i: the hash that is stored in its slot, stale or not; a plain string has none. 02, No. 5
+unfoldable pub slotOf : Layout → List ℕ → ℕ → Slot
+slotOf l s i = pick (isIdentifier l s i) (Hash (hashIn l s (rankOf l s i))) None
+
 -- the line of string i, and of function i
 unfoldable pub stringLineIn : Layout → List ℕ → ℕ → List ℕ
-stringLineIn l s i = let t = stringOf l s i in stringLine i (t .wide) (isIdentifier l s i) (unitsOf t)
+stringLineIn l s i = let t = stringOf l s i in stringLine i (t .wide) (isIdentifier l s i) (unitsOf t) (slotOf l s i)
 
 unfoldable pub functionLineIn : Layout → List ℕ → ℕ → List ℕ
 functionLineIn l s i = let f = funcOf l s i in functionLine i (f .large) (f .begin) (f .size)

@@ -12,14 +12,19 @@ use Rattle.bits.specs.Choice.{pick}
 use Rattle.format.specs.declared.Layout.{Layout}
 use Rattle.image.specs.Sections.{functionsIn, stringsIn}
 use Rattle.image.specs.Strings.{stringOf, unitsOf}
-use Rattle.image.specs.Kinds.{isIdentifier}
+use Rattle.image.specs.Kinds.{isIdentifier, hashIn}
 use Rattle.sections.specs.declared.Places.{Places}
 use Rattle.admission.specs.declared.Admission.{Admission}
 use Rattle.admission.specs.declared.Admission.the-variants as admission-is
 use Rattle.admission.specs.Admission.{admission}
-use Rattle.string_walk.specs.Places.{CursorOf}
-use Rattle.reader.specs.Reading.{ReadAs}
+use Rattle.string_walk.specs.declared.Cursor.{Cursor}
+use Rattle.string_walk.specs.declared.Rank.{Rank}
+use Rattle.string_walk.specs.declared.Rank.the-variants.{At, Plain}
+use Rattle.string_walk.specs.declared.StringRecord.{StringRecord}
+use Rattle.string_walk.specs.Places.{Stands, CursorOf}
 use Rattle.text.specs.Text.{hexes, spaced, Wrote}
+use Rattle.listing_lines.specs.declared.Slot.{Slot}
+use Rattle.listing_lines.specs.declared.Slot.the-variants.{Hash, None}
 use Rattle.listing_lines.specs.Lines.{refusedLine, countsLine, stringWords, closing}
 use Rattle.input_records.specs.declared.ImageHead.{ImageHead}
 use Rattle.input_records.specs.declared.ImageHead.the-variants as head-is
@@ -29,7 +34,7 @@ use Rattle.listing_pieces.specs.declared.Opened.the-variants as opened-i
 use Rattle.listing_pieces.specs.declared.Point.{Point}
 use Rattle.listing_pieces.specs.declared.Point.the-variants as point-is
 use Rattle.listing_pieces.specs.declared.Piece.{Piece}
-use Rattle.listing_pieces.specs.Listing.{linesFrom, stringLineIn, functionLineIn, listed}
+use Rattle.listing_pieces.specs.Listing.{linesFrom, slotOf, stringLineIn, functionLineIn, listed}
 
 -- ---- what an input is: an admitted image, or a refusal
 
@@ -84,7 +89,7 @@ stringsLeft l s i = linesFrom (stringLineIn l s) i (stringsIn s - i) ++ linesFro
 abbrev pub left : Layout → List ℕ → Spot → List ℕ
 left l s counts = listed l s
 left l s (strings i) = stringsLeft l s i
-left l s (units i j) = (hexes (drop j (unitsIn l s i)) ++ closing (length (unitsIn l s i))) ++ stringsLeft l s (i + 1)
+left l s (units i j) = (hexes (drop j (unitsIn l s i)) ++ closing (length (unitsIn l s i)) (slotOf l s i)) ++ stringsLeft l s (i + 1)
 left l s (functions i) = linesFrom (functionLineIn l s) i (functionsIn s - i)
 left l s end = []
 
@@ -93,7 +98,7 @@ abbrev pub pieceAt : Layout → List ℕ → Spot → List ℕ
 pieceAt l s counts = countsLine (length s) (stringsIn s) (functionsIn s)
 pieceAt l s (strings i) = pick (ltb i (stringsIn s)) (stringStart l s i) []
 pieceAt l s (units i j) =
-    pick (ltb j (length (unitsIn l s i))) (hexes (take chunk (drop j (unitsIn l s i)))) (closing (length (unitsIn l s i)))
+    pick (ltb j (length (unitsIn l s i))) (hexes (take chunk (drop j (unitsIn l s i)))) (closing (length (unitsIn l s i)) (slotOf l s i))
 pieceAt l s (functions i) = pick (ltb i (functionsIn s)) (functionLineIn l s i) []
 pieceAt l s end = []
 
@@ -138,17 +143,29 @@ steps l s x = length (left l s x) + phase x
 abbrev pub spotOf : Point → Spot
 spotOf point-is.Counts = counts
 spotOf (point-is.Strings c) = strings (c .id)
-spotOf (point-is.Units place j c) = units (c .id - 1) j
+spotOf (point-is.Units string j c) = units (c .id - 1) j
 spotOf (point-is.Functions i) = functions i
 spotOf point-is.End = end
+
+-- in the line of a string, by its record, with the cursor of a pass behind it
+pub record InString (p : Places) (s : List ℕ) (r : StringRecord) (c : Cursor) : Type 0 where
+  pub stands : Stands p s (c .id - 1) r
+  pub cursor : CursorOf p s c
+  pub some : 0 < c .id
+  pub known : c .id ≤ p .strings
 
 -- it carries what a pass over the strings carries along
 abbrev pub Good : Places → List ℕ → Point → Type 0
 Good p s point-is.Counts = Unit {0}
 Good p s (point-is.Strings c) = CursorOf p s c
-Good p s (point-is.Units place j c) = ReadAs (p .layout) s (c .id - 1) place × CursorOf p s c × (0 < c .id)
+Good p s (point-is.Units string j c) = InString p s string c
 Good p s (point-is.Functions i) = Unit {0}
 Good p s point-is.End = Unit {0}
+
+-- what is stored for the identifier of a rank
+abbrev pub slotAt : Layout → List ℕ → Rank → Slot
+slotAt l s (At k) = Hash (hashIn l s k)
+slotAt l s Plain = None
 
 -- ---- what the makers of pieces promise
 

@@ -5,20 +5,23 @@ use admission::Admission;
 use bits::Answer;
 use format::Layout;
 use input_records::ImageHead;
-use reader::StringPlace;
+use listing_lines::Slot;
 use sections::Places;
 use string_walk::Cursor;
+use string_walk::Rank;
+use string_walk::StringRecord;
 ghost use mathlib.Core.Path.{_≡_};
-ghost use Prim.Native.Nat.{_+_, _-_, _≤_};
+ghost use Prim.Native.Nat.{ℕ, _+_, _-_, _≤_, _<_};
 ghost use lib.ListN.{length, take, drop};
 ghost use Rattle.bits.specs.Outcome.{Answers};
 ghost use Rattle.sections.specs.Places.{Placed, Laid};
 ghost use Rattle.input_records.specs.declared.ImageHead.the-variants.{Image};
+ghost use Rattle.string_walk.specs.declared.Rank.the-variants.{At};
 ghost use Rattle.string_walk.specs.Places.{CursorOf};
 ghost use Rattle.text.specs.Text.{Wrote};
 ghost use Rattle.listing_pieces.specs.declared.Point.the-variants.{Counts, Strings, Units, Functions};
 ghost use Rattle.listing_pieces.specs.Listing.{listed, partRoom, listingPart};
-ghost use Rattle.listing_pieces.specs.Pieces.{openedRecord, opened, isEnd, spotOf, Good, Gives, GivesAll};
+ghost use Rattle.listing_pieces.specs.Pieces.{openedRecord, opened, isEnd, spotOf, slotAt, Good, Gives, GivesAll};
 
 // What an input is: one record with an admitted image, or refused.
 pub enum Opened {
@@ -27,12 +30,12 @@ pub enum Opened {
 }
 
 // Where a listing has come to: before line 1, before the line of a string, in that line before a unit
-// (with the string's place, and where the pass goes on behind it), before the line of a function, at
+// (with the string's record, and where the pass goes on behind it), before the line of a function, at
 // the end.
 pub enum Point {
     Counts,
     Strings(Cursor),
-    Units(StringPlace, usize, Cursor),
+    Units(StringRecord, usize, Cursor),
     Functions(usize),
     End,
 }
@@ -102,27 +105,41 @@ fn put_counts(image: &[u8], p: Places, out: &mut [u8], at: usize) -> Piece
 }
 
 // The line of a string before its units, or nothing where all strings are listed.
-fn put_string(image: &[u8], p: Places, string: Cursor, out: &mut [u8], at: usize) -> Piece
+fn put_string(image: &[u8], p: Places, from: Cursor, out: &mut [u8], at: usize) -> Piece
     requires { ⌜ Laid p (now image) ⌝ }
-    requires { ⌜ CursorOf p (now image) string ⌝ }
+    requires { ⌜ CursorOf p (now image) from ⌝ }
     requires { ⌜ at + 256 ≤ length (now out) ⌝ }
-    ensures { λ r. ⌜ Gives p (now (image .entry)) (now (out .entry)) at (Strings string) r (now (out .exit)) ⌝ }
+    ensures { λ r. ⌜ Gives p (now (image .entry)) (now (out .entry)) at (Strings from) r (now (out .exit)) ⌝ }
 {
-    if p.strings <= string.id {
+    if p.strings <= from.id {
         return Piece {
             end: at,
             next: Point::Functions(0),
         };
     }
-    let step = string_walk::string_at(image, p, string);
-    let place = reader::in_image(p, step.place, step.identifier);
+    let step = string_walk::string_at(image, p, from);
+    let string = step.string;
     let next = step.next;
-    let id = string.id as u64;
-    let count = place.count as u64;
-    let end = listing_lines::put_string(out, at, id, place.wide, place.identifier, count);
+    let rank = string.rank;
+    let identifier = string_walk::is_identifier(rank);
+    let id = from.id as u64;
+    let count = string.place.count as u64;
+    let end = listing_lines::put_string(out, at, id, string.place.wide, identifier, count);
     Piece {
         end,
-        next: Point::Units(place, 0, next),
+        next: Point::Units(string, 0, next),
+    }
+}
+
+// The hash slot of a rank, as it is stored.
+fn slot_of(image: &[u8], p: Places, rank: Rank) -> Slot
+    requires { ⌜ Placed p (now image) ⌝ }
+    requires { ⌜ ((k : ℕ) → rank ≡ At k → k < p .identifiers) ⌝ }
+    ensures { λ r. ⌜ r ≡ slotAt (p .layout) (now (image .entry)) rank ⌝ }
+{
+    match rank {
+        Rank::At(k) => Slot::Hash(string_walk::stored_hash(image, p, k)),
+        Rank::Plain => Slot::None,
     }
 }
 
@@ -130,28 +147,31 @@ fn put_string(image: &[u8], p: Places, string: Cursor, out: &mut [u8], at: usize
 fn put_units(
     image: &[u8],
     p: Places,
-    place: StringPlace,
+    string: StringRecord,
     unit: usize,
     next: Cursor,
     out: &mut [u8],
     at: usize,
 ) -> Piece
     requires { ⌜ Laid p (now image) ⌝ }
-    requires { ⌜ Good p (now image) (Units place unit next) ⌝ }
+    requires { ⌜ Good p (now image) (Units string unit next) ⌝ }
     requires { ⌜ at + 256 ≤ length (now out) ⌝ }
-    ensures { λ r. ⌜ Gives p (now (image .entry)) (now (out .entry)) at (Units place unit next) r (now (out .exit)) ⌝ }
+    ensures { λ r. ⌜ Gives p (now (image .entry)) (now (out .entry)) at (Units string unit next) r (now (out .exit)) ⌝ }
 {
-    if place.count <= unit {
+    if string.place.count <= unit {
+        let rank = string.rank;
+        let slot = slot_of(image, p, rank);
         return Piece {
-            end: listing_lines::put_closing(out, at, place.count),
+            end: listing_lines::put_closing(out, at, string.place.count, slot),
             next: Point::Strings(next),
         };
     }
-    let n = bits::least(place.count - unit, CHUNK);
-    let end = listing_lines::put_units(out, at, image, place.start, place.wide, unit, n);
+    let n = bits::least(string.place.count - unit, CHUNK);
+    let wide = string.place.wide;
+    let end = listing_lines::put_units(out, at, image, string.start, wide, unit, n);
     Piece {
         end,
-        next: Point::Units(place, unit + CHUNK, next),
+        next: Point::Units(string, unit + CHUNK, next),
     }
 }
 
@@ -191,8 +211,8 @@ fn put_piece(image: &[u8], p: Places, point: Point, out: &mut [u8], at: usize) -
 {
     match point {
         Point::Counts => put_counts(image, p, out, at),
-        Point::Strings(string) => put_string(image, p, string, out, at),
-        Point::Units(place, unit, next) => put_units(image, p, place, unit, next, out, at),
+        Point::Strings(from) => put_string(image, p, from, out, at),
+        Point::Units(string, unit, next) => put_units(image, p, string, unit, next, out, at),
         Point::Functions(i) => put_function(image, p, i, out, at),
         Point::End => Piece {
             end: at,

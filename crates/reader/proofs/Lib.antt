@@ -1,4 +1,4 @@
-pub mod PassLaws
+pub mod FunctionLaws
 pub mod ReadingLaws
 pub mod PartLaws
-pub mod StringLaws
+pub mod RefusalLaws

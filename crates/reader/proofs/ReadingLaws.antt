@@ -10,13 +10,11 @@ use Rattle.bits.specs.Choice.{pick, check, judge}
 use Rattle.bits.proofs.JudgeLaws.{judge-pass}
 use Rattle.format.specs.declared.Layout.{Layout}
 use Rattle.image.specs.Sections.{functionsIn, stringsIn}
-use Rattle.image.specs.Kinds.{isIdentifier}
 use Rattle.image.specs.Functions.{Func, funcOf}
 use Rattle.image.specs.Admission.{checks, refusal}
 use Rattle.sections.specs.declared.Places.{Places}
 use Rattle.sections.specs.Places.{placesOf}
 use Rattle.sections.specs.Places as places
-use Rattle.string_tables.specs.declared.Place.{Place}
 use Rattle.function_table.specs.declared.Function.{Function}
 use Rattle.function_table.specs.declared.FunctionRead.the-variants as function-is
 use Rattle.function_table.specs.Functions.{asFunc, asFunction}
@@ -27,14 +25,15 @@ use Rattle.admission.proofs.AnswerLaws.{judged-none, refused-is, refused-then, 
 use Rattle.string_walk.specs.declared.Counts.{Counts}
 use Rattle.string_walk.specs.declared.Location.{Location}
 use Rattle.string_walk.specs.declared.Location.the-variants as location-is
+use Rattle.string_walk.specs.declared.StringRecord.{StringRecord}
 use Rattle.string_walk.specs.Places as location
 use Rattle.string_walk.specs.Places.{Locates}
+use Rattle.string_walk.specs.Records.{recordOf}
 use Rattle.string_walk.specs.Walk.{visits}
+use Rattle.string_walk.proofs.RecordLaws.{record-is}
 use Rattle.string_walk.proofs.WalkLaws.{located-at, located-none}
-use Rattle.reader.specs.declared.StringPlace.{StringPlace}
 use Rattle.reader.specs.declared.StringRead.the-variants as string-is
-use Rattle.reader.proofs.PassLaws.{read-as}
-use Rattle.reader.specs.Reading.{idRefusal, stringPlace, imagePlace, stringRead, bodyRead}
+use Rattle.reader.specs.Reading.{idRefusal, stringRead, bodyRead}
 
 -- ---- a reading by id
 
@@ -77,7 +76,7 @@ module _ (l : Layout) (s : List ℕ) (r : Admission) (e : r ≡ admission l s) (
   pub string-refused : string-is.Refused n ≡ stringRead l s id
   unfolding stringRead
   string-refused =
-      not-admitted l s (stringsIn s) id (string-is.Found (stringPlace l s id) (visits l s id)) string-is.Refused r e k f n g
+      not-admitted l s (stringsIn s) id (string-is.Found (recordOf l s id) (visits l s id)) string-is.Refused r e k f n g
 
   pub body-refused : function-is.Refused n ≡ bodyRead l s id
   unfolding bodyRead
@@ -123,20 +122,18 @@ module _ {l : Layout} {s : List ℕ} {id : ℕ} {p : Places} {loc : Location} (z
   string-absent m u n v =
       let (w, b) = located-none p s id refusals.id loc (z .located) m u in
       ap string-is.Refused (v ∙ ap location.numberOf u ∙ w)
-      ∙ no-such-id l s (stringsIn s) id (string-is.Found (stringPlace l s id) (visits l s id)) string-is.Refused p (z .answer)
+      ∙ no-such-id l s (stringsIn s) id (string-is.Found (recordOf l s id) (visits l s id)) string-is.Refused p (z .answer)
       (omega (arith, counts l s p (z .answer) .0))
 
   -- the string that was located
-  pub string-found : (i : ℕ) (q : Place) (c : Counts) → loc ≡ location-is.At i q c → (x : StringPlace)
-      → x ≡ imagePlace p q (isIdentifier (p .layout) s id)
-      → string-is.Found x c ≡ stringRead l s id
+  pub string-found : (i : ℕ) (q : StringRecord) (c : Counts) → loc ≡ location-is.At i q c
+      → string-is.Found q c ≡ stringRead l s id
   unfolding stringRead
-  string-found i q c u x y =
+  string-found i q c u =
       let (_, known, st, v) = located-at p s id refusals.id loc (z .located) i q c u in
       let own : p .layout ≡ l = own-layout l s p (z .answer) in
-      let w : x ≡ stringPlace l s id
-      = read-as p s (z .laid .placed) id q st x y .is ∙ ap (λ (k : Layout). stringPlace k s id) own in
+      let w : q ≡ recordOf l s id = record-is p s (z .laid .placed) id q st ∙ ap (λ (k : Layout). recordOf k s id) own in
       let m : c ≡ visits l s id = v ∙ ap (λ (k : Layout). visits k s id) own in
       rw (w, m)
-      (id-found l s (stringsIn s) id (string-is.Found (stringPlace l s id) (visits l s id)) string-is.Refused p (z .answer)
+      (id-found l s (stringsIn s) id (string-is.Found (recordOf l s id) (visits l s id)) string-is.Refused p (z .answer)
       (omega (arith, counts l s p (z .answer) .0)))

@@ -6,9 +6,9 @@ use format::Layout;
 use function_table::Function;
 use function_table::FunctionRead;
 use sections::Places;
-use string_tables::Place;
 use string_walk::Counts;
 use string_walk::Location;
+use string_walk::StringRecord;
 ghost use mathlib.Core.Path.{_≡_};
 ghost use Prim.Native.Nat.{_+_, _≤_, _<_};
 ghost use lib.ListN.{length};
@@ -16,38 +16,12 @@ ghost use Rattle.footer.specs.Footer.{footerLength};
 ghost use Rattle.image.specs.Functions.{funcOf};
 ghost use Rattle.sections.specs.Places.{Laid};
 ghost use Rattle.function_table.specs.Functions.{asFunc, WordSized};
-ghost use Rattle.reader.specs.Reading.{stringRead, stringNumber, bodyRead, bodyNumber, imagePlace};
+ghost use Rattle.reader.specs.Reading.{stringRead, stringNumber, bodyRead, bodyNumber};
 
-// Where a string stands in the image: its count is of 16-bit units where it is wide, else of bytes, as
-// its size is.
-pub struct StringPlace {
-    pub start: usize,
-    pub count: usize,
-    pub size: usize,
-    pub wide: bool,
-    pub identifier: bool,
-}
-
-// A string that was read by its id: its place, and how many table entries were visited to find it.
+// A string that was read by its id: its record, and how many table entries were visited to find it.
 pub enum StringRead {
-    Found(StringPlace, Counts),
+    Found(StringRecord, Counts),
     Refused(u8),
-}
-
-// ---- strings of an admitted image
-
-// A place in storage as one in the image.
-pub fn in_image(p: Places, place: Place, identifier: bool) -> StringPlace
-    requires { ⌜ (place .count < 4294967296) × (p .«storage_at» + place .at < 4294967296) ⌝ }
-    ensures { λ r. ⌜ r ≡ imagePlace p place identifier ⌝ }
-{
-    StringPlace {
-        start: p.storage_at + place.at,
-        count: place.count,
-        size: string_tables::size_of(place),
-        wide: place.wide,
-        identifier,
-    }
 }
 
 // ---- functions of an admitted image
@@ -74,11 +48,10 @@ pub fn string(image: &[u8], layout: Layout, id: usize) -> StringRead
         return StringRead::Refused(admission::number_of(answer));
     };
     let location = string_walk::locate(image, p, id);
-    let Location::At(_, place, counts) = location else {
+    let Location::At(_, string, counts) = location else {
         return StringRead::Refused(string_walk::number_of(location));
     };
-    let identifier = string_walk::is_identifier(image, p, id);
-    StringRead::Found(in_image(p, place, identifier), counts)
+    StringRead::Found(string, counts)
 }
 
 // Function `id` with its body's place, or the refusal: 1 to 6, then 7.

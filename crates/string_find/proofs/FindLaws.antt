@@ -15,23 +15,22 @@ use Rattle.bits.specs.Choice.{pick, both}
 use Rattle.bits.specs.Bytes.{bytesAt}
 use Rattle.bits.proofs.TestLaws.{both-1}
 use Rattle.footer.specs.Footer.{same}
-use Rattle.format.specs.Entry as entry
-use Rattle.image.specs.Sections.{stringsIn, storageAt}
-use Rattle.image.specs.Strings.{unitSize, sizeOf, stringOf, unitsOf}
+use Rattle.image.specs.Sections.{stringsIn}
+use Rattle.image.specs.Strings.{unitSize, stringOf, unitsOf}
 use Rattle.unicode.specs.declared.Reading.{Reading}
 use Rattle.unicode.specs.Utf8.{between, nextByte, completes, unitsFrom, utf16}
 use Rattle.unicode.proofs.UnitLaws.{rest, units-end}
 use Rattle.sections.specs.declared.Places.{Places}
 use Rattle.sections.specs.Places.{Placed}
-use Rattle.sections.proofs.SectionLaws.{Sectioned, sectioned}
-use Rattle.string_tables.specs.declared.Place.{Place}
-use Rattle.string_tables.specs.Strings.{asPlace}
+use Rattle.sections.proofs.SectionLaws.{sectioned}
 use Rattle.string_walk.specs.declared.Counts.{Counts}
 use Rattle.string_walk.specs.declared.Location.the-variants.{At, Refused}
+use Rattle.string_walk.specs.declared.StringRecord.{StringRecord}
 use Rattle.string_walk.specs.Places.{Stands, Locates}
 use Rattle.string_walk.specs.Units.{unitAt}
 use Rattle.string_walk.specs.Walk.{visits}
 use Rattle.string_walk.proofs.UnitLaws.{units-count, units-at}
+use Rattle.string_walk.proofs.RecordLaws.{record-string, record-count, units-inside}
 use Rattle.string_find.specs.Find.{findFrom, findId, unitsAt}
 
 -- ---- lists that are the same
@@ -221,35 +220,29 @@ all-agree s value start j i wide r h x e = rw (units-end r value i h) at e
 
 -- ---- string i
 
--- string i stands at r, and n units are sought
-pub record Sought (p : Places) (s units : List ℕ) (i : ℕ) (r : Place) (n : ℕ) : Type 0 where
+-- r is the record of string i, and n units are sought
+pub record Sought (p : Places) (s units : List ℕ) (i : ℕ) (r : StringRecord) (n : ℕ) : Type 0 where
   pub placed : Placed p s
   pub stands : Stands p s i r
   pub count : n ≡ length units
 
-module _ (p : Places) (s units : List ℕ) (i : ℕ) (r : Place) (n : ℕ) (h : Sought p s units i r n) where
-  found-units : unitsOf (stringOf (p .layout) s i) ≡ unitsAt s (p .«storage_at» + r .at) (r .wide) 0 (r .count)
-  unfolding stringOf
+module _ (p : Places) (s units : List ℕ) (i : ℕ) (r : StringRecord) (n : ℕ) (h : Sought p s units i r n) where
+  found-units : unitsOf (stringOf (p .layout) s i) ≡ unitsAt s (r .start) (r .place .wide) 0 (r .place .count)
   found-units =
-      sym (ap (λ (a : ℕ). unitsOf (record { wide = r .wide; bytes = bytesAt s (a + r .at) (sizeOf (asPlace r)) }))
-      (sectioned p s (h .placed) .storageFrom)
-      ∙ ap (λ (q : entry.Place). unitsOf (record { wide = q .wide; bytes = bytesAt s (storageAt (p .layout) s + q .at) (sizeOf q) }))
-      (h .stands .is))
-      ∙ string-units s (p .«storage_at» + r .at) (r .count) (r .wide)
+      ap unitsOf (sym (record-string p s (h .placed) i r (h .stands)))
+      ∙ string-units s (r .start) (r .place .count) (r .place .wide)
 
-  pub other-count : (r .count ≡ n → ⊥) → false ≡ same (unitsOf (stringOf (p .layout) s i)) units
+  pub other-count : (r .place .count ≡ n → ⊥) → false ≡ same (unitsOf (stringOf (p .layout) s i)) units
   other-count d =
       longer-differs (unitsOf (stringOf (p .layout) s i)) units
-      (λ g.
-      d (sym (length-at s (p .«storage_at» + r .at) (r .wide) 0 (r .count)) ∙ ap length (sym found-units) ∙ g ∙ sym (h .count)))
+      (λ g. d (record-count p s (h .placed) i r (h .stands) ∙ g ∙ sym (h .count)))
 
-  pub same-count : r .count ≡ n
-      → same (unitsAt s (p .«storage_at» + r .at) (r .wide) 0 (length units)) units ≡ same (unitsOf (stringOf (p .layout) s i)) units
+  pub same-count : r .place .count ≡ n
+      → same (unitsAt s (r .start) (r .place .wide) 0 (length units)) units ≡ same (unitsOf (stringOf (p .layout) s i)) units
   same-count e = rw (found-units, e, h .count)
 
-  pub units-in : r .count ≡ n → p .«storage_at» + r .at + length units * unitSize (r .wide) ≤ length s
-  units-in e =
-      rw (← h .count, ← e) (let z : Sectioned p s = sectioned p s (h .placed) in omega (arith, h .stands .before))
+  pub units-in : r .place .count ≡ n → r .start + length units * unitSize (r .place .wide) ≤ length s
+  units-in e = units-inside p s (h .placed) i r (h .stands) (length units) (omega (arith, h .count))
 
 -- ---- the pass
 
@@ -285,7 +278,8 @@ module _ (p : Places) (s units : List ℕ) where
 
   -- ---- what is answered
 
-  pub found-at : (i : ℕ) (t : Bool) → Compared p s units i t (findId (p .layout) s units) → t ≡ true → (q : Place) (n : Counts)
+  pub found-at : (i : ℕ) (t : Bool) → Compared p s units i t (findId (p .layout) s units) → t ≡ true
+      → (q : StringRecord) (n : Counts)
       → Stands p s i q
       → n ≡ visits (p .layout) s i
       → Locates p s (findId (p .layout) s units) refusals.absent (At i q n)

@@ -1,8 +1,8 @@
 // The lowest string that has the UTF-16 units of a value. Neither is decoded into a buffer: counts
 // are compared first, then unit by unit.
 use sections::Places;
-use string_tables::Place;
 use string_walk::Location;
+use string_walk::StringRecord;
 use unicode::Units;
 ghost use mathlib.Core.Path.{_≡_};
 ghost use Prim.Native.Nat.{_+_, _*_, _≤_, _<_};
@@ -53,16 +53,23 @@ fn are_units(image: &[u8], start: usize, wide: bool, value: &[u8]) -> bool
     true
 }
 
-// Whether string `i`, at `place`, has the units of the value, which are `count`.
-fn has_units(image: &[u8], p: Places, i: usize, place: Place, value: &[u8], count: usize) -> bool
-    requires { ⌜ Placed p (now image) × Stands p (now image) i place ⌝ }
+// Whether string `i` has the units of the value, which are `count`.
+fn has_units(
+    image: &[u8],
+    p: Places,
+    i: usize,
+    string: StringRecord,
+    value: &[u8],
+    count: usize,
+) -> bool
+    requires { ⌜ Placed p (now image) × Stands p (now image) i string ⌝ }
     requires { ⌜ count ≡ length (utf16 (now value)) ⌝ }
     ensures { λ r. ⌜ r ≡ same (unitsOf (stringOf (p .layout) (now (image .entry)) i)) (utf16 (now (value .entry))) ⌝ }
 {
-    if place.count != count {
+    if string.place.count != count {
         return false;
     }
-    are_units(image, p.storage_at + place.at, place.wide, value)
+    are_units(image, string.start, string.place.wide, value)
 }
 
 // The lowest string that has the units of `old`; 14 where there is none: one pass.
@@ -75,9 +82,9 @@ pub fn find(image: &[u8], p: Places, old: &[u8]) -> Location
     let mut c = string_walk::first_string();
     while c.id < p.strings {
         let step = string_walk::string_at(image, p, c);
-        let place = step.place;
-        if has_units(image, p, c.id, place, old, count) {
-            return Location::At(c.id, place, string_walk::counts_of(step.next));
+        let string = step.string;
+        if has_units(image, p, c.id, string, old, count) {
+            return Location::At(c.id, string, string_walk::counts_of(step.next));
         }
         c = step.next;
     }

@@ -1,11 +1,10 @@
 -- The hash slot, the file length and the footer.
 use mathlib.Core.Path.{_≡_, refl, ap, sym, _∙_}
-use mathlib.Core.Bool.{Bool, true, false, not}
+use mathlib.Core.Bool.{Bool, true, false}
 use mathlib.Core.List.{List, []}
 use Prim.Native.Nat.{ℕ, _+_, _-_, _*_, _≤_, _<_}
 use native.Mathlib.Nat.{sub-zero}
 use native.Mathlib.Omega.{arith}
-use borrow.Author.Tests.{not-true, not-false}
 use borrow.Rule.Slice.PartMut.{putMid}
 use lib.ListN.{length, take, drop, drop-of-length-le}
 use lib.Seq.{sets, length-sets, length-take-le}
@@ -23,45 +22,52 @@ use Rattle.unicode.specs.Utf8.{utf16}
 use Rattle.image.specs.Sections.{hashesAt}
 use Rattle.image.specs.Kinds.{isIdentifier, rankOf}
 use Rattle.sections.specs.declared.Places.{Places}
-use Rattle.sections.specs.Places.{Placed}
+use Rattle.sections.specs.Places.{Laid}
 use Rattle.sections.proofs.SectionLaws.{Sectioned, sectioned}
-use Rattle.string_in_place.specs.Known.{Finishable}
+use Rattle.string_walk.specs.declared.Rank.{Rank}
+use Rattle.string_walk.specs.declared.Rank.the-variants.{At, Plain}
+use Rattle.string_walk.specs.Records.{rankIn}
+use Rattle.string_walk.proofs.RankLaws.{is-ranked, is-plain, hashes-from, slot-in, rank-slot}
+use Rattle.string_in_place.specs.Known.{hashed, finishedWith, Finishable}
 use Rattle.string_in_place.specs.Patch.{rehashed, finished}
 
 -- ---- the hash slot
 
-module _ (p : Places) (s : List ℕ) (pl : Placed p s) where
-  hashes-from : p .«hashes_at» ≡ hashesAt (p .layout) s
-  unfolding hashesAt
-  hashes-from = let z : Sectioned p s = sectioned p s pl in z .hashesNext ∙ rw (z .kindsFrom, z .kinds)
+-- the record's rank is that of string id of an admitted image, and a buffer of n bytes holds the image's hash slots
+pub record Slotted (p : Places) (s : List ℕ) (id : ℕ) (rank : Rank) (n : ℕ) : Type 0 where
+  pub laid : Laid p s
+  pub known : id < p .strings
+  pub ranked : rank ≡ rankIn (p .layout) s id
+  pub holds : p .«small_at» ≤ n
+  pub limit : n ≤ sizeLimit
 
-  module _ (rank slot : ℕ) (e : slot ≡ p .«hashes_at» + rank * 4) (h : rank < p .identifiers) where
-    pub slot-in : slot + 4 ≤ p .«small_at»
-    slot-in = let z : Sectioned p s = sectioned p s pl in omega arith
+module _ (p : Places) (s : List ℕ) (id : ℕ) (rank : Rank) (n : ℕ) (h : Slotted p s id rank n) where
+  pub finishable : Finishable (p .«hashes_at») rank n
+  finishable =
+      let z : Sectioned p s = sectioned p s (h .laid .placed) in
+      record {
+        slot = λ k e.
+            let b : k < p .identifiers = rank-slot p s (h .laid) id (h .known) rank (h .ranked) k e in
+            omega (arith, slot-in p s (h .laid .placed) k b, h .holds);
+        least = omega (arith, h .holds);
+        limit = h .limit;
+      }
 
-  pub rank-low : (rank : ℕ) → rank < p .identifiers → (p .«hashes_at» < 1099511627776) × (rank < 4294967296)
-  rank-low rank h = let z : Sectioned p s = sectioned p s pl in (omega arith, omega arith)
-
--- string id has a hash slot, and the hash of its units is written there
-pub record SlotPut (p : Places) (s : List ℕ) (id : ℕ) (units out : List ℕ) (r : Bool) (rank slot h : ℕ) (o : List ℕ)
-    : Type 0 where
-  pub tested : r ≡ isIdentifier (p .layout) s id
-  pub has : not r ≡ false
-  pub ranked : rank ≡ rankOf (p .layout) s id
-  pub place : slot ≡ p .«hashes_at» + rank * 4
-  pub hash : h ≡ hashOf units
-  pub put : o ≡ sets out slot (bytesOf 4 h)
-
-module _ (p : Places) (s : List ℕ) (id : ℕ) (units out : List ℕ) (r : Bool) where
-  pub no-slot : r ≡ isIdentifier (p .layout) s id → not r ≡ true → out ≡ rehashed (p .layout) s id units out
+  -- the slot of that rank is the one that 01 names
+  hashed-is : (units out : List ℕ) → hashed (p .«hashes_at») rank units out ≡ rehashed (p .layout) s id units out
   unfolding rehashed
-  no-slot e t = rw (← e, not-true r t)
+  hashed-is units out = go rank (h .ranked)
+    where
+      go : (r : Rank) → r ≡ rankIn (p .layout) s id → hashed (p .«hashes_at») r units out ≡ pick (isIdentifier (p .layout) s id)
+          (sets out (hashesAt (p .layout) s + rankOf (p .layout) s id * 4) (bytesOf 4 (hashOf units))) out
+      go (At k) e =
+          let (t, g) = is-ranked (p .layout) s id (At k) e k refl in
+          rw (t, g, hashes-from p s (h .laid .placed))
+      go Plain e = rw (is-plain (p .layout) s id Plain e refl)
 
-  pub slot-put : Placed p s → (rank slot h : ℕ) (o : List ℕ) → SlotPut p s id units out r rank slot h o
-      → o ≡ rehashed (p .layout) s id units out
-  unfolding rehashed
-  slot-put pl rank slot h o w =
-      w .put ∙ rw (← w .tested, not-false r (w .has), w .place, hashes-from p s pl, w .ranked, w .hash)
+  pub finished-is : (value out : List ℕ) → finishedWith (p .«hashes_at») rank value out ≡ finished (p .layout) s id value out
+  unfolding finished
+  finished-is value out = ap (λ (o : List ℕ). sealed (lengthed o)) (hashed-is (utf16 value) out)
 
 length-rehashed : (l : Layout) (s : List ℕ) (id : ℕ) (units out : List ℕ) → length (rehashed l s id units out) ≡ length out
 unfolding rehashed
@@ -88,20 +94,19 @@ length-finished l s value out id least =
     length-finalized (rehashed l s id (utf16 value) out) (rw (length-rehashed l s id (utf16 value) out) least)
     ∙ length-rehashed l s id (utf16 value) out
 
--- a buffer that holds the sections before the strings is long enough
-long-enough : (p : Places) (s : List ℕ) → Placed p s → (n : ℕ) → p .«small_at» ≤ n → leastLength ≤ n
-long-enough p s pl n h = let z : Sectioned p s = sectioned p s pl in omega arith
+length-hashed : (slots : ℕ) (rank : Rank) (units out : List ℕ) → length (hashed slots rank units out) ≡ length out
+length-hashed slots (At k) units out = length-sets out (slots + k * 4) (bytesOf 4 (hashOf units))
+length-hashed slots Plain units out = refl
 
-pub finish-is : (p : Places) (s value out : List ℕ) (id : ℕ) → Finishable p s id (length out) → (o₁ o₂ : List ℕ) (r : Answer)
-    → o₁ ≡ rehashed (p .layout) s id (utf16 value) out → Answers (finalizeOf o₁) r o₁ o₂
-    → Answers (made (finished (p .layout) s id value out)) r out o₂
-unfolding finished
-finish-is p s value out id h o₁ o₂ r e a =
-    let least : leastLength ≤ length out = long-enough p s (h .laid .placed) (length out) (h .holds) in
-    let most : length out ≤ sizeLimit = h .limit in
-    let n : length o₁ ≡ length out = ap length e ∙ length-rehashed (p .layout) s id (utf16 value) out in
-    let f : finalizeOf o₁ ≡ made (sealed (lengthed o₁)) = finalize-within o₁ (omega arith) (omega arith) in
-    let k : length (sealed (lengthed o₁)) ≡ length o₁ = length-finalized o₁ (omega arith) in
+pub finish-is : (slots : ℕ) (rank : Rank) (value out : List ℕ) → Finishable slots rank (length out)
+    → (o₁ o₂ : List ℕ) (r : Answer)
+    → o₁ ≡ hashed slots rank (utf16 value) out → Answers (finalizeOf o₁) r o₁ o₂
+    → Answers (made (finishedWith slots rank value out)) r out o₂
+finish-is slots rank value out h o₁ o₂ r e a =
+    let n : length o₁ ≡ length out = ap length e ∙ length-hashed slots rank (utf16 value) out in
+    let f : finalizeOf o₁ ≡ made (sealed (lengthed o₁))
+    = finalize-within o₁ (omega (arith, h .least)) (omega (arith, h .limit)) in
+    let k : length (sealed (lengthed o₁)) ≡ length o₁ = length-finalized o₁ (omega (arith, h .least)) in
     rw (← e) (answers-over (sealed (lengthed o₁)) o₁ out o₂ r (sym k) (sym n ∙ sym k) (rw f at a))
 
 -- ---- in a buffer of any length

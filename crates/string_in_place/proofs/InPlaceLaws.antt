@@ -23,38 +23,39 @@ use Rattle.image.specs.Strings.{sizeOf, placeAt}
 use Rattle.sections.specs.declared.Places.{Places}
 use Rattle.sections.proofs.SectionLaws.{Sectioned, sectioned}
 use Rattle.string_overlap.specs.Overlap.{isAlone}
-use Rattle.string_tables.specs.declared.Place.{Place}
 use Rattle.string_tables.specs.Strings.{asPlace}
+use Rattle.string_walk.specs.declared.StringRecord.{StringRecord}
 use Rattle.string_walk.specs.Places.{Stands}
-use Rattle.string_in_place.specs.Known.{Overwritten}
+use Rattle.string_walk.proofs.RecordLaws.{start-is, record-inside}
+use Rattle.string_in_place.specs.Known.{Overwritten, finishedWith}
 use Rattle.string_in_place.specs.Patch.{fitsInPlace, inPlace, changed, finished, patchedString, newLength, patchFits, patchKnown}
-use Rattle.string_in_place.proofs.FinishLaws.{answers-over, length-finished, Makes, room-short, room-written}
+use Rattle.string_in_place.proofs.FinishLaws.{Slotted, finished-is, answers-over, length-finished, Makes, room-short, room-written}
 
 -- ---- the test
 
 -- the string is narrow, and the value was tested
-pub record Narrow (p : Places) (s value : List ℕ) (id : ℕ) (own : Place) (a : Bool) : Type 0 where
+pub record Narrow (p : Places) (s value : List ℕ) (id : ℕ) (own : StringRecord) (a : Bool) : Type 0 where
   pub stands : Stands p s id own
-  pub narrow : own .wide ≡ false
+  pub narrow : own .place .wide ≡ false
   pub tested : a ≡ ascii value
 
 -- the value is ASCII, and the string has n bytes
-pub record AsciiValue (p : Places) (s value : List ℕ) (id : ℕ) (own : Place) (a : Bool) (n : ℕ) : Type 0 where
+pub record AsciiValue (p : Places) (s value : List ℕ) (id : ℕ) (own : StringRecord) (a : Bool) (n : ℕ) : Type 0 where
   pub before : Narrow p s value id own a
   pub plain : not a ≡ false
-  pub size : n ≡ sizeOf (asPlace own)
+  pub size : n ≡ sizeOf (asPlace (own .place))
 
-module _ (p : Places) (s value : List ℕ) (id : ℕ) (own : Place) where
+module _ (p : Places) (s value : List ℕ) (id : ℕ) (own : StringRecord) where
   tested : Stands p s id own
-      → both (not (own .wide))
-      (both (ascii value) (both (eqb (length value) (sizeOf (asPlace own))) (isAlone (p .layout) s id))) ≡ fitsInPlace (p .layout) s id
-      value
+      → both (not (own .place .wide))
+      (both (ascii value) (both (eqb (length value) (sizeOf (asPlace (own .place)))) (isAlone (p .layout) s id)))
+      ≡ fitsInPlace (p .layout) s id value
   unfolding fitsInPlace
   tested st =
       ap (λ (q : entry.Place). both (not (q .wide)) (both (ascii value) (both (eqb (length value) (sizeOf q)) (isAlone (p .layout) s id))))
-      (st .is)
+      (st .place .is)
 
-  pub is-wide : Stands p s id own → own .wide ≡ true → false ≡ fitsInPlace (p .layout) s id value
+  pub is-wide : Stands p s id own → own .place .wide ≡ true → false ≡ fitsInPlace (p .layout) s id value
   is-wide st t = rw t at (tested st)
 
   pub not-ascii : (a : Bool) → Narrow p s value id own a → not a ≡ true → false ≡ fitsInPlace (p .layout) s id value
@@ -75,28 +76,27 @@ module _ (p : Places) (s value : List ℕ) (id : ℕ) (own : Place) where
 -- ---- the bytes
 
 -- the image is copied to a buffer of its length, and the value is put over the bytes of its string
-pub record Overlaid (p : Places) (s value : List ℕ) (own : Place) (out o₁ o₂ : List ℕ) : Type 0 where
+pub record Overlaid (p : Places) (s value : List ℕ) (own : StringRecord) (out o₁ o₂ : List ℕ) : Type 0 where
   pub long : length out ≡ length s
   pub copied : o₁ ≡ sets out 0 s
-  pub put : o₂ ≡ sets o₁ (p .«storage_at» + own .at) value
+  pub put : o₂ ≡ sets o₁ (own .start) value
 
-module _ (p : Places) (s value : List ℕ) (id : ℕ) (own : Place) (ov : Overwritten p s value id own) where
-  value-size : length value ≡ sizeOf (asPlace own)
+module _ (p : Places) (s value : List ℕ) (id : ℕ) (own : StringRecord) (ov : Overwritten p s value id own) where
+  value-size : length value ≡ sizeOf (asPlace (own .place))
   unfolding fitsInPlace
   value-size =
       eqb-true (length value) (sizeOf (placeAt (p .layout) s id))
       (both-0 _ (isAlone (p .layout) s id) (both-1 (ascii value) _ (both-1 (not (placeAt (p .layout) s id .wide)) _ (ov .fits))))
-      ∙ ap sizeOf (sym (ov .stands .is))
+      ∙ ap sizeOf (sym (ov .stands .place .is))
 
-  pub value-in : p .«storage_at» + own .at + length value ≤ length s
-  value-in = let z : Sectioned p s = sectioned p s (ov .laid .placed) in omega (arith, value-size, ov .stands .before)
+  pub value-in : own .start + length value ≤ length s
+  value-in = omega (arith, value-size, record-inside p s (ov .laid .placed) id own (ov .stands))
 
   bytes-are : (out o₁ o₂ : List ℕ) → Overlaid p s value own out o₁ o₂ → o₂ ≡ changed (p .layout) s id value
   unfolding changed inPlace
   bytes-are out o₁ o₂ w =
-      w .put ∙ rw (w .copied, sets-all s out (sym (w .long)), ov .fits)
-      (rw (sectioned p s (ov .laid .placed) .storageFrom)
-      (ap (λ (q : entry.Place). sets s (storageAt (p .layout) s + q .at) value) (ov .stands .is)))
+      w .put ∙ rw (w .copied, sets-all s out (sym (w .long)), ov .fits, start-is p s (ov .laid .placed) id own (ov .stands))
+      (ap (λ (q : entry.Place). sets s (storageAt (p .layout) s + q .at) value) (ov .stands .place .is))
 
   length-changed : length (changed (p .layout) s id value) ≡ length s
   unfolding changed inPlace
@@ -111,15 +111,17 @@ module _ (p : Places) (s value : List ℕ) (id : ℕ) (own : Place) (ov : Overwr
       length-finished (p .layout) s value (changed (p .layout) s id value) id (rw length-changed least-is) ∙ length-changed
 
   pub in-place : (out o₁ o₂ o₃ : List ℕ) (r : Answer) → Overlaid p s value own out o₁ o₂
-      → Answers (made (finished (p .layout) s id value o₂)) r o₂ o₃
+      → Slotted p s id (own .rank) (length o₂)
+      → Answers (made (finishedWith (p .«hashes_at») (own .rank) value o₂)) r o₂ o₃
       → Answers (made (patchedString (p .layout) s id value)) r out o₃
   unfolding patchedString
-  in-place out o₁ o₂ o₃ r w a =
+  in-place out o₁ o₂ o₃ r w t a =
       let c : o₂ ≡ changed (p .layout) s id value = bytes-are out o₁ o₂ w in
       let m : length o₂ ≡ length s = ap length c ∙ length-changed in
       let k : length (finished (p .layout) s id value o₂) ≡ length o₂
       = length-finished (p .layout) s value o₂ id (omega (arith, m, least-is)) in
-      rw (← c) (answers-over (finished (p .layout) s id value o₂) o₂ out o₃ r (sym k) (w .long ∙ sym m ∙ sym k) a)
+      rw (← c) (answers-over (finished (p .layout) s id value o₂) o₂ out o₃ r (sym k) (w .long ∙ sym m ∙ sym k)
+      (rw (finished-is p s id (own .rank) (length o₂) t value o₂) at a))
 
   -- nothing is refused but for the room
   pub known-in-place : length s ≤ sizeLimit → patchKnown (p .layout) s id value ≡ made (patchedString (p .layout) s id value)

@@ -2,59 +2,56 @@
 // case in which the value goes over the string's own bytes.
 use bits::Answer;
 use sections::Places;
-use string_tables::Place;
+use string_walk::Rank;
+use string_walk::StringRecord;
 ghost use mathlib.Core.Path.{_≡_};
-ghost use Prim.Native.Nat.{_≤_, _<_};
 ghost use lib.ListN.{length};
 ghost use Rattle.bits.specs.Outcome.{Answers, made, roomed};
 ghost use Rattle.unicode.specs.Utf8.{utf16};
 ghost use Rattle.sections.specs.Places.{Laid};
 ghost use Rattle.string_walk.specs.Places.{Stands};
-ghost use Rattle.string_in_place.specs.Known.{Overwritten, Finishable};
-ghost use Rattle.string_in_place.specs.Patch.{fitsInPlace, rehashed, finished, patchedString, patchKnown};
+ghost use Rattle.string_in_place.specs.Known.{Overwritten, hashed, finishedWith, Finishable};
+ghost use Rattle.string_in_place.specs.Patch.{fitsInPlace, patchedString, patchKnown};
 
 // ---- the end of every patch
 
-// The hash slot of a string, if it is an identifier.
-fn put_hash(out: &mut [u8], image: &[u8], p: Places, id: usize, value: &[u8])
-    requires { ⌜ Laid p (now image) × (id < p .strings) ⌝ }
-    requires { ⌜ p .«small_at» ≤ length (now out) ⌝ }
-    ensures { λ _. ⌜ now (out .exit) ≡
-        rehashed (p .layout) (now (image .entry)) id (utf16 (now (value .entry))) (now (out .entry)) ⌝ }
+// The hash of a value in the slot of a rank; a plain string has none.
+fn put_hash(out: &mut [u8], slots: usize, rank: Rank, value: &[u8])
+    requires { ⌜ Finishable slots rank (length (now out)) ⌝ }
+    ensures { λ _. ⌜ now (out .exit) ≡ hashed slots rank (utf16 (now (value .entry))) (now (out .entry)) ⌝ }
 {
-    if !string_walk::is_identifier(image, p, id) {
+    let Rank::At(k) = rank else {
         return;
-    }
-    let rank = string_walk::rank_of(image, p, id);
-    let slot = sections::entry_at(p.hashes_at, rank, format::HASH_ENTRY);
+    };
+    let slot = sections::entry_at(slots, k, format::HASH_ENTRY);
     bits::put_word(out, slot, unicode::hash_value(value) as u64);
 }
 
 // The hash slot, the file length and the footer.
-pub fn finish(out: &mut [u8], image: &[u8], p: Places, id: usize, value: &[u8]) -> Answer
-    requires { ⌜ Finishable p (now image) id (length (now out)) ⌝ }
-    ensures { λ r. ⌜ Answers (made (finished (p .layout) (now (image .entry)) id (now (value .entry)) (now (out .entry)))) r
-        (now (out .entry)) (now (out .exit)) ⌝ }
+pub fn finish(out: &mut [u8], slots: usize, rank: Rank, value: &[u8]) -> Answer
+    requires { ⌜ Finishable slots rank (length (now out)) ⌝ }
+    ensures { λ r. ⌜ Answers (made (finishedWith slots rank (now (value .entry)) (now (out .entry)))) r (now (out .entry))
+        (now (out .exit)) ⌝ }
 {
-    put_hash(out, image, p, id, value);
+    put_hash(out, slots, rank, value);
     footer::finalize_raw_image(out)
 }
 
 // ---- in place
 
-// Whether the value goes over the bytes of string `id`, which stands at `own`.
-pub fn fits_in_place(image: &[u8], p: Places, id: usize, own: Place, value: &[u8]) -> bool
+// Whether the value goes over the bytes of string `id`, whose record is `own`.
+pub fn fits_in_place(image: &[u8], p: Places, id: usize, own: StringRecord, value: &[u8]) -> bool
     requires { ⌜ Laid p (now image) ⌝ }
     requires { ⌜ Stands p (now image) id own ⌝ }
     ensures { λ r. ⌜ r ≡ fitsInPlace (p .layout) (now (image .entry)) id (now (value .entry)) ⌝ }
 {
-    if own.wide {
+    if own.place.wide {
         return false;
     }
     if !bits::ascii(value) {
         return false;
     }
-    if value.len() != string_tables::size_of(own) {
+    if value.len() != string_tables::size_of(own.place) {
         return false;
     }
     string_overlap::is_alone(image, p, id, own)
@@ -66,7 +63,7 @@ fn put_in_place(
     image: &[u8],
     p: Places,
     id: usize,
-    own: Place,
+    own: StringRecord,
     value: &[u8],
 ) -> Answer
     requires { ⌜ Overwritten p (now image) (now value) id own × (length (now out) ≡ length (now image)) ⌝ }
@@ -74,8 +71,9 @@ fn put_in_place(
         (now (out .exit)) ⌝ }
 {
     bits::put_bytes(out, 0, image);
-    bits::put_bytes(out, p.storage_at + own.at, value);
-    finish(out, image, p, id, value)
+    bits::put_bytes(out, own.start, value);
+    let rank = own.rank;
+    finish(out, p.hashes_at, rank, value)
 }
 
 // The same in a buffer of any length. 11 and 12 never come up: nothing moves.
@@ -84,7 +82,7 @@ pub fn patch_in_place(
     image: &[u8],
     p: Places,
     id: usize,
-    own: Place,
+    own: StringRecord,
     value: &[u8],
 ) -> Answer
     requires { ⌜ Overwritten p (now image) (now value) id own ⌝ }

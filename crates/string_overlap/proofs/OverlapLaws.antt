@@ -15,7 +15,7 @@ use Rattle.sections.specs.Places.{Placed}
 use Rattle.sections.proofs.SectionLaws.{Sectioned, sectioned}
 use Rattle.string_tables.specs.declared.Place.{Place}
 use Rattle.string_tables.specs.Strings.{asPlace}
-use Rattle.string_walk.specs.Places.{Stands}
+use Rattle.string_walk.specs.Places.{Lies}
 use Rattle.string_overlap.specs.Overlap.{Low, overlap, isApart, isAlone}
 
 module _ (p q : entry.Place) (n m : ℕ) (e : n ≡ sizeOf q) where
@@ -32,16 +32,16 @@ pub is-other : (i id : ℕ) (b c : Bool) → (i ≡ id → ⊥) → c ≡ b → 
 is-other i id b c h e = rw (ne-eqb i id h, e)
 
 -- a place in storage is low
-pub stands-low : (p : Places) (s : List ℕ) → Placed p s → (i : ℕ) (r : Place) → Stands p s i r → Low r
-stands-low p s pl i r st =
+pub lies-low : (p : Places) (s : List ℕ) → Placed p s → (i : ℕ) (r : Place) → Lies p s i r → Low r
+lies-low p s pl i r st =
     let z : Sectioned p s = sectioned p s pl in
     (omega (arith, st .stored), omega (arith, st .count, st .stored))
 
 -- string i was compared with string id, each where it stands
 pub record OverlapTested (p : Places) (s : List ℕ) (id i : ℕ) (own other : Place) (r : Bool) : Type 0 where
   pub placed : Placed p s
-  pub this : Stands p s id own
-  pub that : Stands p s i other
+  pub this : Lies p s id own
+  pub that : Lies p s i other
   pub tested : r ≡ implies (not (eqb i id)) (not (overlap (asPlace own) (asPlace other)))
 
 module _ (p : Places) (s : List ℕ) (id i : ℕ) (own other : Place) (r : Bool) (h : OverlapTested p s id i own other r) where

@@ -1,6 +1,7 @@
 // Whether a string shares storage with another: then its bytes are not its own to change.
 use sections::Places;
 use string_tables::Place;
+use string_walk::StringRecord;
 ghost use mathlib.Core.Path.{_≡_};
 ghost use mathlib.Core.Bool.{not};
 ghost use lib.Dec.{eqb};
@@ -32,9 +33,9 @@ fn is_apart(i: usize, id: usize, own: Place, other: Place) -> bool
     !do_overlap(own, other)
 }
 
-// Whether no other entry overlaps that of `id`, which stands at `own`: one pass, every entry counts,
-// wide and empty ones too.
-pub fn is_alone(image: &[u8], p: Places, id: usize, own: Place) -> bool
+// Whether no other entry overlaps that of `id`, whose record is `own`: one pass, every entry counts, wide
+// and empty ones too.
+pub fn is_alone(image: &[u8], p: Places, id: usize, own: StringRecord) -> bool
     requires { ⌜ Laid p (now image) ⌝ }
     requires { ⌜ Stands p (now image) id own ⌝ }
     ensures { λ r. ⌜ r ≡ isAlone (p .layout) (now (image .entry)) id ⌝ }
@@ -42,8 +43,8 @@ pub fn is_alone(image: &[u8], p: Places, id: usize, own: Place) -> bool
     let mut c = string_walk::first_string();
     while c.id < p.strings {
         let step = string_walk::string_at(image, p, c);
-        let other = step.place;
-        if !is_apart(c.id, id, own, other) {
+        let other = step.string;
+        if !is_apart(c.id, id, own.place, other.place) {
             return false;
         }
         c = step.next;

@@ -48,7 +48,7 @@ strings-few p s id x c it = let z : Sectioned p s = sectioned p s (it .laid .pla
 pub record PlaceFound (p : Places) (s : List ℕ) (id : ℕ) (x : Shape) (c : Packer) (r : Visited) (n : Place) : Type 0 where
   pub turn : InTurn p s id x c
   pub visits : VisitedOf p s (c .old) r
-  pub new : asPlace n ≡ placeWith (eqb (c .old .id) id) x (asPlace (r .place)) (c .at)
+  pub new : asPlace n ≡ placeWith (eqb (c .old .id) id) x (asPlace (r .string .place)) (c .at)
 
 -- what a string takes at a place: one overflow entry or none, and its bytes
 pub record Takes (n : Place) (over : Bool) (v z : ℕ) : Type 0 where
@@ -59,22 +59,22 @@ pub record Takes (n : Place) (over : Bool) (v z : ℕ) : Type 0 where
   pub low : z ≤ n .count * 2
 
 module _ (p : Places) (s : List ℕ) (id : ℕ) (x : Shape) (c : Packer) (r : Visited) (n : Place) (f : PlaceFound p s id x c r n) where
-  old-count : r .place .count ≤ sizeLimit
+  old-count : r .string .place .count ≤ sizeLimit
   old-count =
       let z : Sectioned p s = sectioned p s (f .turn .laid .placed) in
-      omega (arith, f .visits .place .count, f .visits .place .stored)
+      omega (arith, f .visits .string .place .count, f .visits .string .place .stored)
 
   pub count-small : n .count ≤ sizeLimit
   count-small = subst⁻¹ (λ (q : entry.Place). q .count ≤ sizeLimit) (f .new) (go (eqb (c .old .id) id))
     where
-      go : (b : Bool) → pick b (x .count) (r .place .count) ≤ sizeLimit
+      go : (b : Bool) → pick b (x .count) (r .string .place .count) ≤ sizeLimit
       go true = f .turn .small
       go false = old-count
 
   -- the turn, by what the code found
   pub turned : (over : Bool) (v z : ℕ) → Takes n over v z
       → Turned p s id x c (record {
-        old = r .place;
+        old = r .string;
         new = n;
         next = record { old = r .next; over = c .over + v; at = c .at + z };
       })
@@ -83,7 +83,7 @@ module _ (p : Places) (s : List ℕ) (id : ℕ) (x : Shape) (c : Packer) (r : Vi
       let small : n .count ≤ sizeLimit = count-small in
       let low : c .at ≤ c .old .id * (sizeLimit * 2) = f .turn .reached .low in
       record {
-        old = f .visits .place;
+        old = f .visits .string;
         new = f .new;
         count = count-small;
         string = f .visits .id;
@@ -92,8 +92,8 @@ module _ (p : Places) (s : List ℕ) (id : ℕ) (x : Shape) (c : Packer) (r : Vi
         reached = record {
           old = f .visits .next;
           sums = rw (f .visits .id, t .size, e)
-              (sums-next (p .layout) s id (c .old .id) (c .at) (c .over) x (asPlace (r .place)) (asPlace n) (f .turn .reached .sums)
-              (f .visits .place .is) (f .new));
+              (sums-next (p .layout) s id (c .old .id) (c .at) (c .over) x (asPlace (r .string .place)) (asPlace n) (f .turn .reached .sums)
+              (f .visits .string .place .is) (f .new));
           few = omega (arith, f .turn .reached .few, f .visits .id, t .few);
           low = omega (arith, f .visits .id, t .low);
         };

@@ -32,10 +32,10 @@ pub record InTurn (p : Places) (s : List ℕ) (id : ℕ) (x : Shape) (c : Packer
   pub reached : Reached p s id x c
   pub small : x .count ≤ sizeLimit
 
--- one turn: where the string stood, where it goes, and what is packed with it
+-- one turn: the string as it stands in the image, where it goes, and what is packed with it
 pub record Turned (p : Places) (s : List ℕ) (id : ℕ) (x : Shape) (c : Packer) (r : Turn) : Type 0 where
   pub old : Stands p s (c .old .id) (r .old)
-  pub new : asPlace (r .new) ≡ placeWith (eqb (c .old .id) id) x (asPlace (r .old)) (c .at)
+  pub new : asPlace (r .new) ≡ placeWith (eqb (c .old .id) id) x (asPlace (r .old .place)) (c .at)
   pub count : r .new .count ≤ sizeLimit
   pub string : r .next .old .id ≡ c .old .id + 1
   pub over : r .next .over ≡ c .over + bit (isOver (asPlace (r .new)))

@@ -2,6 +2,7 @@
 use sections::Places;
 use string_tables::Place;
 use string_walk::Cursor;
+use string_walk::StringRecord;
 ghost use mathlib.Core.Path.{_≡_};
 ghost use mathlib.Core.List.{List};
 ghost use Prim.Native.Nat.{ℕ, _+_, _*_, _≤_};
@@ -32,9 +33,10 @@ pub struct Packer {
     pub at: usize,
 }
 
-// A string in its turn: where it stood, where it goes, and how far the strings are packed with it.
+// A string in its turn: as it stands in the image, where it goes, and how far the strings are packed with
+// it.
 pub struct Turn {
-    pub old: Place,
+    pub old: StringRecord,
     pub new: Place,
     pub next: Packer,
 }
@@ -108,8 +110,8 @@ pub fn take_turn(image: &[u8], p: Places, id: usize, new: Shape, c: Packer) -> T
 {
     let from = c.old;
     let step = string_walk::string_at(image, p, from);
-    let old = step.place;
-    let place = new_place(old, new, from.id == id, c.at);
+    let old = step.string;
+    let place = new_place(old.place, new, from.id == id, c.at);
     let behind = step.next;
     let next = Packer {
         old: behind,

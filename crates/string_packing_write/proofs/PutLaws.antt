@@ -12,7 +12,7 @@ use Rattle.bits.specs.Choice.{pick, both}
 use Rattle.bits.specs.Bytes.{bytesAt, ascii}
 use Rattle.format.specs.Entry as entry
 use Rattle.unicode.specs.Utf8.{utf16, unitBytes}
-use Rattle.image.specs.Sections.{stringsIn, storageAt}
+use Rattle.image.specs.Sections.{stringsIn}
 use Rattle.image.specs.Strings.{Str, sizeOf, stringOf}
 use Rattle.edits.specs.Packing.{Packed, standing, placed, storeOf, packed}
 use Rattle.edits.specs.Rebuild.{overs, region, padded}
@@ -27,6 +27,7 @@ use Rattle.string_packing.specs.declared.Packer.{Packer}
 use Rattle.string_packing.specs.declared.Turn.{Turn}
 use Rattle.string_packing.specs.Strings.{asString, stringWith, stringsWith, Shaped}
 use Rattle.string_packing.specs.declared.Sizes.{Sizes}
+use Rattle.string_walk.proofs.RecordLaws.{record-small, record-inside, record-string}
 use Rattle.string_packing.specs.Pass.{InTurn, Turned}
 use Rattle.string_packing.proofs.ShapeLaws.{place-is}
 use Rattle.string_packing.proofs.PassLaws.{storage-is, overflows-are}
@@ -50,11 +51,11 @@ value-bytes value b e = ap (λ (c : Bool). pick c (unitBytes (utf16 value)) valu
 -- where a string stood lies in the image
 module _ (p : Places) (s : List ℕ) (id : ℕ) (x : Shape) (c : Packer) (it : InTurn p s id x c) (r : Turn)
     (tu : Turned p s id x c r) where
-  pub old-in : p .«storage_at» + r .old .at + sizeOf (asPlace (r .old)) ≤ length s
-  old-in = let z : Sectioned p s = sectioned p s (it .laid .placed) in omega (arith, tu .old .before)
+  pub old-in : r .old .start + sizeOf (asPlace (r .old .place)) ≤ length s
+  old-in = record-inside p s (it .laid .placed) (c .old .id) (r .old) (tu .old)
 
-  pub old-few : r .old .count < 4294967296
-  old-few = let z : Sectioned p s = sectioned p s (it .laid .placed) in omega (arith, tu .old .count, tu .old .stored)
+  pub old-few : r .old .place .count < 4294967296
+  old-few = record-small p s (it .laid .placed) (c .old .id) (r .old) (tu .old) .0
 
 -- a string is in its turn, one of them gets a value of a shape, and a buffer of n bytes has room for all
 pub record Due (p : Places) (s value : List ℕ) (id : ℕ) (x : Shape) (c : Packer) (to : RegionPlaces) (n : ℕ) : Type 0 where
@@ -65,10 +66,10 @@ pub record Due (p : Places) (s value : List ℕ) (id : ℕ) (x : Shape) (c : Pac
 -- the entry of a string is written, then its bytes; n is the size that it had
 pub record Wrote (p : Places) (s value : List ℕ) (id : ℕ) (x : Shape) (c : Packer) (to : RegionPlaces) (r : Turn) (n : ℕ)
     (out o1 o2 : List ℕ) : Type 0 where
-  pub size : n ≡ sizeOf (asPlace (r .old))
+  pub size : n ≡ sizeOf (asPlace (r .old .place))
   pub entered : o1 ≡ putEntry to (c .old .id) (c .over) (asPlace (r .new)) out
   pub stored : o2 ≡ sets o1 (to .«storage_at» + c .at)
-      (storedBytes (eqb (c .old .id) id) (x .wide) s value (p .«storage_at» + r .old .at) n)
+      (storedBytes (eqb (c .old .id) id) (x .wide) s value (r .old .start) n)
 
 module _ (p : Places) (s value : List ℕ) (id : ℕ) (x : Shape) (c : Packer) (to : RegionPlaces) (room : ℕ)
     (d : Due p s value id x c to room) where
@@ -105,22 +106,21 @@ module _ (p : Places) (s value : List ℕ) (id : ℕ) (x : Shape) (c : Packer) (
 
   module _ (r : Turn) (tu : Turned p s id x c r) where
     new-is : asPlace (r .new) ≡ standing (c .at) (strings (c .old .id))
-    new-is = tu .new ∙ place-is (p .layout) s id (c .old .id) (c .at) x (asString value) (d .shaped) (asPlace (r .old)) (tu .old .is)
+    new-is =
+        tu .new
+        ∙ place-is (p .layout) s id (c .old .id) (c .at) x (asString value) (d .shaped) (asPlace (r .old .place)) (tu .old .place .is)
 
-    old-bytes : bytesAt s (p .«storage_at» + r .old .at) (sizeOf (asPlace (r .old))) ≡ stringOf (p .layout) s (c .old .id) .bytes
-    unfolding stringOf
-    old-bytes =
-        ap (λ (a : ℕ). bytesAt s (a + r .old .at) (sizeOf (asPlace (r .old)))) (sectioned p s (d .turn .laid .placed) .storageFrom)
-        ∙ ap (λ (q : entry.Place). bytesAt s (storageAt (p .layout) s + q .at) (sizeOf q)) (tu .old .is)
+    old-bytes : bytesAt s (r .old .start) (sizeOf (asPlace (r .old .place))) ≡ stringOf (p .layout) s (c .old .id) .bytes
+    old-bytes = ap (λ (t : Str). t .bytes) (record-string p s (d .turn .laid .placed) (c .old .id) (r .old) (tu .old))
 
-    bytes-is : storedBytes (eqb (c .old .id) id) (x .wide) s value (p .«storage_at» + r .old .at) (sizeOf (asPlace (r .old))) ≡ strings
+    bytes-is : storedBytes (eqb (c .old .id) id) (x .wide) s value (r .old .start) (sizeOf (asPlace (r .old .place))) ≡ strings
         (c .old .id) .bytes
     unfolding storedBytes sourceOf stringWith
     bytes-is = go (eqb (c .old .id) id)
       where
         go : (n : Bool)
             → pick (both n (x .wide)) (unitBytes (utf16 value))
-            (pick n value (bytesAt s (p .«storage_at» + r .old .at) (sizeOf (asPlace (r .old)))))
+            (pick n value (bytesAt s (r .old .start) (sizeOf (asPlace (r .old .place)))))
             ≡ pick n (asString value) (stringOf (p .layout) s (c .old .id)) .bytes
         go true = value-bytes value (x .wide) (d .shaped .0)
         go false = old-bytes
@@ -143,7 +143,7 @@ module _ (p : Places) (s value : List ℕ) (id : ℕ) (x : Shape) (c : Packer) (
         }
 
     pub bytes-room : to .«storage_at» + c .at + length
-        (storedBytes (eqb (c .old .id) id) (x .wide) s value (p .«storage_at» + r .old .at) (sizeOf (asPlace (r .old)))) ≤ room
+        (storedBytes (eqb (c .old .id) id) (x .wide) s value (r .old .start) (sizeOf (asPlace (r .old .place)))) ≤ room
     bytes-room = rw bytes-is (omega (arith, d .roomy .store, size-fits))
 
     -- ---- what they leave
@@ -153,7 +153,7 @@ module _ (p : Places) (s value : List ℕ) (id : ℕ) (x : Shape) (c : Packer) (
     unfolding putString
     string-put n out o1 o2 w =
         w .stored ∙ ap (λ (m : ℕ). sets o1 (to .«storage_at» + c .at)
-        (storedBytes (eqb (c .old .id) id) (x .wide) s value (p .«storage_at» + r .old .at) m)) (w .size)
+        (storedBytes (eqb (c .old .id) id) (x .wide) s value (r .old .start) m)) (w .size)
         ∙ ap (λ (bs : List ℕ). sets o1 (to .«storage_at» + c .at) bs) bytes-is
         ∙ ap (λ (o : List ℕ). sets o (to .«storage_at» + c .at) (strings (c .old .id) .bytes))
         (w .entered ∙ ap (λ (q : entry.Place). putEntry to (c .old .id) (c .over) q out) new-is)

@@ -109,7 +109,7 @@ fn put_string<'a>(
     let i = c.old.id;
     let t = string_packing::take_turn(image, p, id, new, c);
     let old = t.old;
-    let size = string_tables::size_of(old);
+    let size = string_tables::size_of(old.place);
     put_entry(out, to, i, c.over, t.new);
     put_stored(
         out,
@@ -118,7 +118,7 @@ fn put_string<'a>(
         value,
         i == id,
         new.wide,
-        p.storage_at + old.at,
+        old.start,
         size,
     );
     t.next

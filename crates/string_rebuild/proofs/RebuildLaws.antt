@@ -27,9 +27,11 @@ use Rattle.string_packing.specs.declared.Shape.{Shape}
 use Rattle.string_packing.specs.declared.Sizes.{Sizes}
 use Rattle.string_packing.specs.Strings.{asString, stringsWith}
 use Rattle.string_packing.proofs.PassLaws.{storage-is, overflows-are, tail-is}
-use Rattle.string_in_place.specs.Known.{Finishable}
+use Rattle.string_walk.specs.declared.StringRecord.{StringRecord}
+use Rattle.string_walk.specs.Places.{Stands}
+use Rattle.string_in_place.specs.Known.{finishedWith}
 use Rattle.string_in_place.specs.Patch.{changed, finished, patchedString}
-use Rattle.string_in_place.proofs.FinishLaws.{answers-over, length-finished}
+use Rattle.string_in_place.proofs.FinishLaws.{Slotted, finished-is, answers-over, length-finished}
 use Rattle.string_rebuild.specs.Ready.{Ready}
 
 -- the strings of the new image, packed
@@ -77,8 +79,15 @@ module _ (p : Places) (s value : List ℕ) (id : ℕ) (x : Shape) (z : Sizes) (t
   pub header-room : table.headerLength ≤ room
   header-room = omega (arith, sc, rd .tail, rd .long)
 
-  pub finish-room : Finishable p s id room
-  finish-room = record { laid = rd .asked .laid; known = rd .asked .known; holds = around-room .frontRoom; limit = rd .limit }
+  pub slotted : (own : StringRecord) → Stands p s id own → Slotted p s id (own .rank) room
+  slotted own st =
+      record {
+        laid = rd .asked .laid;
+        known = rd .asked .known;
+        ranked = st .rank;
+        holds = around-room .frontRoom;
+        limit = rd .limit;
+      }
 
   move-is : moveTail p to ≡ rebuilding (p .layout) ts s
   move-is = λ j. record { from = sc .tailFrom j; to = to-is j; cause = Strings }
@@ -124,11 +133,13 @@ module _ (p : Places) (s value : List ℕ) (id : ℕ) (x : Shape) (z : Sizes) (t
         ))
         ∙ rebuild-is (p .layout) ts s
 
-    pub patch-put : (o₅ : List ℕ) (r : Answer) → Answers (made (finished (p .layout) s id value o₄)) r o₄ o₅
+    pub patch-put : (own : StringRecord) → Stands p s id own → (o₅ : List ℕ) (r : Answer)
+        → Answers (made (finishedWith (p .«hashes_at») (own .rank) value o₄)) r o₄ o₅
         → Answers (made (patchedString (p .layout) s id value)) r out o₅
     unfolding patchedString changed
-    patch-put o₅ r a =
+    patch-put own st o₅ r a =
         let k : length (finished (p .layout) s id value o₄) ≡ length o₄
         = length-finished (p .layout) s value o₄ id (omega (arith, header-room, w .long, w .fits)) in
         rw (rd .asked .moves, ← rebuilt)
-        (answers-over (finished (p .layout) s id value o₄) o₄ out o₅ r (sym k) (sym (w .long) ∙ sym k) a)
+        (answers-over (finished (p .layout) s id value o₄) o₄ out o₅ r (sym k) (sym (w .long) ∙ sym k)
+        (rw (finished-is p s id (own .rank) room (slotted own st) value o₄) at a))

@@ -6,8 +6,10 @@ use relocate::Move;
 use sections::Places;
 use string_packing::Shape;
 use string_packing::Sizes;
+use string_walk::StringRecord;
 ghost use lib.ListN.{length};
 ghost use Rattle.bits.specs.Outcome.{Answers, made, roomed};
+ghost use Rattle.string_walk.specs.Places.{Stands};
 ghost use Rattle.string_in_place.specs.Patch.{patchedString, patchKnown};
 ghost use Rattle.string_rebuild.specs.Ready.{Asked, Ready};
 
@@ -18,11 +20,13 @@ fn put_rebuilt<'a>(
     value: &'a [u8],
     p: Places,
     id: usize,
+    own: StringRecord,
     new: Shape,
     sizes: Sizes,
     tail: usize,
 ) -> Answer
     requires { ⌜ Ready p (now image) (now value) id new sizes tail (length (now out)) ⌝ }
+    requires { ⌜ Stands p (now image) id own ⌝ }
     ensures { λ r. ⌜ Answers (made (patchedString (p .layout) (now (image .entry)) id (now (value .entry)))) r (now (out .entry))
         (now (out .exit)) ⌝ }
 {
@@ -36,14 +40,23 @@ fn put_rebuilt<'a>(
     string_packing_write::put_region(out, image, value, p, id, new, sizes);
     relocate::put_counts(out, sizes.overflows, sizes.storage);
     relocate::relocate(out, image, layout, m);
-    string_in_place::finish(out, image, p, id, value)
+    let rank = own.rank;
+    string_in_place::finish(out, p.hashes_at, rank, value)
 }
 
 // The same in a buffer of any length: 11 where the image would be too long, 12 where a place that
 // moves does not fit its record, 13 where there is no room. A value of more units than an image may
 // have bytes is told before it is part of a sum.
-pub fn rebuild<'a>(out: &mut [u8], image: &'a [u8], value: &'a [u8], p: Places, id: usize) -> Answer
+pub fn rebuild<'a>(
+    out: &mut [u8],
+    image: &'a [u8],
+    value: &'a [u8],
+    p: Places,
+    id: usize,
+    own: StringRecord,
+) -> Answer
     requires { ⌜ Asked p (now image) (now value) id ⌝ }
+    requires { ⌜ Stands p (now image) id own ⌝ }
     ensures { λ r. ⌜ Answers (roomed (length (now (out .entry))) (patchKnown (p .layout) (now (image .entry)) id (now (value .entry)))) r
         (now (out .entry)) (now (out .exit)) ⌝ }
 {
@@ -63,5 +76,5 @@ pub fn rebuild<'a>(out: &mut [u8], image: &'a [u8], value: &'a [u8], p: Places, 
     if out.len() < n {
         return Answer::Refused(refusals::ROOM);
     }
-    put_rebuilt(&mut out[0..n], image, value, p, id, new, sizes, tail)
+    put_rebuilt(&mut out[0..n], image, value, p, id, own, new, sizes, tail)
 }

@@ -23,7 +23,7 @@ bit-most true = omega arith
 bit-most false = omega arith
 
 -- of n tests at most n hold
-pub bits-most : (f : ℕ → Bool) (n : ℕ) → sumBelow n (λ j. bit (f j)) ≤ n
+bits-most : (f : ℕ → Bool) (n : ℕ) → sumBelow n (λ j. bit (f j)) ≤ n
 unfolding sumBelow
 bits-most f zero = omega arith
 bits-most f (suc n) = omega (arith, bits-most f n, bit-most (f n))

@@ -22,9 +22,9 @@ use Rattle.string_walk.specs.declared.Counts.{Counts}
 use Rattle.string_walk.specs.declared.Cursor.{Cursor}
 use Rattle.string_walk.specs.declared.Location.{Location}
 use Rattle.string_walk.specs.declared.Location.the-variants.{At, Refused}
-use Rattle.string_walk.specs.declared.Step.{Step}
+use Rattle.string_walk.specs.declared.StringRecord.{StringRecord}
 use Rattle.string_walk.specs.declared.Visited.{Visited}
-use Rattle.string_walk.specs.Places.{Stands, StepOf, countsOf, VisitedOf, Locates}
+use Rattle.string_walk.specs.Places.{Lies, Stands, countsOf, VisitedOf, Locates}
 use Rattle.string_walk.specs.Walk.{visits, Walked}
 use Rattle.string_walk.proofs.VisitLaws.{over-most, walked-over, over-walked, walked-visits}
 
@@ -75,8 +75,8 @@ module _ (p : Places) (s : List ℕ) (c : Counts) (x : ℕ) (h : EntryAt p s c x
   unfolding placeAt locate
   located = rw (over, h .entry)
 
-  pub stands : (r : Place) → asPlace r ≡ placeOf (pairIn (p .«over_at») s) (c .over) x → Stands p s (c .small) r
-  stands r g =
+  pub lies : (r : Place) → asPlace r ≡ placeOf (pairIn (p .«over_at») s) (c .over) x → Lies p s (c .small) r
+  lies r g =
       let z : Sectioned p s = sectioned p s (h .laid .placed) in
       let q : asPlace r ≡ placeAt (p .layout) s (c .small) = g ∙ image-place p s (h .laid .placed) (c .over) x ∙ located in
       let m : r .at + sizeOf (asPlace r) ≤ storageIn s
@@ -94,19 +94,20 @@ pass-visits p s c r v n e = e ∙ walked-visits (p .layout) s (countsOf (r .next
 
 -- ---- what a location says
 
--- the string behind those that were visited
-pub located-step : (p : Places) (s : List ℕ) (c : Counts) (r : Step) (id : ℕ) → StepOf p s c r → c .small ≡ id → id < p .strings
-    → Locates p s id refusals.id (At id (r .place) (r .counts))
-located-step p s c r id e f known =
-    (refl, known, rw f at (e .place), walked-visits (p .layout) s (r .counts) (e .walked) id (omega (arith, e .next)))
+-- the string that a pass comes to at its id
+pub located-pass : (p : Places) (s : List ℕ) (c : Cursor) (r : Visited) (id : ℕ) → VisitedOf p s c r → c .id ≡ id
+    → id < p .strings
+    → Locates p s id refusals.id (At id (r .string) (countsOf (r .next)))
+located-pass p s c r id v e known =
+    (refl, known, rw e at (v .string), rw e at (pass-visits p s c r v (countsOf (r .next)) refl))
 
 module _ (p : Places) (s : List ℕ) (id n : ℕ) (r : Location) (h : Locates p s id n r) where
-  pub located-at : (i : ℕ) (q : Place) (c : Counts) → r ≡ At i q c
+  pub located-at : (i : ℕ) (q : StringRecord) (c : Counts) → r ≡ At i q c
       → (i ≡ id) × (id < p .strings) × Stands p s id q × (c ≡ visits (p .layout) s id)
   located-at i q c e = subst (λ (x : Location). Locates p s id n x) e h
 
   -- said of the id that it tells
-  pub located-self : (i : ℕ) (q : Place) (c : Counts) → r ≡ At i q c → (i < p .strings) × Stands p s i q
+  pub located-self : (i : ℕ) (q : StringRecord) (c : Counts) → r ≡ At i q c → (i < p .strings) × Stands p s i q
   located-self i q c e =
       let (x, known, st, _) = located-at i q c e in
       (rw x known, subst⁻¹ (λ (j : ℕ). Stands p s j q) x st)

@@ -1,22 +1,38 @@
 // The strings of an admitted image, one by one. A pass over all of them has one cursor, which carries
-// the count of overflow entries and the run of kinds along; a single id is located by the walk from
-// the tables' starts. Both visit a string's entries by one function, and give the same.
+// the count of overflow entries and the run of kinds along; a single id is located by bringing the
+// cursor to it from the tables' starts. So there is one record of a string, however it is found.
 use sections::Places;
 use string_tables::Place;
 ghost use mathlib.Core.Path.{_≡_};
 ghost use mathlib.Core.Bool.{true};
 ghost use mathlib.Core.List.{List};
-ghost use Prim.Native.Nat.{ℕ, _+_, _*_, _≤_, _<_};
+ghost use Prim.Native.Nat.{ℕ, _+_, _-_, _*_, _≤_, _<_};
 ghost use lib.ListN.{length};
+ghost use Rattle.bits.specs.Bytes.{wordAt};
 ghost use Rattle.image.specs.Strings.{smallIn, unitSize};
-ghost use Rattle.image.specs.Kinds.{kindIn, isIdentifierRun, isIdentifier, rankOf};
+ghost use Rattle.image.specs.Kinds.{kindIn, isIdentifierRun, hashIn};
 ghost use Rattle.refusals.specs.Numbers as refusals;
 ghost use Rattle.sections.specs.declared.Places.{Places};
 ghost use Rattle.sections.specs.Places.{Placed, Laid};
 ghost use Rattle.string_walk.specs.Places.{StepOf, countsOf, CursorOf, RunBefore, VisitedOf, Locates, numberOf};
+ghost use Rattle.string_walk.specs.Records.{isRanked};
+ghost use Rattle.string_walk.specs.Runs.{runAt, rankInRun, RunOf, Reaches};
 ghost use Rattle.string_walk.specs.Units.{unitAt};
-ghost use Rattle.string_walk.specs.Runs.{runAt, RunOf};
 ghost use Rattle.string_walk.specs.Walk.{Walked};
+
+// The rank of a string among the identifiers: how many of them have a lower id. A plain string has none.
+pub enum Rank {
+    At(usize),
+    Plain,
+}
+
+// A string of an image, as all who find it hand it round: where its bytes start, its place in storage as
+// its entries give it, and its rank.
+pub struct StringRecord {
+    pub start: usize,
+    pub place: Place,
+    pub rank: Rank,
+}
 
 // Where a pass over the strings has come to: the next string, the overflow entries before it, and the
 // run of kinds that the pass has reached.
@@ -33,7 +49,7 @@ pub struct Counts {
     pub over: usize,
 }
 
-// A string that a walk has come to: its place, and what is visited then.
+// The place of a string that a walk has come to, and what is visited then.
 pub struct Step {
     pub place: Place,
     pub counts: Counts,
@@ -41,19 +57,26 @@ pub struct Step {
 
 // One string of a pass, and where the pass goes on.
 pub struct Visited {
-    pub place: Place,
-    pub identifier: bool,
+    pub string: StringRecord,
     pub next: Cursor,
 }
 
-// A string that was looked for: its id, its place, and what was visited on the way to it; or the number of
+// A string that was looked for: its id, its record, and what was visited on the way to it; or the number of
 // the refusal.
 pub enum Location {
-    At(usize, Place, Counts),
+    At(usize, StringRecord, Counts),
     Refused(u8),
 }
 
 // ---- strings
+
+// Word `i` of a section of words that starts at `at`: kinds, hashes or small entries.
+fn word_at(image: &[u8], at: usize, i: usize) -> u64
+    requires { ⌜ (at < 1099511627776) × (i < 4294967296) × (at + i * 4 + 4 ≤ length (now image)) ⌝ }
+    ensures { λ r. ⌜ (r ≡ wordAt (now (image .entry)) (at + i * 4)) × (r < 4294967296) ⌝ }
+{
+    bits::word(image, sections::entry_at(at, i, format::FIRST_WORD))
+}
 
 // Small entry `i`.
 fn small_entry(image: &[u8], p: Places, i: usize) -> u64
@@ -61,10 +84,7 @@ fn small_entry(image: &[u8], p: Places, i: usize) -> u64
     requires { ⌜ i < p .strings ⌝ }
     ensures { λ r. ⌜ (r ≡ smallIn (p .layout) (now (image .entry)) i) × (r < 4294967296) ⌝ }
 {
-    bits::word(
-        image,
-        sections::entry_at(p.small_at, i, format::SMALL_ENTRY),
-    )
+    word_at(image, p.small_at, i)
 }
 
 // Visits the next string: its small entry and, where that overflows, its pair. Each is counted where it
@@ -99,31 +119,6 @@ fn walk_to(image: &[u8], p: Places, id: usize) -> Counts
     counts
 }
 
-// String `id`, located by the walk; 7 where there is none.
-pub fn locate(image: &[u8], p: Places, id: usize) -> Location
-    requires { ⌜ Laid p (now image) ⌝ }
-    ensures { λ r. ⌜ Locates p (now (image .entry)) id refusals.id r ⌝ }
-{
-    if p.strings <= id {
-        return Location::Refused(refusals::ID);
-    }
-    let before = walk_to(image, p, id);
-    let step = visit(image, p, before);
-    let place = step.place;
-    let counts = step.counts;
-    Location::At(id, place, counts)
-}
-
-// The number of a refusal; 0 where a string was found.
-pub fn number_of(location: Location) -> u8
-    ensures { λ r. ⌜ r ≡ numberOf location ⌝ }
-{
-    match location {
-        Location::At(_, _, _) => 0,
-        Location::Refused(number) => number,
-    }
-}
-
 // Unit `i` of a string whose bytes start at `start`. A narrow byte is a unit.
 pub fn unit_at(image: &[u8], start: usize, wide: bool, i: usize) -> u64
     requires { ⌜ start + i * unitSize wide + unitSize wide ≤ length (now image) ⌝ }
@@ -138,14 +133,13 @@ pub fn unit_at(image: &[u8], start: usize, wide: bool, i: usize) -> u64
 
 // ---- kinds
 
-// A run of kinds: how many there are up to it, the ids that it covers, whether they are identifiers,
-// and how many identifiers come before them.
+// A run of kinds: how many there are up to it, where the ids end that it covers, whether they are
+// identifiers, and how many identifiers there are up to that end.
 pub struct Run {
     pub count: usize,
-    pub start: usize,
     pub end: usize,
     pub identifier: bool,
-    pub rank: usize,
+    pub identifiers: usize,
 }
 
 // Where a pass over the kinds starts: a run that covers nothing.
@@ -154,10 +148,9 @@ fn first_run() -> Run
 {
     Run {
         count: 0,
-        start: 0,
         end: 0,
         identifier: false,
-        rank: 0,
+        identifiers: 0,
     }
 }
 
@@ -167,7 +160,7 @@ fn kind_word(image: &[u8], p: Places, k: usize) -> u64
     requires { ⌜ k < p .kinds ⌝ }
     ensures { λ r. ⌜ r ≡ kindIn (p .layout) (now (image .entry)) k ⌝ }
 {
-    bits::word(image, sections::entry_at(p.kinds_at, k, format::KIND_ENTRY))
+    word_at(image, p.kinds_at, k)
 }
 
 fn is_identifier_run(word: u64) -> bool
@@ -180,17 +173,16 @@ fn is_identifier_run(word: u64) -> bool
 fn next_run(image: &[u8], p: Places, run: Run) -> Run
     requires { ⌜ Laid p (now image) ⌝ }
     requires { ⌜ RunOf p (now image) run × (run .count < p .kinds) ⌝ }
-    ensures { λ r. ⌜ (r ≡ runAt (kindIn (p .layout) (now (image .entry))) (run .count + 1)) × (r .start ≡ run .end)
-        × (r .count ≡ run .count + 1) ⌝ }
+    ensures { λ r. ⌜ (r ≡ runAt (kindIn (p .layout) (now (image .entry))) (run .count + 1)) × (r .count ≡ run .count + 1) ⌝ }
 {
     let word = kind_word(image, p, run.count);
     let size = format::value(word, format::KIND_RUN) as usize;
+    let identifier = is_identifier_run(word);
     Run {
         count: run.count + 1,
-        start: run.end,
         end: run.end + size,
-        identifier: is_identifier_run(word),
-        rank: run.rank + format::if_set(run.identifier, run.end - run.start),
+        identifier,
+        identifiers: run.identifiers + format::if_set(identifier, size),
     }
 }
 
@@ -198,13 +190,45 @@ fn next_run(image: &[u8], p: Places, run: Run) -> Run
 // reads each kind once.
 fn run_of(image: &[u8], p: Places, from: Run, id: usize) -> Run
     requires { ⌜ RunBefore p (now image) from id ⌝ }
-    ensures { λ r. ⌜ RunOf p (now (image .entry)) r × (r .start ≤ id) × (id < r .end) ⌝ }
+    ensures { λ r. ⌜ RunOf p (now (image .entry)) r × Reaches p (now (image .entry)) r id × (id < r .end) ⌝ }
 {
     let mut run = from;
     while run.end <= id {
         run = next_run(image, p, run);
     }
     run
+}
+
+// The rank of a string that a run covers: the identifiers up to the run's end, less those from the string
+// on.
+fn rank_in(run: Run, id: usize) -> Rank
+    requires { ⌜ id ≤ run .end ⌝ }
+    requires { ⌜ (run .identifier ≡ true → run .end - id ≤ run .identifiers) ⌝ }
+    ensures { λ r. ⌜ r ≡ rankInRun run id ⌝ }
+{
+    if !run.identifier {
+        return Rank::Plain;
+    }
+    Rank::At(run.identifiers - (run.end - id))
+}
+
+// Whether a rank is that of an identifier.
+pub fn is_identifier(rank: Rank) -> bool
+    ensures { λ r. ⌜ r ≡ isRanked rank ⌝ }
+{
+    match rank {
+        Rank::At(_) => true,
+        Rank::Plain => false,
+    }
+}
+
+// The hash that is stored for the identifier of a rank, stale or not.
+pub fn stored_hash(image: &[u8], p: Places, rank: usize) -> u64
+    requires { ⌜ Placed p (now image) ⌝ }
+    requires { ⌜ rank < p .identifiers ⌝ }
+    ensures { λ r. ⌜ (r ≡ hashIn (p .layout) (now (image .entry)) rank) × (r < 4294967296) ⌝ }
+{
+    word_at(image, p.hashes_at, rank)
 }
 
 // ---- passes
@@ -243,16 +267,17 @@ pub fn string_at(image: &[u8], p: Places, at: Cursor) -> Visited
     let place = step.place;
     let from = at.run;
     let run = run_of(image, p, from, at.id);
+    let string = StringRecord {
+        start: p.storage_at + place.at,
+        place,
+        rank: rank_in(run, at.id),
+    };
     let next = Cursor {
         id: step.counts.small,
         over: step.counts.over,
         run,
     };
-    Visited {
-        place,
-        identifier: run.identifier,
-        next,
-    }
+    Visited { string, next }
 }
 
 // What a pass has visited up to its cursor.
@@ -267,21 +292,26 @@ pub fn counts_of(at: Cursor) -> Counts
 
 // ---- one id
 
-pub fn is_identifier(image: &[u8], p: Places, id: usize) -> bool
+// String `id`; 7 where there is none. The walk to it is what is counted.
+pub fn locate(image: &[u8], p: Places, id: usize) -> Location
     requires { ⌜ Laid p (now image) ⌝ }
-    requires { ⌜ id < p .strings ⌝ }
-    ensures { λ r. ⌜ r ≡ isIdentifier (p .layout) (now (image .entry)) id ⌝ }
+    ensures { λ r. ⌜ Locates p (now (image .entry)) id refusals.id r ⌝ }
 {
-    run_of(image, p, first_run(), id).identifier
+    if p.strings <= id {
+        return Location::Refused(refusals::ID);
+    }
+    let from = string_from(image, p, id);
+    let found = string_at(image, p, from);
+    let string = found.string;
+    Location::At(id, string, counts_of(found.next))
 }
 
-// The rank of `id` among identifiers: the number of its hash slot, if it is one.
-pub fn rank_of(image: &[u8], p: Places, id: usize) -> usize
-    requires { ⌜ Laid p (now image) ⌝ }
-    requires { ⌜ id < p .strings ⌝ }
-    ensures { λ r. ⌜ (r ≡ rankOf (p .layout) (now (image .entry)) id)
-        × (isIdentifier (p .layout) (now (image .entry)) id ≡ true → r < p .identifiers) ⌝ }
+// The number of a refusal; 0 where a string was found.
+pub fn number_of(location: Location) -> u8
+    ensures { λ r. ⌜ r ≡ numberOf location ⌝ }
 {
-    let run = run_of(image, p, first_run(), id);
-    run.rank + format::if_set(run.identifier, id - run.start)
+    match location {
+        Location::At(_, _, _) => 0,
+        Location::Refused(number) => number,
+    }
 }

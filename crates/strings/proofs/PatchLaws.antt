@@ -17,7 +17,7 @@ use Rattle.unicode.specs.Utf8.{isUtf8, utf16}
 use Rattle.image.specs.Sections.{stringsIn}
 use Rattle.image.specs.Admission.{checks}
 use Rattle.sections.specs.declared.Places.{Places}
-use Rattle.string_tables.specs.declared.Place.{Place}
+use Rattle.string_walk.specs.declared.StringRecord.{StringRecord}
 use Rattle.string_walk.specs.declared.Counts.{Counts}
 use Rattle.string_walk.specs.declared.Location.{Location}
 use Rattle.string_walk.specs.declared.Location.the-variants as location
@@ -180,7 +180,7 @@ module _ (l : Layout) (s : List ℕ) (r : Admission) (p : Places) (old new out :
         let y : n ≡ 14 = w ∙ ap location-number v ∙ x in
         rw (sought, ← strings-is l s r p admits, le-leb (p .strings) at (rw found-here at k), y) (refl, refl)
 
-    module _ (id : ℕ) (q : Place) (n : Counts) (v : loc ≡ location.At id q n) where
+    module _ (id : ℕ) (q : StringRecord) (n : Counts) (v : loc ≡ location.At id q n) where
       id-is : id ≡ at
       id-is = located-at p s _ refusals.absent loc (h .location) id q n v .0 ∙ found-here
 

@@ -3,8 +3,8 @@ use admission::Admission;
 use bits::Answer;
 use format::Layout;
 use sections::Places;
-use string_tables::Place;
 use string_walk::Location;
+use string_walk::StringRecord;
 ghost use Prim.Native.Nat.{_<_};
 ghost use lib.ListN.{length};
 ghost use Rattle.bits.specs.Outcome.{Answers, roomed};
@@ -13,7 +13,7 @@ ghost use Rattle.string_walk.specs.Places.{Stands};
 ghost use Rattle.string_in_place.specs.Patch.{patchKnown};
 ghost use Rattle.strings.specs.Patch.{patchById, patchByValue};
 
-// A string of an admitted image, which stands at `own`, gets a value: in place where it fits there,
+// A string of an admitted image, whose record is `own`, gets a value: in place where it fits there,
 // else by a rebuild.
 fn patch_known<'a>(
     out: &mut [u8],
@@ -21,7 +21,7 @@ fn patch_known<'a>(
     value: &'a [u8],
     p: Places,
     id: usize,
-    own: Place,
+    own: StringRecord,
 ) -> Answer
     requires { ⌜ Laid p (now image) × (id < p .strings) ⌝ }
     requires { ⌜ Stands p (now image) id own ⌝ }
@@ -31,7 +31,7 @@ fn patch_known<'a>(
     if string_in_place::fits_in_place(image, p, id, own, value) {
         return string_in_place::patch_in_place(out, image, p, id, own, value);
     }
-    string_rebuild::rebuild(out, image, value, p, id)
+    string_rebuild::rebuild(out, image, value, p, id, own)
 }
 
 // String `id` gets a value. Answers the new length; the image is at the front of `out`. Refused with

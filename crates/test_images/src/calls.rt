@@ -1,10 +1,11 @@
 // The calls by their numbers, with arguments in the order of the judge's table, oracle/src/image.
 use admission::Admission;
 use format::Layout;
-use reader::StringPlace;
 use reader::StringRead;
 use sections::Places;
+use string_tables::Place;
 use string_walk::Counts;
+use string_walk::Rank;
 use test_frames::Answer;
 use test_frames::HEAD;
 use test_frames::Status;
@@ -91,7 +92,7 @@ fn starts_of(p: Places) -> Answer {
     ])
 }
 
-// A string of an image by its id, and how many table entries are visited to find it.
+// A string of an image by its id, how many table entries are visited to find it, and its rank.
 fn located(head: &[u8; HEAD], image: &[u8]) -> Answer {
     let byte = test_frames::byte(head, 0);
     if byte > 4 {
@@ -100,21 +101,44 @@ fn located(head: &[u8; HEAD], image: &[u8]) -> Answer {
     let id = test_frames::word(head, 1) as usize;
     let read = reader::string(image, input_records::layout_of(byte), id);
     match read {
-        StringRead::Found(place, counts) => found(place, counts),
+        StringRead::Found(string, counts) => {
+            let place = string.place;
+            let rank = string.rank;
+            found(string.start, place, rank, counts)
+        }
         StringRead::Refused(number) => test_frames::bare(Status::Refused(number)),
     }
 }
 
-fn found(place: StringPlace, counts: Counts) -> Answer {
+// How many bytes so many units have, cut as a number is.
+fn bytes_of(count: usize, wide: bool) -> u32 {
+    let units = cut(count);
+    if wide {
+        std::num::wrapping_add_u32(units, units)
+    } else {
+        units
+    }
+}
+
+// A rank plus 1; 0 for none, so that none and the first one differ.
+fn told(rank: Rank) -> u32 {
+    match rank {
+        Rank::At(n) => std::num::wrapping_add_u32(cut(n), 1),
+        Rank::Plain => 0,
+    }
+}
+
+fn found(start: usize, place: Place, rank: Rank, counts: Counts) -> Answer {
+    let number = told(rank);
     test_frames::done([
-        cut(place.start),
-        cut(place.size),
+        cut(start),
+        bytes_of(place.count, place.wide),
         cut(place.count),
         if_set(place.wide, 1, 0),
-        if_set(place.identifier, 1, 0),
+        if_set(number > 0, 1, 0),
         cut(counts.small),
         cut(counts.over),
-        0,
+        number,
         0,
         0,
     ])

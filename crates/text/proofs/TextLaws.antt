@@ -65,7 +65,7 @@ wrote-then l m n a b at r q w v = (
 pub wrote-byte : (l m a : List ℕ) (at r b : ℕ) → Wrote l at a r m → Wrote l at (a ++ (b ∷ [])) (r + 1) (set m r b)
 wrote-byte l m a at r b w = wrote-then l m (set m r b) a (b ∷ []) at r (r + 1) w (refl, refl)
 
-spaced-snoc : (ws : List (List ℕ)) (w : List ℕ) → spaced (ws ++ (w ∷ [])) ≡ spaced ws ++ (w ++ (space ∷ []))
+pub spaced-snoc : (ws : List (List ℕ)) (w : List ℕ) → spaced (ws ++ (w ∷ [])) ≡ spaced ws ++ (w ++ (space ∷ []))
 unfolding spaced
 spaced-snoc [] w = refl
 spaced-snoc (v ∷ ws) w = rw (spaced-snoc ws w) (sym (append-assoc v (space ∷ spaced ws) (w ++ (space ∷ []))))

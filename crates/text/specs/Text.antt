@@ -31,6 +31,10 @@ unfoldable pub hexes : List ℕ → List ℕ
 hexes [] = []
 hexes (u ∷ us) = hex4 u ++ hexes us
 
+-- the eight hex digits of a 32-bit word: those of its high half, then those of its low half
+unfoldable pub hex8 : ℕ → List ℕ
+hex8 w = hex4 (w / 65536) ++ hex4 (w % 65536)
+
 -- ---- words and lines
 
 abbrev pub space : ℕ

@@ -5,7 +5,7 @@ ghost use mathlib.Core.List.{_∷_, [], _++_};
 ghost use Prim.Native.Nat.{_+_, _≤_, _<_};
 ghost use lib.ListN.{length};
 ghost use lib.Seq.{sets};
-ghost use Rattle.text.specs.Text.{digit, decimal, hex4, Wrote};
+ghost use Rattle.text.specs.Text.{digit, decimal, hex4, hex8, Wrote};
 
 // A digit of a number to a base of up to 16.
 fn digit(d: u64) -> u8
@@ -61,4 +61,14 @@ pub fn put_hex(out: &mut [u8], at: usize, unit: u64)
     out[at + 1] = digit(unit / 16 / 16 % 16);
     out[at + 2] = digit(unit / 16 % 16);
     out[at + 3] = digit(unit % 16);
+}
+
+// The eight hex digits of a 32-bit word.
+pub fn put_hex_word(out: &mut [u8], at: usize, word: u64) -> usize
+    requires { ⌜ at + 8 ≤ length (now out) ⌝ }
+    ensures { λ r. ⌜ Wrote (now (out .entry)) at (hex8 word) r (now (out .exit)) ⌝ }
+{
+    put_hex(out, at, word / 65536);
+    put_hex(out, at + 4, word % 65536);
+    at + 8
 }

@@ -62,7 +62,8 @@ static FUNCTIONS: [Function; 3] = [
 
 const LOCATE: u32 = 35;
 
-/// Where a string stands, its width and flag, and how many small entries and overflow pairs are visited to find it.
+/// Where a string stands, its width and flag, how many small entries and overflow pairs are visited to find it,
+/// and its rank plus 1, or 0 where it has none.
 fn located(a: &[u32; ARGUMENTS], image: &[u8], slip: Option<reading::Slip>) -> Answered {
     let mut reading = admitted(a, image)?;
     reading.slip = slip;
@@ -70,7 +71,8 @@ fn located(a: &[u32; ARGUMENTS], image: &[u8], slip: Option<reading::Slip>) -> A
     let place = [string.start, string.bytes, string.units].map(|number| number as u32);
     let flags = [string.wide, string.identifier].map(u32::from);
     let counts = [string.small, string.pairs].map(|count| count as u32);
-    Ok([&place[..], &flags, &counts].concat())
+    let rank = string.rank.map_or(0, |rank| rank as u32 + 1);
+    Ok([&place[..], &flags, &counts, &[rank]].concat())
 }
 
 fn admitted<'a>(a: &[u32; ARGUMENTS], image: &'a [u8]) -> Result<Reading<'a>, u32> {

@@ -45,6 +45,11 @@ pub enum Slip {
     OwnPairOnly,
     PairOfEachEntry,
     AbsentIdLocated,
+    // Of its rank, document 02, No. 5.
+    RankOfRun,
+    RankOfNext,
+    PlainStringsCounted,
+    PlainStringRanked,
 }
 
 /// Every mistake, but for the test of the upper limit: no call holds so long an image.
@@ -78,6 +83,10 @@ pub fn slips() -> Vec<Slip> {
         OwnPairOnly,
         PairOfEachEntry,
         AbsentIdLocated,
+        RankOfRun,
+        RankOfNext,
+        PlainStringsCounted,
+        PlainStringRanked,
     ]);
     slips
 }

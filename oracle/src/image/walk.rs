@@ -1,13 +1,15 @@
 //! A second reading of document 02, No. 9: how many table entries locating a string visits. The tables are
 //! gone over as the Rust's `locate_string_bytes` does, through a reader that notes the place of each word
-//! that it reads; an entry is visited where one of its bytes was read.
+//! that it reads; an entry is visited where one of its bytes was read. And of document 02, No. 5: the rank of
+//! an identifier, counted among the flags of all strings, laid out one by one.
 
 use std::collections::BTreeSet;
 
 use super::layout::*;
 use super::reading::{Reading, Slip, Small};
 
-/// What is known of a string, and how many small entries and overflow pairs were visited to find it.
+/// What is known of a string, and how many small entries and overflow pairs were visited to find it. A plain
+/// string has no rank.
 pub struct Located {
     pub start: u64,
     pub bytes: u64,
@@ -16,6 +18,7 @@ pub struct Located {
     pub identifier: bool,
     pub small: usize,
     pub pairs: usize,
+    pub rank: Option<usize>,
 }
 
 /// The bytes of an image, and the places that were read.
@@ -65,25 +68,43 @@ pub fn locate(reading: &Reading, id: u32) -> Result<Located, u32> {
         }
     }
     let (wide, offset, units) = found;
+    let flags = flags(reading);
     Ok(Located {
         start: places.storage + u64::from(offset),
         bytes: u64::from(units) * if wide { 2 } else { 1 },
         units: units.into(),
         wide,
-        identifier: is_identifier(reading, id),
+        identifier: is_identifier(&flags, id as usize),
         small: tables.entries(places.small, places.overflow, 4),
         pairs: tables.entries(places.overflow, places.storage, 8),
+        rank: rank(reading, &flags, id as usize),
     })
 }
 
-/// "kinds cover the ids in order".
-fn is_identifier(reading: &Reading, id: u32) -> bool {
+/// "kinds cover the ids in order": for each string whether it is an identifier.
+fn flags(reading: &Reading) -> Vec<bool> {
     let kinds = reading.places().kinds as usize;
-    let mut words = (0..reading.count(KINDS) as usize).map(|k| word(reading.image, kinds + 4 * k));
-    let mut covered = 0;
-    let own = words.find(|word| {
-        covered += u64::from(word & !IDENTIFIER);
-        u64::from(id) < covered
-    });
-    own.is_some_and(|word| word & IDENTIFIER != 0)
+    let words = (0..reading.count(KINDS) as usize).map(|k| word(reading.image, kinds + 4 * k));
+    let run = |word: u32| vec![word & IDENTIFIER != 0; (word & !IDENTIFIER) as usize];
+    words.flat_map(run).collect()
+}
+
+/// False also for an id that is located by mistake.
+fn is_identifier(flags: &[bool], id: usize) -> bool {
+    flags.get(id).is_some_and(|flag| *flag)
+}
+
+/// The number of identifiers with a lower id, or none.
+fn rank(reading: &Reading, flags: &[bool], id: usize) -> Option<usize> {
+    if !is_identifier(flags, id) && !reading.slips(Slip::PlainStringRanked) {
+        return None;
+    }
+    let mut lower = &flags[..id.min(flags.len())];
+    if reading.slips(Slip::RankOfRun) {
+        let in_run = lower.iter().rev().take_while(|flag| **flag).count();
+        lower = &lower[..lower.len() - in_run];
+    }
+    let counts = |flag: &&bool| **flag || reading.slips(Slip::PlainStringsCounted);
+    let counted = lower.iter().filter(counts).count();
+    Some(counted + usize::from(reading.slips(Slip::RankOfNext)))
 }

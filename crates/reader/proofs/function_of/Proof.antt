@@ -3,7 +3,7 @@ use Rattle.reader.proofs.function_of.Tie as tie
 use native.Mathlib.Omega.{arith}
 use Rattle.image.proofs.CheckLaws.{headers-in}
 use Rattle.sections.proofs.SectionLaws.{sectioned}
-use Rattle.reader.proofs.PassLaws.{function-inside}
+use Rattle.reader.proofs.FunctionLaws.{function-inside}
 
 function-at-requires : tie.Need-function-at-requires
 function-at-requires c κs =

@@ -2,12 +2,9 @@
 use borrow.Author.Needs.{needs}
 use Rattle.reader.proofs.string.Statement.{statement}
 use Rattle.reader.proofs.string.Tie as tie
-use mathlib.Core.Path.{sym, _∙_, ap}
+use mathlib.Core.Path.{sym, _∙_}
 use Rattle.sections.specs.Places.{Laid}
 use Rattle.admission.proofs.AnswerLaws.{is-laid}
-use Rattle.string_walk.proofs.WalkLaws.{located-at}
-use Rattle.reader.specs.Reading.{imagePlace}
-use Rattle.reader.proofs.PassLaws.{place-small}
 use Rattle.reader.proofs.ReadingLaws.{StringSought, string-refused, string-absent, string-found}
 
 -- ---- what is found behind each call
@@ -42,27 +39,14 @@ locate-requires c κs = laid (c .before)
 returns-2 : tie.Need-returns-2
 returns-2 c = string-absent (sought (c .before .before .before)) _ (c .before .enum-told2 .given .1) _ (c .number-of2 .ensures)
 
-is-identifier-requires : tie.Need-is-identifier-requires
-is-identifier-requires c κs =
-    let z = sought (c .before .before .before) in
-    (z .laid, located-at _ _ _ _ _ (z .located) _ _ _ (c .before .location .given .1) .1)
-
-in-image-requires : tie.Need-in-image-requires
-in-image-requires c κs =
-    let at-location = c .before .before in
-    let z = sought (at-location .before .before) in
-    place-small _ _ (z .laid .placed) _ _ (located-at _ _ _ _ _ (z .located) _ _ _ (at-location .location .given .1) .2)
-
 returns-3 : tie.Need-returns-3
 returns-3 c =
-    let at-identifier = c .before in
-    let at-location = at-identifier .before .before in
-    string-found (sought (at-location .before .before)) _ _ _ (at-location .location .given .1) _
-    (c .in-image .ensures ∙ ap (imagePlace _ _) (at-identifier .is-identifier .ensures))
+    let at-location = c .before in
+    string-found (sought (at-location .before .before)) _ _ _ (at-location .location .given .1)
 
 pub string-spec : {M : Type 1} → statement M
 string-spec =
     tie.close
     (tie.spec (λ c κs. search needs) (λ c. search needs) (λ c. search needs) (λ c κs. search needs) returns locate-requires
     (λ c. search needs)
-    (λ c. search needs) (λ c κs. search needs) returns-2 is-identifier-requires in-image-requires returns-3)
+    (λ c. search needs) (λ c κs. search needs) returns-2 returns-3)

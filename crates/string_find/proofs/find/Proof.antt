@@ -34,7 +34,7 @@ has-units-requires : tie.Need-has-units-requires Inv-loop μ-loop
 has-units-requires c κs =
     let at-string = c .before in
     let at-count = at-string .before .before .before .before .before .before in
-    ((at-count .before .before .before .pre .placed, at-string .string-at .ensures .place), at-count .count-units .ensures)
+    ((at-count .before .before .before .pre .placed, at-string .string-at .ensures .string), at-count .count-units .ensures)
 
 returns : tie.Need-returns Inv-loop μ-loop
 returns c =
@@ -44,7 +44,7 @@ returns c =
     let e = at-string .string-at .ensures in
     found-at _ _ _ _ _
     (record { known = at-string .before .if1 .taken; tested = at-test .before .has-units .ensures; finds = at-loop .loop .inv .2 })
-    (at-test .if2 .taken) _ _ (e .place) (pass-visits _ _ _ _ e _ (c .counts-of .ensures))
+    (at-test .if2 .taken) _ _ (e .string) (pass-visits _ _ _ _ e _ (c .counts-of .ensures))
 
 loop-less : tie.Need-loop-less Inv-loop μ-loop
 loop-less c =

@@ -1,5 +1,4 @@
 -- Other counts differ; equal ones are compared unit by unit.
-use borrow.Author.Needs.{needs}
 use Rattle.string_find.proofs.has_units.Statement.{statement}
 use Rattle.string_find.proofs.has_units.Tie as tie
 use native.Mathlib.Omega.{arith}
@@ -12,24 +11,24 @@ returns c =
     let start = c .before .before .before .before in
     let a = start .args in
     let q = start .pre in
-    other-count (a .p) (a .image .now) (utf16 (a .value .now)) (a .i) (a .place) (a .count)
+    other-count (a .p) (a .image .now) (utf16 (a .value .now)) (a .i) (a .string) (a .count)
     (record { placed = q .0 .0; stands = q .0 .1; count = q .1 }) (c .if1 .taken)
 
 are-units-requires : tie.Need-are-units-requires
 are-units-requires c κs =
-    let start = c .before .before .before .before .before .before in
+    let start = c .before .before .before .before in
     let a = start .args in
     let q = start .pre in
-    units-in (a .p) (a .image .now) (utf16 (a .value .now)) (a .i) (a .place) (a .count)
+    units-in (a .p) (a .image .now) (utf16 (a .value .now)) (a .i) (a .string) (a .count)
     (record { placed = q .0 .0; stands = q .0 .1; count = q .1 }) (omega arith)
 
 returns-2 : tie.Need-returns-2
 returns-2 c =
-    let start = c .before .before .before .before .before .before .before in
+    let start = c .before .before .before .before .before in
     let a = start .args in
     let q = start .pre in
-    c .are-units .ensures ∙ same-count (a .p) (a .image .now) (utf16 (a .value .now)) (a .i) (a .place) (a .count)
+    c .are-units .ensures ∙ same-count (a .p) (a .image .now) (utf16 (a .value .now)) (a .i) (a .string) (a .count)
     (record { placed = q .0 .0; stands = q .0 .1; count = q .1 }) (omega arith)
 
 pub has-units-spec : {M : Type 1} → statement M
-has-units-spec = tie.close (tie.spec returns (λ c. search needs) are-units-requires returns-2)
+has-units-spec = tie.close (tie.spec returns are-units-requires returns-2)

@@ -6,9 +6,9 @@ use Rattle.string_in_place.proofs.FinishLaws.{finish-is}
 returns : tie.Need-returns
 returns c =
     let at-put-hash = c .before .before .before .before .before .before in
-    let start = at-put-hash .before .before .before .before .before in
+    let start = at-put-hash .before .before .before .before in
     let a = start .args in
-    finish-is (a .p) (a .image .now) (a .value .now) (a .out .now) (a .id) (start .pre) _ _ _ (at-put-hash .put-hash .ensures)
+    finish-is (a .slots) (a .rank) (a .value .now) (a .out .now) (start .pre) _ _ _ (at-put-hash .put-hash .ensures)
     (c .before .before .finalize-raw-image .ensures)
 
 pub finish-spec : {M : Type 1} → statement M

@@ -3,7 +3,7 @@ use borrow.Author.Needs.{needs}
 use Rattle.string_in_place.proofs.fits_in_place.Statement.{statement}
 use Rattle.string_in_place.proofs.fits_in_place.Tie as tie
 use native.Mathlib.Omega.{arith}
-use Rattle.sections.proofs.SectionLaws.{sectioned}
+use Rattle.string_walk.proofs.RecordLaws.{record-small}
 use Rattle.string_in_place.proofs.InPlaceLaws.{is-wide, not-ascii, other-size, same-size}
 
 returns : tie.Need-returns
@@ -23,8 +23,7 @@ size-of-requires : tie.Need-size-of-requires
 size-of-requires c κs =
     let start = c .before .before .before .before .before in
     let a = start .args in
-    let z = sectioned (a .p) (a .image .now) (start .pre .0 .placed) in
-    omega (arith, start .pre .1 .count, start .pre .1 .stored)
+    record-small (a .p) (a .image .now) (start .pre .0 .placed) (a .id) (a .own) (start .pre .1) .0
 
 returns-3 : tie.Need-returns-3
 returns-3 c =

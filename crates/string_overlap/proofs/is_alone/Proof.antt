@@ -10,7 +10,7 @@ use Rattle.bits.specs.Choice.{allBelow}
 use Rattle.bits.proofs.PassLaws.{pass-none}
 use Rattle.string_walk.specs.Places.{CursorOf}
 use Rattle.string_overlap.specs.Overlap.{isApart}
-use Rattle.string_overlap.proofs.OverlapLaws.{stands-low, alone-next, not-alone, alone}
+use Rattle.string_overlap.proofs.OverlapLaws.{lies-low, alone-next, not-alone, alone}
 
 abbrev Inv-loop : tie.InvT-loop
 Inv-loop image p id own c₀ c = (c .id ≤ p .strings) × CursorOf p image c × (allBelow (c .id) (isApart (p .layout) image id) ≡ true)
@@ -33,8 +33,8 @@ is-apart-requires : tie.Need-is-apart-requires Inv-loop μ-loop
 is-apart-requires c κs =
     let at-string = c .before in
     let q = at-string .before .before .before .before .before .before .before .pre in
-    let x = stands-low _ _ (q .0 .placed) _ _ (q .1) in
-    let y = stands-low _ _ (q .0 .placed) _ _ (at-string .string-at .ensures .place) in
+    let x = lies-low _ _ (q .0 .placed) _ _ (q .1 .place) in
+    let y = lies-low _ _ (q .0 .placed) _ _ (at-string .string-at .ensures .string .place) in
     (x, y)
 
 returns : tie.Need-returns Inv-loop μ-loop
@@ -44,8 +44,8 @@ returns c =
     not-alone _ _ _ _ _ _ _
     (record {
       placed = q .0 .placed;
-      this = q .1;
-      that = at-string .string-at .ensures .place;
+      this = q .1 .place;
+      that = at-string .string-at .ensures .string .place;
       tested = c .before .is-apart .ensures;
     }) (c .if2 .taken) (at-string .before .if1 .taken)
 
@@ -63,7 +63,7 @@ loop-again c =
     let next
     =
     alone-next _ _ _ _ _ _ _
-    (record { placed = q .0 .placed; this = q .1; that = e .place; tested = c .before .before .is-apart .ensures })
+    (record { placed = q .0 .placed; this = q .1 .place; that = e .string .place; tested = c .before .before .is-apart .ensures })
     (c .before .if2 .left) (at-loop .loop .inv .2) in
     (omega (arith, e .id, at-string .before .if1 .taken), e .next, rw (e .id) next)
 

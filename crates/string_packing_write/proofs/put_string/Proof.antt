@@ -8,7 +8,7 @@ use Rattle.string_packing_write.proofs.PutLaws.{old-few, old-in, entry-
 returns : tie.Need-returns
 returns c =
     let at-stored = c .before .before .before in
-    let at-entry = at-stored .before .before .before .before .before .before .before .before in
+    let at-entry = at-stored .before .before .before .before .before .before in
     let at-size = at-entry .before .before in
     let at-turn = at-size .before .before in
     let start = at-turn .before .before .before .before in
@@ -44,15 +44,9 @@ add-put-stored c =
     let q = start .pre in
     omega (arith, place-low _ _ (start .args .value .now) _ _ _ _ _ (record { turn = q .0 .0; shaped = q .0 .1; roomy = q .1 }))
 
-add-put-stored-2 : tie.Need-add-put-stored-2
-add-put-stored-2 c =
-    let at-turn = c .before .before .before .before .before .before .before .before .before .before .before in
-    let start = at-turn .before .before .before .before in
-    omega (arith, old-in _ _ _ _ _ (start .pre .0 .0) _ (at-turn .take-turn .ensures))
-
 put-stored-requires : tie.Need-put-stored-requires
 put-stored-requires c κs =
-    let at-entry = c .before .before .before .before .before .before .before in
+    let at-entry = c .before .before .before .before .before in
     let at-size = at-entry .before .before in
     let at-turn = at-size .before .before in
     let start = at-turn .before .before .before .before in
@@ -66,5 +60,5 @@ put-stored-requires c κs =
 pub put-string-spec : {M : Type 1} → statement M
 put-string-spec =
     tie.close
-    (tie.spec (λ c κs. search needs) size-of-requires put-entry-requires add-put-stored add-put-stored-2 put-stored-requires
+    (tie.spec (λ c κs. search needs) size-of-requires put-entry-requires add-put-stored put-stored-requires
     (λ c. search needs) returns)

@@ -3,13 +3,14 @@ use borrow.Author.Needs.{needs}
 use Rattle.string_rebuild.proofs.put_rebuilt.Statement.{statement}
 use Rattle.string_rebuild.proofs.put_rebuilt.Tie as tie
 use mathlib.Core.Path.{refl, _∙_}
-use Rattle.string_rebuild.proofs.RebuildLaws.{around-room, region-room, header-room, finish-room, movable, patch-put}
+use Rattle.string_in_place.proofs.FinishLaws.{finishable}
+use Rattle.string_rebuild.proofs.RebuildLaws.{around-room, region-room, header-room, slotted, movable, patch-put}
 
 copy-around-requires : tie.Need-copy-around-requires
 copy-around-requires c κs =
     let start = c .before .before .before .before in
     let a = start .args in
-    let q = start .pre in
+    let q = start .pre .0 in
     around-room (a .p) (a .image .now) (a .value .now) (a .id) (a .new) (a .sizes) (a .tail) _ q
 
 put-region-requires : tie.Need-put-region-requires
@@ -17,7 +18,7 @@ put-region-requires c κs =
     let at-copy-around = c .before .before .before in
     let start = at-copy-around .before .before .before .before .before in
     let a = start .args in
-    let q = start .pre in
+    let q = start .pre .0 in
     let r = region-room (a .p) (a .image .now) (a .value .now) (a .id) (a .new) (a .sizes) (a .tail) _ q in
     record {
       laid = q .asked .laid;
@@ -34,7 +35,7 @@ put-counts-requires c κs =
     let at-copy-around = at-put-region .before .before .before .before in
     let start = at-copy-around .before .before .before .before .before in
     let a = start .args in
-    let q = start .pre in
+    let q = start .pre .0 in
     rw (at-put-region .put-region .kept .0, at-copy-around .copy-around .kept .0)
     (header-room (a .p) (a .image .now) (a .value .now) (a .id) (a .new) (a .sizes) (a .tail) _ q)
 
@@ -45,7 +46,7 @@ relocate-requires c κs =
     let at-copy-around = at-put-region .before .before .before .before in
     let start = at-copy-around .before .before .before .before .before in
     let a = start .args in
-    let q = start .pre in
+    let q = start .pre .0 in
     rw (at-put-counts .put-counts .kept .0, at-put-region .put-region .kept .0, at-copy-around .copy-around .kept .0)
     (movable (a .p) (a .image .now) (a .value .now) (a .id) (a .new) (a .sizes) (a .tail) _ q)
 
@@ -57,14 +58,15 @@ finish-requires c κs =
     let at-copy-around = at-put-region .before .before .before .before in
     let start = at-copy-around .before .before .before .before .before in
     let a = start .args in
-    let q = start .pre in
+    let q = start .pre .0 in
     rw (
       at-relocate .relocate .kept .0,
       at-put-counts .put-counts .kept .0,
       at-put-region .put-region .kept .0,
       at-copy-around .copy-around .kept .0,
     )
-    (finish-room (a .p) (a .image .now) (a .value .now) (a .id) (a .new) (a .sizes) (a .tail) _ q)
+    (finishable _ _ _ _ _
+    (slotted (a .p) (a .image .now) (a .value .now) (a .id) (a .new) (a .sizes) (a .tail) _ q (a .own) (start .pre .1)))
 
 returns : tie.Need-returns
 returns c =
@@ -74,7 +76,7 @@ returns c =
     let at-copy-around = at-put-region .before .before .before .before in
     let start = at-copy-around .before .before .before .before .before in
     let a = start .args in
-    let q = start .pre in
+    let q = start .pre .0 in
     patch-put (a .p) (a .image .now) (a .value .now) (a .id) (a .new) (a .sizes) (a .tail) _ q
     (record {
       fits = refl;
@@ -84,7 +86,7 @@ returns c =
       places = at-relocate .relocate .ensures;
       long = at-relocate .relocate .kept .0 ∙ at-put-counts .put-counts .kept .0 ∙ at-put-region .put-region .kept .0
           ∙ at-copy-around .copy-around .kept .0;
-    }) _ _ (c .before .before .finish .ensures)
+    }) (a .own) (start .pre .1) _ _ (c .before .before .finish .ensures)
 
 pub put-rebuilt-spec : {M : Type 1} → statement M
 put-rebuilt-spec =

@@ -21,7 +21,7 @@ gauged c =
     let at-shape-of = c .before .before .before .before in
     let start = at-shape-of .before .before .before .before in
     record {
-      asked = start .pre;
+      asked = start .pre .0;
       shaped = at-shape-of .shape-of .ensures;
       measured = c .before .measure .ensures;
       tail = c .new-tail .ensures;
@@ -45,28 +45,28 @@ returns : tie.Need-returns
 returns c =
     let start = c .before .before .before .before .before .before in
     let a = start .args in
-    let q = start .pre in
+    let q = start .pre .0 in
     refuses _ 11 (a .out .now)
     (huge (a .p) (a .image .now) (a .value .now) (a .id) q _ (c .before .before .shape-of .ensures) (c .if1 .taken))
 
 measure-requires : tie.Need-measure-requires
 measure-requires c κs =
     let start = c .before .before .before .before .before .before in
-    let q = start .pre in
+    let q = start .pre .0 in
     (q .laid, omega arith)
 
 new-tail-requires : tie.Need-new-tail-requires
 new-tail-requires c κs =
     let start = c .before .before .before .before .before .before .before in
     let a = start .args in
-    let q = start .pre in
+    let q = start .pre .0 in
     low (a .p) (a .image .now) (a .value .now) (a .id) q _ _ (c .measure .ensures)
 
 sub-n : tie.Need-sub-n
 sub-n c =
     let start = c .before .before .before .before .before .before .before .before .before in
     let a = start .args in
-    let q = start .pre in
+    let q = start .pre .0 in
     let z = sectioned (a .p) (a .image .now) (q .laid .placed) in
     omega arith
 
@@ -74,7 +74,7 @@ add-n : tie.Need-add-n
 add-n c =
     let start = c .before .before .before .before .before .before .before .before .before in
     let a = start .args in
-    let q = start .pre in
+    let q = start .pre .0 in
     let z = sectioned (a .p) (a .image .now) (q .laid .placed) in
     omega
     (arith, c .before .new-tail .ensures, low (a .p) (a .image .now) (a .value .now) (a .id) q _ _ (c .before .before .measure .ensures))
@@ -86,7 +86,7 @@ fields-fit-requires : tie.Need-fields-fit-requires
 fields-fit-requires c κs =
     let start = c .before .before .before .before .before .before .before .before .before .before in
     let a = start .args in
-    let q = start .pre in
+    let q = start .pre .0 in
     let z = sectioned (a .p) (a .image .now) (q .laid .placed) in
     (q .laid, omega (arith, c .if2 .left))
 
@@ -106,17 +106,19 @@ put-rebuilt-requires c κs =
     let a = start .args in
     let g = gauged at-new-tail in
     let long = part-length (a .out .now) (length (a .image .now) - a .p .tail + at-new-tail .new-tail .result)
-    (omega (arith, c .before .if4 .left)) in
-    record {
-      asked = g .asked;
-      small = omega (arith, at-if1 .if1 .left);
-      shaped = g .shaped;
-      measured = g .measured;
-      tail = g .tail;
-      long = long;
-      limit = rw long (omega (arith, at-if2 .if2 .left));
-      fields = sym (at-if3 .before .fields-fit .ensures) ∙ not-false _ (at-if3 .if3 .left);
-    }
+    (omega (arith, c .before .if4 .left)) in (
+      record {
+        asked = g .asked;
+        small = omega (arith, at-if1 .if1 .left);
+        shaped = g .shaped;
+        measured = g .measured;
+        tail = g .tail;
+        long = long;
+        limit = rw long (omega (arith, at-if2 .if2 .left));
+        fields = sym (at-if3 .before .fields-fit .ensures) ∙ not-false _ (at-if3 .if3 .left);
+      },
+      start .pre .1,
+    )
 
 returns-5 : tie.Need-returns-5
 returns-5 c =

@@ -2,7 +2,6 @@ use borrow.Author.Needs.{needs}
 use Rattle.string_walk.proofs.first_string.Statement.{statement}
 use Rattle.string_walk.proofs.first_string.Tie as tie
 use mathlib.Core.Path.{refl}
-use native.Mathlib.Omega.{arith}
 use Rattle.string_walk.proofs.VisitLaws.{walked-none}
 use Rattle.string_walk.proofs.RunLaws.{first-run-of}
 
@@ -10,7 +9,7 @@ returns : tie.Need-returns
 returns c = (
   λ p s h.
       let f = first-run-of p s h _ (c .first-run .ensures) in
-      record { walked = walked-none (p .layout) s; run = f .0; reached = omega arith },
+      record { walked = walked-none (p .layout) s; run = f .0; reached = f .1 0 },
   refl,
 )
 

@@ -3,7 +3,6 @@ use borrow.Author.Needs.{needs}
 use Rattle.string_walk.proofs.string_from.Statement.{statement}
 use Rattle.string_walk.proofs.string_from.Tie as tie
 use mathlib.Core.Path.{refl}
-use native.Mathlib.Omega.{arith}
 use Rattle.string_walk.proofs.VisitLaws.{walked-as}
 use Rattle.string_walk.proofs.RunLaws.{first-run-of}
 
@@ -11,7 +10,7 @@ run-of-requires : tie.Need-run-of-requires
 run-of-requires c κs =
     let h = c .before .before .before .pre in
     let f = first-run-of _ _ (h .0 .placed) _ (c .first-run .ensures) in
-    record { laid = h .0; known = h .1; run = f .0; reached = omega arith }
+    record { laid = h .0; known = h .1; run = f .0; reached = f .1 _ }
 
 returns : tie.Need-returns
 returns c =

@@ -3,7 +3,7 @@ use borrow.Author.Needs.{needs}
 use Rattle.string_walk.proofs.visit.Statement.{statement}
 use Rattle.string_walk.proofs.visit.Tie as tie
 use mathlib.Core.Path.{refl}
-use Rattle.string_walk.proofs.WalkLaws.{EntryAt, pairs-few, pair-there, stands, walked-next}
+use Rattle.string_walk.proofs.WalkLaws.{EntryAt, pairs-few, pair-there, lies, walked-next}
 
 -- the entry that was read is that of the next string
 entry : (c : tie.After-small-entry) → let a = c .before .before .args in
@@ -20,7 +20,7 @@ returns c =
     let at-read = c .before .before in
     let e = entry (at-read .before) in
     let g = at-read .read-place .ensures in
-    record { place = stands _ _ _ _ e _ (g .place); walked = walked-next _ _ _ _ e _ refl (g .over); next = refl }
+    record { place = lies _ _ _ _ e _ (g .place); walked = walked-next _ _ _ _ e _ refl (g .over); next = refl }
 
 pub visit-spec : {M : Type 1} → statement M
 visit-spec = tie.close (tie.spec (λ c κs. search needs) read-place-requires (λ c. search needs) returns)

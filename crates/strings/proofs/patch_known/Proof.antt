@@ -13,7 +13,7 @@ rebuild-requires : tie.Need-rebuild-requires
 rebuild-requires c κs =
     let at-fits = c .before .before in
     let q = at-fits .before .before .before .before .pre in
-    record { laid = q .0 .0; known = q .0 .1; moves = sym (at-fits .fits-in-place .ensures) ∙ c .before .if1 .left }
+    (record { laid = q .0 .0; known = q .0 .1; moves = sym (at-fits .fits-in-place .ensures) ∙ c .before .if1 .left }, q .1)
 
 pub patch-known-spec : {M : Type 1} → statement M
 patch-known-spec =
