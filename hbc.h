@@ -5,6 +5,10 @@
 // not overlap. `layout` is 0 modern; 1 legacy, 2 with big integers, 3 with function sources, 4 both. Strings and functions go by
 // their ids from 0.
 //
+// `mode` says where strings go when a string patch packs them anew. 0 plain: each where the one before it ends. 1 even: the same, but
+// a wide string, an empty one too, starts at an even offset of storage, so at an even place, behind one zero byte where that is needed.
+// A patch that fits in place moves no string, and is the same in both.
+//
 // A function that writes answers the length of what it made, which is at the front of `out`, all later bytes as they were; or it
 // answers NEPULADRIM_REFUSED and the number of the refusal, as document 01 has it, and no byte is changed.
 #ifndef NEPULADRIM_HBC_H
@@ -14,6 +18,8 @@
 #include <stdint.h>
 
 #define NEPULADRIM_REFUSED (UINT64_C(1) << 32)
+
+enum nepuladrim_mode { NEPULADRIM_PLAIN, NEPULADRIM_EVEN };
 
 // 0 where the bytes are an image of the layout, else the number of the refusal: 1 to 6, or 15 for another layout byte.
 uint8_t nepuladrim_admit(const uint8_t *image, size_t image_length, uint8_t layout);
@@ -34,14 +40,14 @@ uint64_t nepuladrim_string(const uint8_t *image, size_t image_length, uint8_t la
 uint64_t nepuladrim_body(const uint8_t *image, size_t image_length, uint8_t layout, uint32_t id, uint8_t *out,
                          size_t out_length);
 
-// String `id` becomes a value, which is UTF-8. Refused with 15, 1 to 8, 11, 12, 13.
-uint64_t nepuladrim_patch_string_by_id(const uint8_t *image, size_t image_length, uint8_t layout, uint32_t id,
+// String `id` becomes a value, which is UTF-8. Refused with 15, for another layout or mode byte, 1 to 8, 11, 12, 13.
+uint64_t nepuladrim_patch_string_by_id(const uint8_t *image, size_t image_length, uint8_t layout, uint8_t mode, uint32_t id,
                                        const uint8_t *value, size_t value_length, uint8_t *out, size_t out_length);
 
-// The lowest string that has the old value becomes the new one. Refused with 15, 1 to 6, 8, 14, 11, 12, 13.
-uint64_t nepuladrim_patch_string_replace(const uint8_t *image, size_t image_length, uint8_t layout, const uint8_t *old_value,
-                                         size_t old_length, const uint8_t *new_value, size_t new_length, uint8_t *out,
-                                         size_t out_length);
+// The lowest string that has the old value becomes the new one. Refused with 15 likewise, 1 to 6, 8, 14, 11, 12, 13.
+uint64_t nepuladrim_patch_string_replace(const uint8_t *image, size_t image_length, uint8_t layout, uint8_t mode,
+                                         const uint8_t *old_value, size_t old_length, const uint8_t *new_value, size_t new_length,
+                                         uint8_t *out, size_t out_length);
 
 // The body of function `id` becomes other bytes. Refused with 15, 1 to 7, 9 to 13.
 uint64_t nepuladrim_patch_function_bytes(const uint8_t *image, size_t image_length, uint8_t layout, uint32_t id,

@@ -3,6 +3,7 @@
 #include "../hbc.h"
 #include "print.h"
 #include "refusals.h"
+#include "rows.h"
 #include "string_text.h"
 
 #include <stdlib.h>
@@ -55,17 +56,18 @@ static void print_refused_edit(size_t place, const struct edit *edit, unsigned n
 
 // ---- edits that are applied
 
-static uint64_t apply_edit(struct bytes image, uint8_t layout, const struct edit *edit, uint8_t *out) {
-    const struct bytes *value = &edit->value;
+static uint64_t apply_edit(struct bytes image, uint8_t layout, uint8_t mode, const struct edit *edit, uint8_t *out) {
+    const uint8_t *value = edit->value.at;
+    size_t length = edit->value.length;
     return edit->kind == BODY
-               ? nepuladrim_patch_function_bytes(image.at, image.length, layout, edit->id, value->at, value->length, out, IMAGE_MOST)
-               : nepuladrim_patch_string_by_id(image.at, image.length, layout, edit->id, value->at, value->length, out, IMAGE_MOST);
+               ? nepuladrim_patch_function_bytes(image.at, image.length, layout, edit->id, value, length, out, IMAGE_MOST)
+               : nepuladrim_patch_string_by_id(image.at, image.length, layout, mode, edit->id, value, length, out, IMAGE_MOST);
 }
 
 // Applies the edits to an admitted image, which stands in a room as long as the spare one. The two change places with each.
-static bool apply_all(struct bytes *image, uint8_t layout, struct edits edits, uint8_t **spare) {
+static bool apply_all(struct bytes *image, uint8_t layout, uint8_t mode, struct edits edits, uint8_t **spare) {
     for (size_t i = 0; i < edits.count; i++) {
-        uint64_t answer = apply_edit(*image, layout, &edits.at[i], *spare);
+        uint64_t answer = apply_edit(*image, layout, mode, &edits.at[i], *spare);
         if (is_refused(answer)) {
             print_refused_edit(i + 1, &edits.at[i], refusal_of(answer), *image, layout, *spare);
             return false;
@@ -77,7 +79,7 @@ static bool apply_all(struct bytes *image, uint8_t layout, struct edits edits, u
     return true;
 }
 
-bool apply_edits(const char *name, struct bytes image, uint8_t layout, struct edits edits, struct bytes *made) {
+bool apply_edits(const char *name, struct bytes image, uint8_t layout, uint8_t mode, struct edits edits, struct bytes *made) {
     unsigned refusal = nepuladrim_admit(image.at, image.length, layout);
     if (refusal) {
         print_refused_image(name, image, layout, refusal);
@@ -88,7 +90,7 @@ bool apply_edits(const char *name, struct bytes image, uint8_t layout, struct ed
     uint8_t *spare = room_for(IMAGE_MOST);
     // every patch ends so by itself
     if (!edits.count) nepuladrim_finalize(made->at, made->length);
-    bool is_made = apply_all(made, layout, edits, &spare);
+    bool is_made = apply_all(made, layout, mode, edits, &spare);
     free(spare);
     if (!is_made) free(made->at);
     return is_made;
@@ -125,4 +127,17 @@ void print_changes(FILE *to, struct bytes before, struct bytes after, uint8_t la
         if (!was_told(edits, i)) print_change(to, before, after, layout, &edits.at[i], scratch);
     print(to, "image: %zu bytes are now %zu\n", before.length, after.length);
     free(scratch);
+}
+
+// ---- wide strings at odd places
+
+static void count_odd(void *with, uint64_t id, const uint64_t *row) {
+    (void)id;
+    if (row[NEPULADRIM_STRING_IS_WIDE] && row[NEPULADRIM_STRING_AT] % 2) ++*(uint64_t *)with;
+}
+
+void print_odd_strings(FILE *to, struct bytes image, uint8_t layout) {
+    uint64_t odd = 0;
+    take_rows(image, layout, count_odd, &odd);
+    if (odd) print(to, "wide strings at odd places: %llu, as no edit has moved the strings\n", (unsigned long long)odd);
 }

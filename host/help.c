@@ -38,7 +38,7 @@ static const char LOCATE[] =
     "  sum - BYTES UNITS - - SMALL OVERFLOW\n";
 
 static const char PATCH[] =
-    "usage: hbc patch IMAGE OUT [--layout LAYOUT] [--dry-run] EDIT...\n"
+    "usage: hbc patch IMAGE OUT [--layout LAYOUT] [--even] [--dry-run] EDIT...\n"
     "Writes the image with the edits to OUT, and prints what changed. An EDIT is one of these; they are applied in the order in\n"
     "which they stand, all of them or none:\n"
     "  --string ID=TEXT         string ID becomes TEXT, UTF-8 as typed\n"
@@ -48,7 +48,13 @@ static const char PATCH[] =
     "With no edit, the image gets its file length and its footer. OUT may be IMAGE. It is written whole or not at all: a new file\n"
     "beside it takes its name, and its mode where it was there. Where OUT is a link, what it leads to is written; what is no\n"
     "regular file is not replaced. Where OUT is -, the image goes to standard output, and what changed to standard error.\n"
-    "--dry-run judges and prints the same and writes nothing; it needs no OUT.\n";
+    "--dry-run judges and prints the same and writes nothing; it needs no OUT.\n"
+    "\n"
+    "--even is for a loader that reads wide strings, which are UTF-16, as 16-bit words and stops at an odd address. A string edit\n"
+    "that does not fit in place packs all strings anew; each wide one then starts at an even place, behind one zero byte where\n"
+    "that is needed. It holds for all string edits of the call; bodies are the same either way. An edit that fits in place moves\n"
+    "nothing: wide strings at odd places stay there until an edit packs the strings anew. An edit of a wide string always does,\n"
+    "also to its own text. How many have stayed is printed.\n";
 
 static const char VERIFY[] =
     "usage: hbc verify IMAGE [--layout LAYOUT]\n"

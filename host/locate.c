@@ -3,6 +3,7 @@
 #include "commands.h"
 #include "print.h"
 #include "refusals.h"
+#include "rows.h"
 #include "string_text.h"
 #include "words.h"
 
@@ -72,12 +73,16 @@ static unsigned locate_one(struct bytes image, uint8_t layout, uint32_t id) {
 
 // ---- every string
 
-// The sums of a table: of bytes, units, and entries visited.
+// The sums of a table: of rows, bytes, units, and entries visited.
 struct sums {
-    uint64_t bytes, units, small, overflow;
+    uint64_t rows, bytes, units, small, overflow;
 };
 
-static void print_row(uint64_t id, const uint64_t *facts, struct sums *sums) {
+static void print_head(void) { print(stdout, "id start bytes units width kind small overflow\n"); }
+
+static void print_row(void *with, uint64_t id, const uint64_t *facts) {
+    struct sums *sums = with;
+    if (!sums->rows++) print_head();
     print(stdout, "%llu %llu %llu %llu %c %c %llu %llu\n", (unsigned long long)id,
           (unsigned long long)facts[NEPULADRIM_STRING_AT], (unsigned long long)facts[NEPULADRIM_STRING_BYTES],
           (unsigned long long)facts[NEPULADRIM_STRING_UNITS], facts[NEPULADRIM_STRING_IS_WIDE] ? 'w' : 'n',
@@ -94,21 +99,12 @@ static void print_sums(const struct sums *sums) {
           (unsigned long long)sums->small, (unsigned long long)sums->overflow);
 }
 
-// Answers 0, or the number of the refusal, before any line. The strings come in parts; one that does not fill its room is the last.
+// Answers 0, or the number of the refusal, before any line.
 static unsigned locate_all(struct bytes image, uint8_t layout) {
-    const size_t most = IMAGE_MOST / sizeof(uint64_t) / NEPULADRIM_STRING_FACTS;
-    uint64_t *rows = (uint64_t *)(void *)room_for(IMAGE_MOST);
-    struct sums sums = {0, 0, 0, 0};
-    uint64_t answer = 0, told = most;
-    for (uint64_t id = 0; told == most; id += told) {
-        answer = nepuladrim_string_facts_from(image.at, image.length, layout, (uint32_t)id, rows, most * NEPULADRIM_STRING_FACTS);
-        if (is_refused(answer)) break;
-        if (id == 0) print(stdout, "id start bytes units width kind small overflow\n");
-        told = answer / NEPULADRIM_STRING_FACTS;
-        for (uint64_t i = 0; i < told; i++) print_row(id + i, rows + i * NEPULADRIM_STRING_FACTS, &sums);
-    }
-    free(rows);
-    if (is_refused(answer)) return refusal_of(answer);
+    struct sums sums = {0, 0, 0, 0, 0};
+    unsigned refusal = take_rows(image, layout, print_row, &sums);
+    if (refusal) return refusal;
+    if (!sums.rows) print_head();
     print_sums(&sums);
     return 0;
 }

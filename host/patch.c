@@ -1,4 +1,5 @@
 // hbc patch: an image with edits.
+#include "../hbc.h"
 #include "commands.h"
 #include "edits.h"
 #include "outputs.h"
@@ -11,7 +12,7 @@
 // What the words ask for.
 struct job {
     const char *image, *out;
-    uint8_t layout;
+    uint8_t layout, mode;
     bool is_dry;
     struct edits edits;
 };
@@ -35,11 +36,12 @@ static void take_name(struct job *job, const char *name) {
 }
 
 static struct job take_job(char **left) {
-    enum { LAYOUT, TEXT, TEXT_FROM, BODY_FROM, DRY_RUN };
+    enum { LAYOUT, TEXT, TEXT_FROM, BODY_FROM, EVEN, DRY_RUN };
     static const struct option OPTIONS[] = {LAYOUT_OPTION,
                                             {"--string", "ID=TEXT"},
                                             {"--string-from", "ID=FILE"},
                                             {"--body", "ID=FILE"},
+                                            {"--even", NULL},
                                             {"--dry-run", NULL},
                                             {NULL, NULL}};
     struct words words = {left, false};
@@ -50,6 +52,7 @@ static struct job take_job(char **left) {
         switch (word.option) {
         case NAME: take_name(&job, word.value); continue;
         case LAYOUT: job.layout = layout_of(word.value); continue;
+        case EVEN: job.mode = NEPULADRIM_EVEN; continue;
         case DRY_RUN: job.is_dry = true; continue;
         case BODY_FROM: edit.kind = BODY; break;
         }
@@ -65,12 +68,13 @@ int patch(char **words) {
     struct job job = take_job(words);
     struct output output = output_of(job.out ? job.out : "-");
     struct bytes image = read_file(job.image, IMAGE_MOST), made;
-    bool is_made = apply_edits(job.image, image, job.layout, job.edits, &made);
+    bool is_made = apply_edits(job.image, image, job.layout, job.mode, job.edits, &made);
     if (is_made) {
         if (!job.is_dry) write_output(output, made);
         // where the image goes to standard output, what is said of it does not
         FILE *to = job.is_dry || output.path ? stdout : stderr;
         print_changes(to, image, made, job.layout, job.edits);
+        if (job.mode == NEPULADRIM_EVEN) print_odd_strings(to, made, job.layout);
         if (job.is_dry) print(to, "nothing is written: a dry run\n");
         finish_printing(to);
         free(made.at);

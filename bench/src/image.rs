@@ -8,6 +8,7 @@ pub struct Shape {
     is_large: fn(usize) -> bool,
     overflows: fn(usize) -> bool,
     is_identifier: fn(usize) -> bool,
+    is_odd: bool,
 }
 
 const MODERN: Shape = Shape {
@@ -17,12 +18,15 @@ const MODERN: Shape = Shape {
     is_large: |_| true,
     overflows: |_| false,
     is_identifier: |_| false,
+    is_odd: false,
 };
 const MIXED: Shape = Shape { layout: 1, record: 16, large: 32, is_large: |i| i % 2 == 0, ..MODERN };
 /// Every fourth string has its place in the overflow table.
 const PAIRS: Shape = Shape { overflows: |i| i % 4 == 3, ..MIXED };
 /// Identifiers and plain strings by twos: a kind for every two strings, as no compiler has so many.
 const NAMES: Shape = Shape { is_identifier: |i| i % 4 < 2, ..MIXED };
+/// Every second string is wide, behind a narrow one of odd length: in even mode it needs a gap.
+const ODD: Shape = Shape { is_odd: true, ..MIXED };
 
 /// The shape of a name.
 pub fn shape(name: &str) -> Shape {
@@ -31,7 +35,8 @@ pub fn shape(name: &str) -> Shape {
         "mixed" => MIXED,
         "pairs" => PAIRS,
         "names" => NAMES,
-        _ => panic!("{name}: neither modern, mixed, pairs nor names"),
+        "odd" => ODD,
+        _ => panic!("{name}: neither modern, mixed, pairs, names nor odd"),
     }
 }
 
@@ -39,11 +44,11 @@ fn put(image: &mut [u8], at: usize, word: usize) {
     image[at..at + 4].copy_from_slice(&(word as u32).to_le_bytes());
 }
 
-/// The words of string i, whether it is wide, and its bytes: one in eight is wide, all have 4 to 19 bytes.
-fn string(i: usize) -> (bool, Vec<u8>) {
-    let wide = i % 8 == 7;
-    let length = 4 + i * 7 % 16;
-    (wide, (0..length / 2 * 2).map(|j| b'a' + ((i + j) % 26) as u8).collect())
+/// Of string i whether it is wide, and its bytes: one in eight or in two is wide, all have 4 to 19 bytes.
+fn string(shape: &Shape, i: usize) -> (bool, Vec<u8>) {
+    let wide = if shape.is_odd { i % 2 == 1 } else { i % 8 == 7 };
+    let length = (4 + i * 7 % 16) / 2 * 2 + usize::from(shape.is_odd && !wide);
+    (wide, (0..length).map(|j| b'a' + ((i + j) % 26) as u8).collect())
 }
 
 /// The kind words: a run of identifiers or of plain strings each, one for all strings where they are alike.
@@ -74,7 +79,7 @@ fn sections(shape: &Shape, functions: usize, strings: usize) -> Vec<u8> {
     }
     let mut next = 0;
     for i in 0..strings {
-        let (wide, bytes) = string(i);
+        let (wide, bytes) = string(shape, i);
         let mut length = if wide { bytes.len() / 2 } else { bytes.len() };
         let mut offset = image.len() - storage;
         if (shape.overflows)(i) {

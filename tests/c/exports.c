@@ -27,6 +27,72 @@ static int untouched(void) {
 
 static uint64_t refused(uint64_t number) { return NEPULADRIM_REFUSED + number; }
 
+// ---- the modes of a string patch
+
+// "a", "x" and "b", and an image to compare with.
+static uint8_t three[256], kept[256];
+
+enum way { BY_ID, BY_VALUE };
+
+// The string "x" gets a value.
+static uint64_t patch(enum way way, size_t length, uint8_t layout, uint8_t mode, const char *value, size_t room) {
+    const uint8_t *bytes = (const uint8_t *)value;
+    return way == BY_ID ? nepuladrim_patch_string_by_id(three, length, layout, mode, 1, bytes, strlen(value), out, room)
+                        : nepuladrim_patch_string_replace(three, length, layout, mode, BYTES("x"), bytes, strlen(value), out, room);
+}
+
+// Another mode byte comes before all else, as another layout byte does.
+static void refuse_modes(enum way way) {
+    const uint8_t modes[] = {2, 3, 127, 128, 255};
+    memset(out, 0xa5, sizeof out);
+    for (size_t i = 0; i < sizeof modes; i++) {
+        is(patch(way, 224, 0, modes[i], "\303\251", sizeof out) == refused(15));
+        is(patch(way, 224, 0, modes[i], "z", sizeof out) == refused(15));
+        is(patch(way, 224, 5, modes[i], "\303\251", sizeof out) == refused(15));
+        is(patch(way, 147, 0, modes[i], "\377", 0) == refused(15));
+    }
+    is(patch(way, 224, 5, NEPULADRIM_EVEN, "\303\251", sizeof out) == refused(15));
+    is(patch(way, 147, 0, NEPULADRIM_EVEN, "\377", 0) == refused(1));
+    is(patch(way, 224, 0, NEPULADRIM_EVEN, "\377", 0) == refused(8));
+    is(patch(way, 224, 0, NEPULADRIM_PLAIN, "\303\251", 223) == refused(13));
+    is(patch(way, 224, 0, NEPULADRIM_EVEN, "\303\251", 227) == refused(13));
+    is(untouched());
+}
+
+// With no wide string and in place the modes make the same.
+static void make_same(enum way way, const char *value, size_t length) {
+    is(patch(way, 224, 0, NEPULADRIM_PLAIN, value, sizeof out) == length);
+    memcpy(kept, out, length);
+    is(patch(way, 224, 0, NEPULADRIM_EVEN, value, sizeof out) == length && memcmp(out, kept, length) == 0);
+}
+
+static void patch_in_modes(enum way way) {
+    uint64_t known[NEPULADRIM_STRING_FACTS];
+    refuse_modes(way);
+    make_same(way, "z", 224);
+    make_same(way, "xyz", 228);
+    // U+00E9, which is wide: right behind "a"; and behind a zero, which the storage size and the offset of "b" count
+    memset(out, 0xa5, sizeof out);
+    is(patch(way, 224, 0, NEPULADRIM_PLAIN, "\303\251", 224) == 224);
+    is(memcmp(out + 144, "\0\0\0\1\3\0\0\1\6\0\0\1" "a\351\0b" "\1\2\3\4", 20) == 0 && out[60] == 4 && out[224] == 0xa5);
+    is(patch(way, 224, 0, NEPULADRIM_EVEN, "\303\251", 228) == 228);
+    is(memcmp(out + 144, "\0\0\0\1\5\0\0\1\10\0\0\1" "a\0\351\0b\0\0\0" "\1\2\3\4", 24) == 0 && out[60] == 5 && out[228] == 0xa5);
+    is(nepuladrim_string_facts(out, 228, 0, 1, known, NEPULADRIM_STRING_FACTS) == NEPULADRIM_STRING_FACTS);
+    is(known[NEPULADRIM_STRING_AT] == 158 && known[NEPULADRIM_STRING_BYTES] == 2 && known[NEPULADRIM_STRING_IS_WIDE] == 1);
+    is(nepuladrim_string(out, 228, 0, 1, kept, sizeof kept) == 2 && memcmp(kept, "\351\0", 2) == 0);
+    is(nepuladrim_string(out, 228, 0, 2, kept, sizeof kept) == 1 && kept[0] == 'b');
+}
+
+// A wide string at an odd place stays there where another fits in place, and goes where it is patched itself.
+static void patch_at_odd_place(void) {
+    is(patch(BY_ID, 224, 0, NEPULADRIM_PLAIN, "\303\251", sizeof out) == 224);
+    memcpy(kept, out, 224);
+    is(nepuladrim_patch_string_by_id(kept, 224, 0, NEPULADRIM_EVEN, 0, BYTES("z"), out, sizeof out) == 224);
+    is(memcmp(out + 144, "\0\0\0\1\3\0\0\1\6\0\0\1" "z\351\0b", 16) == 0);
+    is(nepuladrim_patch_string_by_id(kept, 224, 0, NEPULADRIM_EVEN, 1, BYTES("\303\251"), out, sizeof out) == 228);
+    is(memcmp(out + 144, "\0\0\0\1\5\0\0\1\10\0\0\1" "a\0\351\0b", 17) == 0);
+}
+
 int main(void) {
     const uint32_t ends[] = {1, 3}, wrong[] = {3, 1};
 
@@ -43,12 +109,12 @@ int main(void) {
     is(nepuladrim_admit(image, 147, 0) == 1);
 
     memset(out, 0xa5, sizeof out);
-    is(nepuladrim_patch_string_by_id(image, 220, 0, 2, BYTES("x"), out, sizeof out) == refused(7));
-    is(nepuladrim_patch_string_by_id(image, 220, 0, 0, BYTES("\377"), out, sizeof out) == refused(8));
-    is(nepuladrim_patch_string_by_id(image, 220, 0, 0, BYTES("aaaaa"), out, 223) == refused(13));
-    is(nepuladrim_patch_string_by_id(image, 220, 9, 0, BYTES("aaaaa"), out, sizeof out) == refused(15));
+    is(nepuladrim_patch_string_by_id(image, 220, 0, NEPULADRIM_PLAIN, 2, BYTES("x"), out, sizeof out) == refused(7));
+    is(nepuladrim_patch_string_by_id(image, 220, 0, NEPULADRIM_PLAIN, 0, BYTES("\377"), out, sizeof out) == refused(8));
+    is(nepuladrim_patch_string_by_id(image, 220, 0, NEPULADRIM_PLAIN, 0, BYTES("aaaaa"), out, 223) == refused(13));
+    is(nepuladrim_patch_string_by_id(image, 220, 9, NEPULADRIM_PLAIN, 0, BYTES("aaaaa"), out, sizeof out) == refused(15));
     is(untouched());
-    is(nepuladrim_patch_string_by_id(image, 220, 0, 0, BYTES("aaaaa"), out, sizeof out) == 224);
+    is(nepuladrim_patch_string_by_id(image, 220, 0, NEPULADRIM_PLAIN, 0, BYTES("aaaaa"), out, sizeof out) == 224);
     is(memcmp(out + 144, "\0\0\0\5\12\0\0\2" "aaaaabc\0" "\1\2\3\4", 20) == 0 && out[60] == 7 && out[224] == 0xa5);
 
     memset(image, 0xa5, sizeof image);
@@ -135,12 +201,18 @@ int main(void) {
 
     // an accented value of as many bytes: two bytes of a wide string
     memset(out, 0xa5, sizeof out);
-    is(nepuladrim_patch_string_replace(image, 220, 0, BYTES("cb"), BYTES("x"), out, sizeof out) == refused(14));
+    is(nepuladrim_patch_string_replace(image, 220, 0, NEPULADRIM_PLAIN, BYTES("cb"), BYTES("x"), out, sizeof out) == refused(14));
     is(untouched());
-    is(nepuladrim_patch_string_replace(image, 220, 0, BYTES("bc"), BYTES("\303\251"), out, sizeof out) == 220);
+    is(nepuladrim_patch_string_replace(image, 220, 0, NEPULADRIM_PLAIN, BYTES("bc"), BYTES("\303\251"), out, sizeof out) == 220);
     is(memcmp(out + 144, "\0\0\0\1\3\0\0\1" "a\351\0\0", 12) == 0);
     is(nepuladrim_string_facts(out, 220, 0, 1, known, NEPULADRIM_STRING_FACTS) == NEPULADRIM_STRING_FACTS);
     is(known[NEPULADRIM_STRING_BYTES] == 2 && known[NEPULADRIM_STRING_UNITS] == 1 && known[NEPULADRIM_STRING_IS_WIDE] == 1);
+
+    const uint32_t each[] = {1, 2, 3};
+    is(nepuladrim_build(97, BYTES("axb"), each, 3, BYTES("\1\2\3\4"), three, sizeof three) == 224);
+    patch_in_modes(BY_ID);
+    patch_in_modes(BY_VALUE);
+    patch_at_odd_place();
 
     memset(out, 0xa5, sizeof out);
     is(nepuladrim_patch_function_bytes(image, 220, 0, 1, BYTES("x"), out, sizeof out) == refused(7));

@@ -1,6 +1,7 @@
 //! Patches of images with more than 8 MiB of storage: strings go to the overflow table by their offset too.
 
 use super::Job;
+use oracle::job::packing::Mode;
 use oracle::patches::parsed::parsed;
 
 fn put(image: &mut [u8], at: usize, word: usize) {
@@ -58,21 +59,24 @@ pub fn compare() {
         (&[0; 2], 8_388_609),
         (&[8_388_607, 4_000_000, 9, 8, 7, 8_000_000, 1], 12),
     ];
-    let mut count = 0;
+    let mut patches = [0; 2];
     for (counts, length) in cases {
         let image = image(counts);
-        for id in 0..counts.len() as u32 {
-            let new = vec![b'x'; length];
-            let job = Job { layout: 1, image: &image, id, new: &new, is_body: false };
-            let mut out = vec![0; image.len() + 9_000_000];
-            let ours = job.ours(&mut out);
-            let theirs = job.theirs(&mut parsed(&job.reading()));
-            assert!(
-                out.get(..ours as usize) == Some(&theirs[..]),
-                "{counts:?}, {length}, {id}: {ours}"
-            );
-            count += 1;
+        let new = vec![b'x'; length];
+        for (count, mode) in patches.iter_mut().zip([Mode::Plain, Mode::Even]) {
+            for id in 0..counts.len() as u32 {
+                let job = Job { layout: 1, mode, image: &image, id, new: &new, is_body: false };
+                let mut out = vec![0; image.len() + 9_000_000];
+                let ours = job.ours(&mut out);
+                let theirs = job.theirs(&mut parsed(&job.reading()));
+                assert!(
+                    out.get(..ours as usize) == Some(&theirs[..]),
+                    "{counts:?}, {length}, {id}: {ours}"
+                );
+                *count += 1;
+            }
         }
     }
-    println!("bench: {count} patches of images over 8 MiB are the Rust's");
+    let [plain, even] = patches;
+    println!("bench: {plain} patches of images over 8 MiB are the Rust's, {even} in even mode the second reading's");
 }

@@ -1,9 +1,9 @@
 // Patches an image laid out as compilers lay them out, with as many strings as functions, 1 MiB for 10,000 of each:
-//   bench-patches ours|theirs place|rebuild|equal|body modern|mixed|names COUNT REPEATS
+//   bench-patches ours|theirs place|rebuild|even|equal|body modern|mixed|names|odd COUNT REPEATS
 // prints the length of the image and a sum of the result's bytes. The Rust's file is parsed before, also for no repeats, so
-// that what REPEATS adds is its patch call alone.
+// that what REPEATS adds is its patch call alone. even: a rebuild in even mode, where theirs is the judge's second reading.
 //   bench-patches compare
-// holds ours to the Rust's byte for byte on images too long for a stream of calls.
+// holds ours to theirs byte for byte on images too long for a stream of calls.
 
 #[path = "../../src/image.rs"]
 mod image;
@@ -14,13 +14,16 @@ use hbc_decomp::write::patch::{patch_function_bytes, patch_string_by_id, PatchOp
 use image::{image, shape};
 use oracle::image::layout::Layout;
 use oracle::image::reading::Reading;
+use oracle::job::packing::Mode;
 use oracle::patches::parsed::parsed;
+use oracle::patches::{even, Kind, Patch};
 
 extern "C" {
     fn nepuladrim_patch_string_by_id(
         image: *const u8,
         length: usize,
         layout: u8,
+        mode: u8,
         id: u32,
         value: *const u8,
         value_length: usize,
@@ -50,6 +53,7 @@ fn more(shape: &str) -> usize {
 
 pub struct Job<'a> {
     pub layout: u8,
+    pub mode: Mode,
     pub image: &'a [u8],
     pub id: u32,
     /// A value, or a body.
@@ -60,23 +64,18 @@ pub struct Job<'a> {
 impl Job<'_> {
     /// Our answer: a length, or 2^32 and the number of a refusal.
     pub fn ours(&self, out: &mut [u8]) -> u64 {
-        let patch = if self.is_body {
-            nepuladrim_patch_function_bytes
-        } else {
-            nepuladrim_patch_string_by_id
-        };
-        let (image, new) = (self.image, self.new);
+        let (layout, id) = (self.layout, self.id);
+        let (image, length) = (self.image.as_ptr(), self.image.len());
+        let (new, size) = (self.new.as_ptr(), self.new.len());
+        let (out, room) = (out.as_mut_ptr(), out.len());
         unsafe {
-            patch(
-                image.as_ptr(),
-                image.len(),
-                self.layout,
-                self.id,
-                new.as_ptr(),
-                new.len(),
-                out.as_mut_ptr(),
-                out.len(),
-            )
+            if self.is_body {
+                return nepuladrim_patch_function_bytes(
+                    image, length, layout, id, new, size, out, room,
+                );
+            }
+            let mode = (self.mode == Mode::Even).into();
+            nepuladrim_patch_string_by_id(image, length, layout, mode, id, new, size, out, room)
         }
     }
 
@@ -84,9 +83,16 @@ impl Job<'_> {
         Reading { layout: Layout(self.layout), image: self.image, slip: None }
     }
 
+    /// The Rust's image, or the second reading's in the even mode, which the Rust has not.
     pub fn theirs(&self, file: &mut hbc_decomp::file::BytecodeFile) -> Vec<u8> {
         if self.is_body {
             return patch_function_bytes(file, self.id, self.new).unwrap();
+        }
+        if self.mode == Mode::Even {
+            let Job { mode, image, id, new, .. } = *self;
+            let (kind, layout, room) = (Kind::ById, Layout(self.layout), usize::MAX);
+            let patch = Patch { kind, mode, layout, id, old: &[], new, image, room };
+            return even::read(&patch, None).unwrap();
         }
         let (format, options) = (BytecodeFormat { definitions: vec![] }, PatchOptions::default());
         let value = std::str::from_utf8(self.new).unwrap();
@@ -108,7 +114,7 @@ fn main() {
     let middle = count as u32 / 2;
     let reading = Reading { layout: Layout(shape.layout), image: &image, slip: None };
     let size = match words[2].as_str() {
-        "place" | "rebuild" => {
+        "place" | "rebuild" | "even" => {
             let string = &reading.strings()[middle as usize];
             (string.end - string.start) as usize + if words[2] == "place" { 0 } else { 5 }
         }
@@ -119,9 +125,10 @@ fn main() {
     };
     let new = vec![b'x'; size];
     let is_body = matches!(words[2].as_str(), "equal" | "body");
-    let job = Job { layout: shape.layout, image: &image, id: middle, new: &new, is_body };
-    // Both sides start with the same, and end with a sum over as many bytes, for no repeats too.
-    let mut out = vec![0; image.len() + 64];
+    let mode = if words[2] == "even" { Mode::Even } else { Mode::Plain };
+    let job = Job { layout: shape.layout, mode, image: &image, id: middle, new: &new, is_body };
+    // Both sides start with the same, and end with a sum over as many bytes, for no repeats too. Each string may have a gap.
+    let mut out = vec![0; image.len() + 64 + count];
     let mut made = image.clone();
     let mut file = parsed(&reading);
     match (words[1].as_str(), words[5].as_str()) {

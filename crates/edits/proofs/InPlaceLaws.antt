@@ -107,6 +107,9 @@ module _ (l : Layout) (s : List ℕ) (at : ℕ) (vs : List ℕ) (ip : InPlace l 
 
   -- ---- what the write does not touch stays
 
+  pub put-place : (i : ℕ) → i < stringsIn s → placeAt l t i ≡ placeAt l s i
+  put-place = place-same l s t same-entries
+
   pub put-string : (i : ℕ) → i < stringsIn s → Disjoint at (length vs) (storageAt l s + placeAt l s i .at) (sizeOf (placeAt l s i))
       → stringOf l t i ≡ stringOf l s i
   put-string i h d =

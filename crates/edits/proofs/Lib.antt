@@ -8,6 +8,8 @@ pub mod BodyLaws
 pub mod RebuildLaws
 pub mod RegionLaws
 pub mod StringLaws
+pub mod SpacedLaws
+pub mod ModeLaws
 pub mod KeepLaws
 pub mod ResizeLaws
 pub mod FitLaws

@@ -91,8 +91,8 @@ module _ (l : Layout) (f : ℕ → Str) (q : Packed) (s : List ℕ) (ok : Bears 
       let m : length ws ≡ n * 4 = size-smalls (q .place) n in
       rw add-assoc (ok .bytes (n * 4 + j) (omega (arith, length-append ws (vs ++ q .store))) ∙ getD-past ws (vs ++ q .store) (n * 4) j m)
 
-  stored-byte : Lies s (storageAt l s) (q .store)
-  stored-byte j h =
+  pub read-stored : Lies s (storageAt l s) (q .store)
+  read-stored j h =
       rw (read-storage, add-assoc)
       (rest-lies (ov * 8 + j) (rw (length-append vs (q .store)) (omega (arith, size-pairs (q .place) n)))
       ∙ getD-past vs (q .store) (ov * 8) j (size-pairs (q .place) n))
@@ -141,7 +141,7 @@ module _ (l : Layout) (f : ℕ → Str) (q : Packed) (s : List ℕ) (ok : Bears 
   unfolding placeAt
   read-place i h = located (q .place) n (smallIn l s) (overIn l s) tables-written i h
 
-  read-wide : (i : ℕ) → i < n → placeAt l s i .wide ≡ f i .wide
+  pub read-wide : (i : ℕ) → i < n → placeAt l s i .wide ≡ f i .wide
   read-wide i h = ap (λ (p : Place). p .wide) (read-place i h) ∙ ok .carries .string i h .wide
 
   pub read-at : (i : ℕ) → i < n → placeAt l s i .at ≡ q .place i .at
@@ -162,7 +162,7 @@ module _ (l : Layout) (f : ℕ → Str) (q : Packed) (s : List ℕ) (ok : Bears 
       → getD s (storageAt l s + placeAt l s i .at + j) 0 ≡ getD (f i .bytes) j 0
   read-byte i j h k =
       let c = ok .carries .string i h in
-      rw (read-at i h, add-assoc) (stored-byte (q .place i .at + j) (omega (arith, c .within)) ∙ c .byte j k)
+      rw (read-at i h, add-assoc) (read-stored (q .place i .at + j) (omega (arith, c .within)) ∙ c .byte j k)
 
   -- string i is the one given
   pub read-string : (i : ℕ) → i < n → stringOf l s i ≡ f i

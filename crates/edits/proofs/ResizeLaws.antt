@@ -32,7 +32,7 @@ use Rattle.edits.proofs.SlotLaws.{small-fits}
 use Rattle.image.proofs.PlaceLaws.{records-at, debug-fits, debug-at, debug-past, ordered}
 use Rattle.edits.proofs.EditLaws.{edit-below, Change}
 use Rattle.edits.proofs.ReadLaws.{Agree, number-agree, functions-same, hash-same, identifier-same, rank-same, counts-of}
-use Rattle.edits.proofs.ReadLaws.{tailAt-same, string-same}
+use Rattle.edits.proofs.ReadLaws.{tailAt-same, SameEntries, place-same, string-same}
 use Rattle.edits.proofs.BodyLaws.{Keeps, TakesBody, Parted, Holds, place-most, length-out, front-agree, floor-agree, front-number}
 use Rattle.edits.proofs.BodyLaws.{front-long, func-out, tail-byte, body-kept, body-new}
 use Rattle.edits.proofs.KeepLaws.{PlacedIn, edit-placed, Tabled, tabled-same, admitted-of}
@@ -241,10 +241,14 @@ module _ (l : Layout) (i : ℕ) (body : List ℕ) (s : List ℕ) (al : Alone l i
       let o = ordered l s in
       resized-middle p (omega (arith, o .hashes, o .small, o .over, o .storage)) (omega (arith, o .tail, ad .stored j h))
 
+  same-entries : SameEntries l s out
+  same-entries = record { words = resized-words; tables = resized-tables; counted = ad .overflows }
+
+  pub resized-place : (j : ℕ) → j < stringsIn s → placeAt l out j ≡ placeAt l s j
+  resized-place = place-same l s out same-entries
+
   pub resized-string : (j : ℕ) → j < stringsIn s → stringOf l out j ≡ stringOf l s j
-  resized-string j h =
-      string-same l s out (record { words = resized-words; tables = resized-tables; counted = ad .overflows }) j h
-      (λ p f k. resized-stored j p h f k)
+  resized-string j h = string-same l s out same-entries j h (λ p f k. resized-stored j p h f k)
 
   pub resized-identifier : (j : ℕ) → isIdentifier l out j ≡ isIdentifier l s j
   resized-identifier j = identifier-same l s out (counts-of l s out resized-words) resized-kinds j

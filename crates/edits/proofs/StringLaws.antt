@@ -13,6 +13,7 @@ use Rattle.bits.proofs.ListLaws.{Lies, getD-past}
 use Rattle.bits.proofs.ByteLaws.{length-bytesAt, getD-bytesAt, bytesAt-below}
 use Rattle.bits.proofs.WriteLaws.{numberAt-back, numberAt-off}
 use Rattle.format.specs.declared.Layout.{Layout}
+use Rattle.format.specs.declared.Mode.{Mode}
 use Rattle.format.specs.Table as table
 use Rattle.format.specs.Entry.{Place, far, isOver}
 use Rattle.footer.specs.Finalize.{sizeLimit}
@@ -20,19 +21,16 @@ use Rattle.image.specs.Sections.{stringsIn, overflowsIn, storageIn, debugIn, sm
 use Rattle.image.specs.Strings.{isFull, smallIn, placeAt, unitSize, sizeOf, Str, stringOf}
 use Rattle.image.specs.Admitted.{Admitted}
 use Rattle.edits.specs.Edit.{splice, writeAll}
-use Rattle.edits.specs.Packing.{Packed, placed, packed}
+use Rattle.edits.specs.Packing.{Packed, gapOf, storeOf, startOf, packed, Zeros, startIn, endIn, Spaced}
 use Rattle.edits.specs.Rebuild.{overs, region, padded, newTail, rebuild}
 use Rattle.image.proofs.PlaceLaws.{debug-fits, debug-at, debug-past}
-use Rattle.edits.proofs.PackLaws.{first-at, next-at, last-at}
+use Rattle.edits.proofs.PackLaws.{start-is, size-next, size-room, start-none, gap-zero}
 use Rattle.edits.proofs.ReadLaws.{stringCount-same, smallAt-same}
 use Rattle.edits.proofs.BodyLaws.{front-number, front-long, new-byte, place-most}
 use Rattle.edits.proofs.RebuildLaws.{beside, Valid, newRegion, rebuiltPlace, Rebuilds, rebuilding, parted, counts-kept}
 use Rattle.edits.proofs.RebuildLaws.{rebuilt-limit}
-use Rattle.edits.proofs.RegionLaws.{length-region, Bears, read-storage, read-at, read-size, read-string, read-full}
-
--- a list has zeros from one place to another
-abbrev pub Zeros : List ℕ → ℕ → ℕ → Type 0
-Zeros s from to = (p : ℕ) → from ≤ p → p < to → getD s p 0 ≡ 0
+use Rattle.edits.proofs.RegionLaws.{length-region, Bears, read-storage, read-stored, read-wide, read-at, read-size}
+use Rattle.edits.proofs.RegionLaws.{read-string, read-full}
 
 -- ---- the strings of an admitted image
 
@@ -184,10 +182,17 @@ module _ (l : Layout) (ps : Packed) (s : List ℕ) (ad : Admitted l s) (f : ℕ 
       ∙ getD-past (region n ps) (replicate z 0) (length (region n ps)) q refl
       ∙ getD-replicate z q 0 0 (omega (arith, tail-is))
 
-  -- ---- strings
+  -- ---- storage and its strings
+
+  -- byte p of storage is that of the packing
+  rebuilt-stored : (p : ℕ) → p < length (ps .store) → getD out (storageAt l out + p) 0 ≡ getD (ps .store) p 0
+  rebuilt-stored p h = read-stored l f ps out bears p h
 
   rebuilt-at : (i : ℕ) → i < n → placeAt l out i .at ≡ ps .place i .at
   rebuilt-at i h = read-at l f ps out bears i (known i h)
+
+  rebuilt-wide : (i : ℕ) → i < n → placeAt l out i .wide ≡ f i .wide
+  rebuilt-wide i h = read-wide l f ps out bears i (known i h)
 
   rebuilt-size : (i : ℕ) → i < n → sizeOf (placeAt l out i) ≡ length (f i .bytes)
   rebuilt-size i h = read-size l f ps out bears i (known i h)
@@ -200,30 +205,47 @@ module _ (l : Layout) (ps : Packed) (s : List ℕ) (ad : Admitted l s) (f : ℕ 
   pub rebuilt-full : (i : ℕ) → i < n → isFull (smallIn l out i) ≡ isOver (placeAt l out i)
   rebuilt-full i h = read-full l f ps out bears i (known i h)
 
--- ---- 01's packing, read off the rebuilt image: what reading the strings back does not see
+-- ---- the packing of each mode, read off the rebuilt image
 
-module _ (l : Layout) (f : ℕ → Str) (s : List ℕ) (ad : Admitted l s) (ok : Rebuilds l f (packed f (stringsIn s)) s) where
+module _ (m : Mode) (l : Layout) (f : ℕ → Str) (s : List ℕ) (ad : Admitted l s) (ok : Rebuilds l f (packed m f (stringsIn s)) s) where
   abbrev qs : Packed
-  qs = packed f (stringsIn s)
+  qs = packed m f (stringsIn s)
 
   abbrev image : List ℕ
   image = rebuild l qs s
 
-  -- where string i ends in storage
-  abbrev endOf : ℕ → ℕ
-  endOf i = placeAt l image i .at + sizeOf (placeAt l image i)
+  start-in : (i : ℕ) → i < stringsIn s → startIn l image i ≡ startOf m f i
+  start-in i h = rebuilt-at l qs s ad f ok i h
 
-  end-is : (i : ℕ) → i < stringsIn s → endOf i ≡ placed f i .at + length (f i .bytes)
-  end-is i h = rw (rebuilt-at l qs s ad f ok i h, rebuilt-size l qs s ad f ok i h)
+  end-in : (i : ℕ) → i < stringsIn s → endIn l image i ≡ length (storeOf m f (suc i))
+  end-in i h = rw (start-in i h, rebuilt-size l qs s ad f ok i h) (sym (size-next m f i))
 
-  -- the first string stands at 0
-  pub rebuilt-first : 0 < stringsIn s → placeAt l image 0 .at ≡ 0
-  rebuilt-first h = rebuilt-at l qs s ad f ok 0 h ∙ first-at f
+  next-in : (i : ℕ) → suc i < stringsIn s → startIn l image (suc i)
+      ≡ endIn l image i + gapOf m (placeAt l image (suc i) .wide) (endIn l image i)
+  next-in i h =
+      start-in (suc i) h ∙ start-is m f (suc i)
+      ∙ rw (← end-in i (omega arith), ← rebuilt-wide l qs s ad f ok (suc i) h)
 
-  -- each next one where the one before it ends
-  pub rebuilt-next : (i : ℕ) → suc i < stringsIn s → placeAt l image (suc i) .at ≡ endOf i
-  rebuilt-next i h = rebuilt-at l qs s ad f ok (suc i) h ∙ next-at f i ∙ sym (end-is i (omega arith))
+  gap-in : (i : ℕ) → suc i < stringsIn s
+      → Zeros image (storageAt l image + endIn l image i) (storageAt l image + startIn l image (suc i))
+  gap-in i h p lo hi =
+      let e = end-in i (omega arith) in
+      let q : ℕ = p - storageAt l image - endIn l image i in
+      let g : q < gapOf m (f (suc i) .wide) (length (storeOf m f (suc i))) = omega (arith, start-in (suc i) h, start-is m f (suc i)) in
+      let r : p ≡ storageAt l image + (length (storeOf m f (suc i)) + q) = omega arith in
+      ap (λ (x : ℕ). getD image x 0) r
+      ∙ rebuilt-stored l qs s ad f ok (length (storeOf m f (suc i)) + q)
+      (omega (arith, start-is m f (suc i), size-room m f (suc i) (stringsIn s) h))
+      ∙ gap-zero m f (suc i) (stringsIn s) q h g
 
-  -- the last one at the end of storage
-  pub rebuilt-last : (i : ℕ) → suc i ≡ stringsIn s → endOf i ≡ storageIn image
-  rebuilt-last i e = end-is i (omega arith) ∙ last-at f i ∙ rw e (sym (storage-size l qs s ad f ok))
+  pub rebuilt-spaced : Spaced m l image
+  rebuilt-spaced =
+      let n : stringsIn image ≡ stringsIn s = count-same l qs s ad f ok in
+      record {
+        first = λ h. start-in 0 (omega (arith, n)) ∙ start-none m f;
+        next = λ i h. next-in i (omega (arith, n));
+        gap = λ i h. gap-in i (omega (arith, n));
+        last = λ i e.
+            let k : suc i ≡ stringsIn s = e ∙ n in
+            end-in i (omega arith) ∙ rw k (sym (storage-size l qs s ad f ok));
+      }

@@ -11,6 +11,8 @@ use Rattle.bits.specs.Fields.{fieldOf, withField}
 use Rattle.bits.specs.Word32.{add32, xorN}
 use Rattle.format.specs.declared.Layout.{Layout}
 use Rattle.format.specs.declared.Layout.the-variants.{Modern, Legacy}
+use Rattle.format.specs.declared.Mode.{Mode}
+use Rattle.format.specs.declared.Mode.the-variants.{Plain}
 use Rattle.format.specs.Table.{modernPointerLow, modernPointerHigh, legacyPointerLow, legacyInfo, placeIn, debugRow}
 use Rattle.format.specs.Table.{modernRecord, storageSize, largeOffset}
 use Rattle.format.specs.Record.{withValue, isLarge, pointer, putPointer}
@@ -35,6 +37,7 @@ use Rattle.edits.specs.Fit.{fieldsFit}
 use Rattle.unicode.specs.Utf8 as utf8
 use Rattle.edits.specs.Edit.{splice, writeAll, groups, putSmall, pointed, putHeader, recordGroup, headerGroup, edit}
 use Rattle.edits.specs.Packing.{storeOf}
+use Rattle.edits.specs.Packing as packing
 use Rattle.edits.specs.Rebuild.{smalls, pairOf, pairs, overs, region, padded, rebuild}
 use Rattle.string_overlap.specs.Overlap.{isApart, isAlone}
 use Rattle.string_packing.specs.Strings.{asString, stringWith, stringsWith}
@@ -66,8 +69,8 @@ abbrev pub ofJ : List ℕ
 ofJ = toJ (λ version text ends. minimal version (storageOf text ends) ends)
 
 -- what a definition makes of that image when its string 0 is set to "aaaaa"
-abbrev pub toK : {A : Type 0} → (Layout → List ℕ → ℕ → List ℕ → A) → A
-toK patch = patch Modern ofJ 0 (0x61 ∷ 0x61 ∷ 0x61 ∷ 0x61 ∷ 0x61 ∷ [])
+abbrev pub toK : {A : Type 0} → (Mode → Layout → List ℕ → ℕ → List ℕ → A) → A
+toK patch = patch Plain Modern ofJ 0 (0x61 ∷ 0x61 ∷ 0x61 ∷ 0x61 ∷ 0x61 ∷ [])
 
 abbrev pub ofK : List ℕ
 ofK = toK changed
@@ -134,8 +137,8 @@ unfolding rows allMarked smallWord entry withField fieldOf pointer moved hashOf 
     headerOf modernHeader identity putAll recordOf putPointer smallTable startOf tailOf largeHeader bytesOf bytesAt number
     minimal sealed lengthed footed digest digestBytes bigBytes kindsAt hashesAt smallAt overAt storageAt tailAt overBefore placeOf
     locate smallIn overIn placeAt stringOf function.small function.header function.recordIn function.funcOf isLarge splice
-    writeAll groups putSmall pointed putHeader recordGroup headerGroup edit storeOf smalls pairOf pairs overs region padded rebuild
-    isApart isAlone asString stringWith stringsWith fitsInPlace inPlace changed ascii allBelow sumBelow judge kindIn covered
+    writeAll groups putSmall pointed putHeader recordGroup headerGroup edit storeOf packing.startOf smalls pairOf pairs overs region padded
+    rebuild isApart isAlone asString stringWith stringsWith fitsInPlace inPlace changed ascii allBelow sumBelow judge kindIn covered
     identified overflowsCounted overflowsNumbered stringsStored bytesNarrow stringsNarrow headersIn bodiesIn infosIn debugInTail
     headersApart bodiesApart checks fieldsFit utf8.isUtf8 utf8.readingOf utf8.nextByte utf8.opens newLength patchFits byIdRefusal
     builder.checks builder.endsAscend builder.endsWithin builder.allSmall utf8.utf16 utf8.unitsFrom utf8.unitsOfPoint

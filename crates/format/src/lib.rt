@@ -17,6 +17,13 @@ pub enum Layout {
     },
 }
 
+// How a rebuild packs strings, as its caller chooses: each where the one before it ends, or a wide one
+// at the next even place.
+pub enum Mode {
+    Plain,
+    Even,
+}
+
 // Where a field stands, how wide it is, and how much further it stands in a legacy image with big
 // integers and in one with function sources.
 pub struct Field {

@@ -14,6 +14,7 @@ use Rattle.bits.specs.declared.Answer.the-variants.{Length, Refused}
 use Rattle.bits.proofs.ByteLaws.{length-bytesAt}
 use Rattle.bits.proofs.JudgeLaws.{judge-pass}
 use Rattle.format.specs.declared.Layout.{Layout}
+use Rattle.format.specs.declared.Mode.{Mode}
 use Rattle.footer.specs.Finalize.{sizeLimit, finalizeOf}
 use Rattle.footer.proofs.FinalizeLaws.{accepted, finalize-length}
 use Rattle.serialize.specs.Parts.{storageOf, minimal}
@@ -38,7 +39,7 @@ use Rattle.patches.proofs.StepLaws.{made-of, patch-promise}
 use Rattle.listing_pieces.specs.Listing.{listed, partRoom, listingPart}
 use Rattle.listing_pieces.proofs.PartLaws.{part-short, part-fits}
 use Rattle.input_records.specs.Heads.{layoutOf}
-use Rattle.hbc.specs.Numbers.{coded, Codes, stated}
+use Rattle.hbc.specs.Numbers.{coded, Codes, stated, modeOf, chosen}
 use Rattle.hbc.specs.Reads.{stringReading, bodyReading}
 
 -- the length of what is made fits 32 bits
@@ -58,7 +59,7 @@ told-apart (refused n) (made t) h k e = absurd (omega (arith, k))
 told-apart (made t) (refused m) h k e = absurd (omega (arith, h))
 told-apart (made t) (made u) h k e = ap Length e
 
--- ---- rooms and layouts change nothing of it
+-- ---- rooms, layouts and modes change nothing of it
 
 pub short-in-room : (room : ℕ) (o : Outcome) → Short o → Short (roomed room o)
 unfolding roomed
@@ -76,6 +77,14 @@ short-stated byte o h = go (ltb 4 byte)
     go : (b : Bool) → Short (pick b (refused 15) (o (layoutOf byte)))
     go true = tt
     go false = h (layoutOf byte)
+
+pub short-chosen : (byte : ℕ) (o : Mode → Outcome) → ((m : Mode) → Short (o m)) → Short (chosen byte o)
+unfolding chosen
+short-chosen byte o h = go (ltb 1 byte)
+  where
+    go : (b : Bool) → Short (pick b (refused 15) (o (modeOf byte)))
+    go true = tt
+    go false = h (modeOf byte)
 
 -- ---- one for each function that writes
 
@@ -110,8 +119,8 @@ short-built version text ends body =
 module _ (l : Layout) (s : List ℕ) (bytes : (i : ℕ) → getD s i 0 < 256) where
   passed : (p : Patch) (t : List ℕ) → outcomeOf l s p ≡ made t → refusal l s ≡ 0
   unfolding outcomeOf patchById byIdRefusal patchByValue byValueRefusal patchBody bodyRefusal
-  passed (byId id value) t e = judged-none l s _ (made-of _ _ _ e .0) .0
-  passed (byValue old new) t e = judged-none l s _ (made-of _ _ _ e .0) .0
+  passed (byId m id value) t e = judged-none l s _ (made-of _ _ _ e .0) .0
+  passed (byValue m old new) t e = judged-none l s _ (made-of _ _ _ e .0) .0
   passed (toBody id body) t e = judged-none l s _ (made-of _ _ _ e .0) .0
 
   pub short-patch : (p : Patch) → InBytes p → Short (outcomeOf l s p)

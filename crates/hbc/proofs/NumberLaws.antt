@@ -1,11 +1,13 @@
--- The number of admission's answer.
+-- The number of an answer, under a layout byte and a mode byte.
 use mathlib.Core.Path.{_≡_, refl, sym, _∙_, ap, subst}
 use mathlib.Core.Bool.{Bool, true, false}
 use mathlib.Core.List.{List}
 use Prim.Native.Nat.{ℕ, _+_, _≤_, _<_}
 use lib.Dec.{eqb}
-use borrow.Author.Tests.{lt-ltb, le-ltb, eqb-true}
+use borrow.Author.Tests.{lt-ltb, le-ltb, eqb-true, eq-eqb, ne-eqb}
 use Rattle.format.specs.declared.Layout.{Layout}
+use Rattle.format.specs.declared.Mode.{Mode}
+use Rattle.format.specs.declared.Mode.the-variants.{Plain, Even}
 use Rattle.footer.specs.Finalize.{finalizeOf}
 use Rattle.image.specs.Admission.{refusal}
 use Rattle.input_records.specs.Heads.{layoutOf}
@@ -14,7 +16,7 @@ use Rattle.admission.specs.Admission.{answerFor, admission, numberOf}
 use Rattle.bits.specs.Outcome.{Outcome, roomed, Answers}
 use Rattle.bits.specs.declared.Answer.{Answer}
 use Rattle.bits.specs.declared.Answer.the-variants.{Refused}
-use Rattle.hbc.specs.Numbers.{admitNumber, numbered, Codes, stated}
+use Rattle.hbc.specs.Numbers.{admitNumber, numbered, Codes, stated, modeOf, chosen}
 
 -- the byte states this layout
 pub record States (byte : ℕ) (l : Layout) : Type 0 where
@@ -69,3 +71,32 @@ pub layout-codes : (byte : ℕ) (o : Layout → Outcome) (l : Layout) (a : Answe
 unfolding stated
 layout-codes byte o l a r old new z g f =
     rw (le-ltb 4 byte (z .known)) (subst (λ (x : Layout). Codes (o x) r old new) (z .is) (codes (o l) a r old new g f))
+
+-- ---- a mode byte
+
+pub is-plain : (byte : ℕ) → byte ≡ 0 → Plain ≡ modeOf byte
+unfolding modeOf
+is-plain byte e = rw (eq-eqb byte 0 e)
+
+pub is-even : (byte : ℕ) → (byte ≡ 0 → ⊥) → Even ≡ modeOf byte
+unfolding modeOf
+is-even byte h = rw (ne-eqb byte 0 h)
+
+-- the byte states this mode
+pub record Chooses (byte : ℕ) (m : Mode) : Type 0 where
+  pub known : byte ≤ 1
+  pub is : m ≡ modeOf byte
+
+module _ (layout mode : ℕ) (o : Layout → Mode → Outcome) where
+  -- a mode byte over 1
+  pub no-mode-codes : (old : List ℕ) → layout ≤ 4 → 1 < mode → Codes (stated layout (λ l. chosen mode (o l))) 4294967311 old old
+  unfolding stated chosen
+  no-mode-codes old h k = rw (le-ltb 4 layout h, lt-ltb 1 mode k) (refl, refl)
+
+  -- any other
+  pub mode-codes : (l : Layout) (m : Mode) → States layout l → Chooses mode m → (a : Answer) (r : ℕ) (old new : List ℕ)
+      → Answers (o l m) a old new → r ≡ numbered a → Codes (stated layout (λ k. chosen mode (o k))) r old new
+  unfolding chosen
+  mode-codes l m y z a r old new g f =
+      layout-codes layout (λ k. chosen mode (o k)) l a r old new y
+      (rw (le-ltb 1 mode (z .known)) (subst (λ (x : Mode). Answers (o l x) a old new) (z .is) g)) f

@@ -3,13 +3,15 @@
 use mathlib.Core.List.{List}
 use mathlib.Core.Path.{_≡_}
 use Prim.Native.Nat.{ℕ, _+_}
-use lib.Dec.{ltb}
+use lib.Dec.{ltb, eqb}
 use Rattle.refusals.specs.Numbers as refusals
 use Rattle.bits.specs.Choice.{pick}
 use Rattle.bits.specs.Outcome.{Outcome, refused, answered, written}
 use Rattle.bits.specs.declared.Answer.{Answer}
 use Rattle.bits.specs.declared.Answer.the-variants.{Length, Refused}
 use Rattle.format.specs.declared.Layout.{Layout}
+use Rattle.format.specs.declared.Mode.{Mode}
+use Rattle.format.specs.declared.Mode.the-variants.{Plain, Even}
 use Rattle.image.specs.Admission.{refusal}
 use Rattle.input_records.specs.Heads.{layoutOf}
 
@@ -33,3 +35,11 @@ Codes o r old new = (r ≡ coded o) × (new ≡ written o old)
 -- the outcome under the layout that a byte states. 01, refusal 15: "layout byte over 4"
 unfoldable pub stated : ℕ → (Layout → Outcome) → Outcome
 stated byte o = pick (ltb 4 byte) (refused refusals.job) (o (layoutOf byte))
+
+-- the mode that a byte states: 0 plain, else even. 02, No. 2: "The caller chooses the mode"
+unfoldable pub modeOf : ℕ → Mode
+modeOf byte = pick (eqb byte 0) Plain Even
+
+-- the outcome in the mode that a byte states; 15 where the byte is over 1, as for the layout byte
+unfoldable pub chosen : ℕ → (Mode → Outcome) → Outcome
+chosen byte o = pick (ltb 1 byte) (refused refusals.job) (o (modeOf byte))

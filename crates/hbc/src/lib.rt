@@ -2,6 +2,7 @@
 // hands on to the one that it is named for.
 use bits::Answer;
 use format::Layout;
+use format::Mode;
 use function_table::FunctionRead;
 use reader::StringRead;
 ghost use mathlib.Core.Path.{_≡_};
@@ -16,7 +17,7 @@ ghost use Rattle.functions.specs.Patch.{patchBody};
 ghost use Rattle.listing_pieces.specs.Listing.{partRoom, listingPart};
 ghost use Rattle.facts.specs.Facts.{imageFacts, stringFacts, stringFactsFrom};
 ghost use Rattle.hbc.specs.Reads.{stringReading, bodyReading};
-ghost use Rattle.hbc.specs.Numbers.{admitNumber, numbered, Codes, stated};
+ghost use Rattle.hbc.specs.Numbers.{admitNumber, numbered, modeOf, Codes, stated, chosen};
 
 // A layout byte is at most that.
 const LAST_LAYOUT: u8 = 4;
@@ -35,8 +36,21 @@ pub extern "C" fn nepuladrim_admit(image: &[u8], layout: u8) -> u8
 // What is added to the number of a refusal, so that it is no length.
 const REFUSED: u64 = 4294967296;
 
-// The number of a layout byte over 4, where the answer could be a length.
-const NO_LAYOUT: u64 = 4294967311;
+// 15, where the answer could be a length: for a layout byte over 4 or a mode byte over 1.
+const REFUSED_JOB: u64 = 4294967311;
+
+// A mode byte is at most that.
+const LAST_MODE: u8 = 1;
+
+// The mode that a byte states.
+fn mode_of(b: u8) -> Mode
+    ensures { λ r. ⌜ r ≡ modeOf b ⌝ }
+{
+    if b == 0 {
+        return Mode::Plain;
+    }
+    Mode::Even
+}
 
 // The number of an answer: its length, or 2^32 and the refusal's number.
 fn number(answer: Answer) -> u64
@@ -76,20 +90,25 @@ pub extern "C" fn nepuladrim_build(
 pub extern "C" fn nepuladrim_patch_string_by_id<'a>(
     image: &'a [u8],
     layout: u8,
+    mode: u8,
     id: u32,
     value: &'a [u8],
     out: &mut [u8],
 ) -> u64
-    ensures { λ r. ⌜ Codes (stated layout
-        (λ l. roomed (length (now (out .entry))) (patchById l (now (image .entry)) id (now (value .entry))))) r (now (out .entry))
+    ensures { λ r. ⌜ Codes (stated layout (λ l. chosen mode
+        (λ m. roomed (length (now (out .entry))) (patchById m l (now (image .entry)) id (now (value .entry)))))) r (now (out .entry))
         (now (out .exit)) ⌝ }
 {
     if LAST_LAYOUT < layout {
-        return NO_LAYOUT;
+        return REFUSED_JOB;
+    }
+    if LAST_MODE < mode {
+        return REFUSED_JOB;
     }
     number(strings::patch_string_by_id(
         image,
         input_records::layout_of(layout),
+        mode_of(mode),
         id as usize,
         value,
         out,
@@ -101,18 +120,29 @@ pub extern "C" fn nepuladrim_patch_string_by_id<'a>(
 pub extern "C" fn nepuladrim_patch_string_replace<'a>(
     image: &'a [u8],
     layout: u8,
+    mode: u8,
     old: &[u8],
     new: &'a [u8],
     out: &mut [u8],
 ) -> u64
-    ensures { λ r. ⌜ Codes (stated layout
-        (λ l. roomed (length (now (out .entry))) (patchByValue l (now (image .entry)) (now (old .entry)) (now (new .entry))))) r
+    ensures { λ r. ⌜ Codes (stated layout (λ l. chosen mode
+        (λ m. roomed (length (now (out .entry))) (patchByValue m l (now (image .entry)) (now (old .entry)) (now (new .entry)))))) r
         (now (out .entry)) (now (out .exit)) ⌝ }
 {
     if LAST_LAYOUT < layout {
-        return NO_LAYOUT;
+        return REFUSED_JOB;
     }
-    number(strings::patch_string_replace(image, input_records::layout_of(layout), old, new, out))
+    if LAST_MODE < mode {
+        return REFUSED_JOB;
+    }
+    number(strings::patch_string_replace(
+        image,
+        input_records::layout_of(layout),
+        mode_of(mode),
+        old,
+        new,
+        out,
+    ))
 }
 
 // The body of function `id` is replaced.
@@ -129,7 +159,7 @@ pub extern "C" fn nepuladrim_patch_function_bytes(
         (now (out .exit)) ⌝ }
 {
     if LAST_LAYOUT < layout {
-        return NO_LAYOUT;
+        return REFUSED_JOB;
     }
     number(functions::patch_function_bytes(
         image,
@@ -189,7 +219,7 @@ pub extern "C" fn nepuladrim_string(image: &[u8], layout: u8, id: u32, out: &mut
         (now (out .entry)) (now (out .exit)) ⌝ }
 {
     if LAST_LAYOUT < layout {
-        return NO_LAYOUT;
+        return REFUSED_JOB;
     }
     number(read_string(image, input_records::layout_of(layout), id as usize, out))
 }
@@ -201,7 +231,7 @@ pub extern "C" fn nepuladrim_body(image: &[u8], layout: u8, id: u32, out: &mut [
         (now (out .entry)) (now (out .exit)) ⌝ }
 {
     if LAST_LAYOUT < layout {
-        return NO_LAYOUT;
+        return REFUSED_JOB;
     }
     number(read_body(image, input_records::layout_of(layout), id as usize, out))
 }
@@ -213,7 +243,7 @@ pub extern "C" fn nepuladrim_list(image: &[u8], layout: u8, from: usize, out: &m
         (now (out .entry)) (now (out .exit)) ⌝ }
 {
     if LAST_LAYOUT < layout {
-        return NO_LAYOUT;
+        return REFUSED_JOB;
     }
     number(listing_pieces::list(image, input_records::layout_of(layout), from, out))
 }
@@ -227,7 +257,7 @@ pub extern "C" fn nepuladrim_image_facts(image: &[u8], layout: u8, out: &mut [u6
         (now (out .entry)) (now (out .exit)) ⌝ }
 {
     if LAST_LAYOUT < layout {
-        return NO_LAYOUT;
+        return REFUSED_JOB;
     }
     number(facts::image_facts(image, input_records::layout_of(layout), out))
 }
@@ -239,7 +269,7 @@ pub extern "C" fn nepuladrim_string_facts(image: &[u8], layout: u8, id: u32, out
         (now (out .entry)) (now (out .exit)) ⌝ }
 {
     if LAST_LAYOUT < layout {
-        return NO_LAYOUT;
+        return REFUSED_JOB;
     }
     number(facts::string_facts(image, input_records::layout_of(layout), id as usize, out))
 }
@@ -256,7 +286,7 @@ pub extern "C" fn nepuladrim_string_facts_from(
         (now (out .entry)) (now (out .exit)) ⌝ }
 {
     if LAST_LAYOUT < layout {
-        return NO_LAYOUT;
+        return REFUSED_JOB;
     }
     number(facts::string_facts_from(image, input_records::layout_of(layout), id as usize, out))
 }

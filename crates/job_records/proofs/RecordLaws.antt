@@ -19,6 +19,7 @@ use Rattle.bits.proofs.ListLaws.{AllBelow}
 use Rattle.bits.proofs.ByteLaws.{numberAt-lt}
 use Rattle.bits.proofs.TestLaws.{below-or}
 use Rattle.format.specs.declared.Layout.{Layout}
+use Rattle.format.specs.declared.Mode.the-variants.{Plain}
 use Rattle.sections.specs.declared.Places.{Places}
 use Rattle.admission.specs.declared.Admission.{Admission}
 use Rattle.admission.specs.declared.Admission.the-variants as admission-is
@@ -131,7 +132,7 @@ module _ (l : Layout) (image head bytes out : List ℕ) where
     as-asked g k r new a = subst⁻¹ (λ (x : Record). Answers (recordOutcome l (length out) image x) r out new) (record-is g k) a
 
     pub string-patched : (id m : ℕ) (r : Answer) (new : List ℕ) → h ≡ patch-is.String id m
-        → Answers (roomed (length out) (patchById l image id bytes)) r out new → Result r new
+        → Answers (roomed (length out) (patchById Plain l image id bytes)) r out new → Result r new
     unfolding recordOutcome stepOf outcomeOf
     string-patched id m r new k a = as-asked (patch-is.String id m) k r new a
 

@@ -9,6 +9,7 @@ use Rattle.refusals.specs.Numbers as refusals
 use Rattle.bits.specs.Choice.{pick}
 use Rattle.bits.specs.Outcome.{Outcome, refused, made}
 use Rattle.format.specs.declared.Layout.{Layout}
+use Rattle.format.specs.declared.Mode.the-variants.{Plain}
 use Rattle.footer.specs.Finalize.{lengthed, sealed}
 use Rattle.image.specs.Admission.{refusal}
 use Rattle.text.specs.Text.{decimal, line}
@@ -33,9 +34,9 @@ statedOf (patch-is.String id n) = n
 statedOf (patch-is.Body id n) = n
 statedOf (patch-is.Refused m) = 0
 
--- the record of a head and of the bytes that it states; `asked` where the head is well formed
+-- the record of a head and of the bytes that it states; `asked` where the head is well formed. A job rebuilds in plain mode
 abbrev pub asked : PatchHead → List ℕ → Record
-asked (patch-is.String id n) bytes = asks (byId id bytes)
+asked (patch-is.String id n) bytes = asks (byId Plain id bytes)
 asked (patch-is.Body id n) bytes = asks (toBody id bytes)
 asked (patch-is.Refused m) bytes = wrong
 

@@ -4,6 +4,7 @@
 use admission::Admission;
 use bits::Answer;
 use format::Layout;
+use format::Mode;
 use input_records::ImageHead;
 use input_records::PatchHead;
 ghost use mathlib.Core.Path.{_≡_};
@@ -92,7 +93,14 @@ pub fn apply<'a>(
     }
     let judged = input_records::patch_head(head);
     match judged {
-        PatchHead::String(id, _) => strings::patch_string_by_id(image, layout, id, bytes, out),
+        PatchHead::String(id, _) => strings::patch_string_by_id(
+            image,
+            layout,
+            Mode::Plain,
+            id,
+            bytes,
+            out,
+        ),
         PatchHead::Body(id, _) => functions::patch_function_bytes(image, layout, id, bytes, out),
         PatchHead::Refused(_) => Answer::Refused(refusals::JOB),
     }

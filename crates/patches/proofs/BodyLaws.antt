@@ -33,7 +33,7 @@ use Rattle.edits.proofs.ResizeLaws as resizing
 use Rattle.functions.specs.Patch.{threshold, sharesWith, bodyAlone, infosOutside, debugPast, movedPastBody, patchedBody, sizeFits}
 use Rattle.functions.proofs.WriteLaws.{size-held}
 use Rattle.patches.specs.Patches.{Target, aBody}
-use Rattle.patches.specs.Promise.{placeAfter, functionAfter, Kept, Promise}
+use Rattle.patches.specs.Promise.{placeAfter, functionAfter, Unmoved, Kept, Promise}
 use Rattle.patches.proofs.CalmLaws.{final-calm, final-hash, final-sealed, kept-after}
 use Rattle.patches.proofs.StringLaws.{moved-still}
 
@@ -282,7 +282,24 @@ module _ (l : Layout) (s : List ℕ) (id : ℕ) (body : List ℕ) (ok : BodyPass
     sealed = final-sealed l x (k .admitted);
   }
 
+  -- no string moves
+  sealed-unmoved : (x : List ℕ) → Kept l s x c → Unmoved l s x → Unmoved l s (sealed (lengthed x))
+  sealed-unmoved x k un i h = final-calm l x (k .admitted) .storage .place i (rw (k .strings) h) ∙ un i h
+
   -- ---- both ways
+
+  pub body-unmoved : Unmoved l s (patchedBody l s id body)
+  unfolding patchedBody
+  body-unmoved = go (eqb (length body) (f₀ .size)) refl
+    where
+      go : (b : Bool) → eqb (length body) (f₀ .size) ≡ b
+          → Unmoved l s (sealed (lengthed (pick b (sets s (f₀ .begin) body) (resize l id body s))))
+      go true t =
+          let e : length body ≡ f₀ .size = eqb-true (length body) (f₀ .size) t in
+          sealed-unmoved (sets s (f₀ .begin) body) (equal-kept e) (inplace.put-place l s (f₀ .begin) body (written e))
+      go false t =
+          let d : length body ≢ f₀ .size = eqb-false (length body) (f₀ .size) t in
+          sealed-unmoved (resize l id body s) (resize-kept d) (resizing.resized-place l id body s (asked d))
 
   pub body-promise : Promise l s (patchedBody l s id body) c
   unfolding patchedBody

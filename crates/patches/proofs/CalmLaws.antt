@@ -1,29 +1,41 @@
 -- Writes behind a patch that change no meaning: the file length and the footer.
-use mathlib.Core.Path.{_≡_, ap, _∙_}
+use mathlib.Core.Path.{_≡_, ap, sym, _∙_}
 use mathlib.Core.List.{List}
-use Prim.Native.Nat.{ℕ, _+_, _-_, _*_, _≤_, _<_}
+use Prim.Native.Nat.{ℕ, suc, _+_, _-_, _*_, _≤_, _<_}
 use native.Mathlib.Omega.{arith}
 use lib.ListN.{length}
 use Rattle.bits.specs.Bytes.{bytesAt}
 use Rattle.bits.specs.Outcome.{made}
 use Rattle.bits.proofs.ListLaws.{AllBelow}
 use Rattle.format.specs.declared.Layout.{Layout}
+use Rattle.format.specs.declared.Mode.{Mode}
+use Rattle.format.specs.Entry.{Place}
 use Rattle.format.specs.Table as table
 use Rattle.footer.specs.Footer.{footerLength}
 use Rattle.footer.specs.Finalize.{lengthed, sealed, finalizeOf, Sealed}
 use Rattle.footer.proofs.FinalizeLaws.{finalize-within, finalize-length, finalize-keeps}
 use Rattle.footer.proofs.SealLaws.{finalize-below, finalize-sealed}
-use Rattle.image.specs.Sections.{functionsIn, kindsIn, identifiersIn, stringsIn, debugIn, hashesAt, smallAt, storageAt, tailAt}
+use Rattle.image.specs.Sections.{functionsIn, kindsIn, identifiersIn, stringsIn, storageIn, debugIn, hashesAt, smallAt, storageAt}
+use Rattle.image.specs.Sections.{tailAt}
 use Rattle.image.specs.Strings.{placeAt, sizeOf, stringOf}
 use Rattle.image.specs.Kinds.{isIdentifier, rankOf, hashIn}
 use Rattle.image.specs.Functions.{Func, funcOf, bodyOf}
 use Rattle.image.specs.Admitted.{Admitted}
 use Rattle.image.proofs.PlaceLaws.{records-at, debug-at, debug-past, ordered, string-in}
 use Rattle.edits.proofs.ReadLaws.{Agree, bytes-agree, number-agree, functions-same, kindCount-same, identifierCount-same}
-use Rattle.edits.proofs.ReadLaws.{stringCount-same, hash-same, identifier-same, rank-same, counts-of, tailAt-same, string-same}
+use Rattle.edits.proofs.ReadLaws.{stringCount-same, hash-same, identifier-same, rank-same, counts-of, storageSize-same, storageAt-same}
+use Rattle.edits.proofs.ReadLaws.{tailAt-same, SameEntries, place-same, string-same}
+use Rattle.edits.specs.Packing.{gapOf, startIn, endIn, Spaced}
 use Rattle.edits.proofs.KeepLaws.{Same, funcs-same, same-admitted}
 use Rattle.patches.specs.Patches.{Target}
 use Rattle.patches.specs.Promise.{placeAfter, Kept}
+
+-- t has the places and the storage of s
+pub record SameStorage (l : Layout) (s t : List ℕ) : Type 0 where
+  pub place : (i : ℕ) → i < stringsIn s → placeAt l t i ≡ placeAt l s i
+  pub at : storageAt l t ≡ storageAt l s
+  pub size : storageIn t ≡ storageIn s
+  pub bytes : Agree s t (storageAt l s) (tailAt l s)
 
 -- t reads as s does: another file length or footer, perhaps other hashes
 pub record Calm (l : Layout) (s t : List ℕ) : Type 0 where
@@ -34,6 +46,7 @@ pub record Calm (l : Layout) (s t : List ℕ) : Type 0 where
   pub identifiers : identifiersIn t ≡ identifiersIn s
   pub strings : stringsIn t ≡ stringsIn s
   pub tail : tailAt l t ≡ tailAt l s
+  pub storage : SameStorage l s t
   pub string : (i : ℕ) → i < stringsIn s → stringOf l t i ≡ stringOf l s i
   pub body : (i : ℕ) → i < functionsIn s → bodyOf l t i ≡ bodyOf l s i
   pub flag : (i : ℕ) → isIdentifier l t i ≡ isIdentifier l s i
@@ -89,6 +102,8 @@ module _ (l : Layout) (s t : List ℕ) (nr : Nearly l s t) where
   calm =
       let o = ordered l s in
       let counts = counts-of l s t (same .tabled .words) in
+      let entries : SameEntries l s t
+      = record { words = same .tabled .words; tables = same .tabled .tables; counted = ad .overflows } in
       record {
         admitted = same-admitted l s t ad same;
         long = nr .long;
@@ -97,8 +112,14 @@ module _ (l : Layout) (s t : List ℕ) (nr : Nearly l s t) where
         identifiers = identifierCount-same l s t counts;
         strings = stringCount-same l s t counts;
         tail = tailAt-same l s t (same .tabled .words);
+        storage = record {
+          place = place-same l s t entries;
+          at = storageAt-same l s t (same .tabled .words);
+          size = storageSize-same l s t (same .tabled .words);
+          bytes = λ p f k. nr .rest p (omega (arith, o .over, o .storage)) (omega (arith, ad .room));
+        };
         string = λ i h.
-            string-same l s t (record { words = same .tabled .words; tables = same .tabled .tables; counted = ad .overflows }) i h
+            string-same l s t entries i h
             (λ p f k. nr .rest p (omega (arith, o .over, o .storage)) (omega (arith, string-in ad i h, ad .room)));
         body = λ i h.
             let (x, y) = ad .body i h in
@@ -111,6 +132,36 @@ module _ (l : Layout) (s t : List ℕ) (nr : Nearly l s t) where
         debug = same .debug;
         bytes = λ p h k. nr .rest p (omega (arith, o .over, o .storage, o .tail)) k;
       }
+
+-- the strings stand as they stood
+pub spaced-after : (m : Mode) (l : Layout) (s t : List ℕ) → Calm l s t → Spaced m l s → Spaced m l t
+spaced-after m l s t k sp =
+    let z : SameStorage l s t = k .storage in
+    record {
+      first = λ h. start 0 (omega (arith, k .strings)) ∙ sp .first (omega (arith, k .strings));
+      next = λ i h.
+          let h₁ : suc i < stringsIn s = rw (k .strings) at h in
+          start (suc i) h₁ ∙ sp .next i h₁
+          ∙ ap (λ (e : ℕ). e + gapOf m (placeAt l s (suc i) .wide) e) (sym (end i (omega arith)))
+          ∙ ap (λ (q : Place). endIn l t i + gapOf m (q .wide) (endIn l t i)) (sym (z .place (suc i) h₁));
+      gap = λ i h p lo hi.
+          let h₁ : suc i < stringsIn s = rw (k .strings) at h in
+          let a = start (suc i) h₁ in
+          let b = end i (omega arith) in
+          let e = z .at in
+          let o = ordered l s in
+          z .bytes p (omega arith) (omega (arith, k .admitted .stored (suc i) h, o .tail, z .size))
+          ∙ sp .gap i h₁ p (omega arith) (omega arith);
+      last = λ i e.
+          let e₁ : suc i ≡ stringsIn s = e ∙ k .strings in
+          end i (omega arith) ∙ sp .last i e₁ ∙ sym (z .size);
+    }
+  where
+    start : (i : ℕ) → i < stringsIn s → startIn l t i ≡ startIn l s i
+    start i h = ap (λ (q : Place). q .at) (k .storage .place i h)
+
+    end : (i : ℕ) → i < stringsIn s → endIn l t i ≡ endIn l s i
+    end i h = ap (λ (q : Place). q .at + sizeOf q) (k .storage .place i h)
 
 -- ---- finalize
 

@@ -17,6 +17,7 @@ use Rattle.bits.proofs.JudgeLaws.{given-first, given-last, judge-append}
 use Rattle.bits.proofs.OutcomeLaws.{roomed-more}
 use Rattle.bits.proofs.ListLaws.{AllBelow}
 use Rattle.format.specs.declared.Layout.{Layout}
+use Rattle.format.specs.declared.Mode.{Mode}
 use Rattle.image.specs.Sections.{functionsIn, stringsIn}
 use Rattle.image.specs.Functions.{funcOf}
 use Rattle.edits.specs.Fit.{fieldsFit}
@@ -43,12 +44,12 @@ use Rattle.patches.proofs.RefusalLaws.{infos-decide, debug-decide, new-
 -- ---- the checks of a step: those of the patch, and the room
 
 abbrev ownChecks : Layout → List ℕ → Patch → List Check
-ownChecks l s (byId id value) = check 7 (leb (stringsIn s) id) ∷ check 8 (not (isUtf8 value)) ∷ string.resultChecks l s id value
-ownChecks l s (byValue old new) =
+ownChecks l s (byId m id value) = check 7 (leb (stringsIn s) id) ∷ check 8 (not (isUtf8 value)) ∷ string.resultChecks m l s id value
+ownChecks l s (byValue m old new) =
     check 8 (not (isUtf8 old))
     ∷ check 8 (not (isUtf8 new))
     ∷ check 14 (leb (stringsIn s) (findId l s (utf16 old)))
-    ∷ string.resultChecks l s (findId l s (utf16 old)) new
+    ∷ string.resultChecks m l s (findId l s (utf16 old)) new
 ownChecks l s (toBody id body) =
     check 7 (leb (functionsIn s) id)
     ∷ check 9 (not (functions.bodyAlone l s id))
@@ -69,9 +70,9 @@ module _ (l : Layout) (s : List ℕ) (room : ℕ) where
 
   -- ---- a check that is met is a fault
 
-  limit-shown : (id : ℕ) (value : List ℕ) (p : Patch) → goesTo l s p (length s) ≡ string.newLength l s id value
-      → ltb 67_108_864 (string.newLength l s id value) ≡ true → PatchFault l s room p 11
-  limit-shown id value p e t = overLimit p (rw e (ltb-true 67_108_864 (string.newLength l s id value) t))
+  limit-shown : (m : Mode) (id : ℕ) (value : List ℕ) (p : Patch) → goesTo l s p (length s) ≡ string.newLength m l s id value
+      → ltb 67_108_864 (string.newLength m l s id value) ≡ true → PatchFault l s room p 11
+  limit-shown m id value p e t = overLimit p (rw e (ltb-true 67_108_864 (string.newLength m l s id value) t))
 
   share-shown : (id : ℕ) (body : List ℕ) → functions.bodyAlone l s id ≡ false → PatchFault l s room (toBody id body) 9
   share-shown id body e =
@@ -80,23 +81,25 @@ module _ (l : Layout) (s : List ℕ) (room : ℕ) where
 
   own-shows : (p : Patch) → Shows (PatchFault l s room p) (ownChecks l s p ++ roomCheck p)
   unfolding targetOf
-  own-shows (byId id value) =
-      (λ t. noString id value (leb-true (stringsIn s) id t))
-      also (λ t. badValue id value (not-true (isUtf8 value) t))
-      also (λ t. limit-shown id value (byId id value) (sym (new-length l s id value)) t)
-      also (λ t. let (j, h, u, w) = patch-wrong l s id value (not-true (string.patchFits l s id value) t) in overField (byId id value) j h
+  own-shows (byId m id value) =
+      (λ t. noString m id value (leb-true (stringsIn s) id t))
+      also (λ t. badValue m id value (not-true (isUtf8 value) t))
+      also (λ t. limit-shown m id value (byId m id value) (sym (new-length m l s id value)) t)
+      also (λ t. let (j, h, u, w) = patch-wrong m l s id value (not-true (string.patchFits m l s id value) t) in
+      overField (byId m id value) j h
       u w)
-      also (λ t. noRoom (byId id value) (ltb-true room _ t))
+      also (λ t. noRoom (byId m id value) (ltb-true room _ t))
       also nothing
-  own-shows (byValue old new) =
+  own-shows (byValue m old new) =
       let id : ℕ = findId l s (utf16 old) in
-      (λ t. badOld old new (not-true (isUtf8 old) t))
-      also (λ t. badNew old new (not-true (isUtf8 new) t))
-      also (λ t. absent old new (λ i h. find-least l s (utf16 old) i (omega (arith, leb-true (stringsIn s) id t))))
-      also (λ t. limit-shown id new (byValue old new) (sym (new-length l s id new)) t)
-      also (λ t. let (j, h, u, w) = patch-wrong l s id new (not-true (string.patchFits l s id new) t) in overField (byValue old new) j h u
+      (λ t. badOld m old new (not-true (isUtf8 old) t))
+      also (λ t. badNew m old new (not-true (isUtf8 new) t))
+      also (λ t. absent m old new (λ i h. find-least l s (utf16 old) i (omega (arith, leb-true (stringsIn s) id t))))
+      also (λ t. limit-shown m id new (byValue m old new) (sym (new-length m l s id new)) t)
+      also (λ t. let (j, h, u, w) = patch-wrong m l s id new (not-true (string.patchFits m l s id new) t) in
+      overField (byValue m old new) j h u
       w)
-      also (λ t. noRoom (byValue old new) (ltb-true room _ t))
+      also (λ t. noRoom (byValue m old new) (ltb-true room _ t))
       also nothing
   own-shows (toBody id body) =
       (λ t. noFunction id body (leb-true (functionsIn s) id t))
@@ -124,28 +127,29 @@ module _ (l : Layout) (s : List ℕ) (room : ℕ) where
   own-gives : (p : Patch) (n : ℕ) → PatchFault l s room p n → given n (allChecks p) ≡ true
   unfolding targetOf
   own-gives p n (badImage q m x) = given-first n (checks l s) (ownChecks l s p ++ roomCheck p) (faults.gives l s n x)
-  own-gives p n (noString id value h) = given-last n (checks l s) _ (rw (le-leb (stringsIn s) id h))
+  own-gives p n (noString m id value h) = given-last n (checks l s) _ (rw (le-leb (stringsIn s) id h))
   own-gives p n (noFunction id body h) = given-last n (checks l s) _ (rw (le-leb (functionsIn s) id h))
-  own-gives p n (badValue id value h) = given-last n (checks l s) _ (rw h)
-  own-gives p n (badOld old new h) = given-last n (checks l s) _ (rw h)
-  own-gives p n (badNew old new h) = given-last n (checks l s) _ (simp (h, either-true))
+  own-gives p n (badValue m id value h) = given-last n (checks l s) _ (rw h)
+  own-gives p n (badOld m old new h) = given-last n (checks l s) _ (rw h)
+  own-gives p n (badNew m old new h) = given-last n (checks l s) _ (simp (h, either-true))
   own-gives p n (shares id body j h d x) = given-last n (checks l s) _ (rw (alone-failed l s id (j, h, d, inl x)))
   own-gives p n (within id body j h d z x y) = given-last n (checks l s) _ (rw (alone-failed l s id (j, h, d, inr (z, x, y))))
   own-gives p n (infoInside id body j h x y) = given-last n (checks l s) _ (simp (infos-decide l s id .failed (j, h, (x, y)), either-true))
   own-gives p n (debugBelow id body x y) = given-last n (checks l s) _ (simp (debug-decide l s id .failed (x, y), either-true))
   own-gives p n (wasEmpty id body x y) = given-last n (checks l s) _ (rw (eq-eqb (funcOf l s id .size) 0 x, lt-ltb 0 (length body) y))
-  own-gives p n (absent old new h) = given-last n (checks l s) _ (rw (le-leb (stringsIn s) _ (find-none l s (utf16 old) h)))
-  own-gives p n (overLimit (byId id value) h) =
-      given-last n (checks l s) _ (simp (lt-ltb 67_108_864 (string.newLength l s id value) (rw (new-length l s id value) h), either-true))
-  own-gives p n (overLimit (byValue old new) h) =
+  own-gives p n (absent m old new h) = given-last n (checks l s) _ (rw (le-leb (stringsIn s) _ (find-none l s (utf16 old) h)))
+  own-gives p n (overLimit (byId m id value) h) =
+      given-last n (checks l s) _
+      (simp (lt-ltb 67_108_864 (string.newLength m l s id value) (rw (new-length m l s id value) h), either-true))
+  own-gives p n (overLimit (byValue m old new) h) =
       let id : ℕ = findId l s (utf16 old) in
-      given-last n (checks l s) _ (simp (lt-ltb 67_108_864 (string.newLength l s id new) (rw (new-length l s id new) h), either-true))
+      given-last n (checks l s) _ (simp (lt-ltb 67_108_864 (string.newLength m l s id new) (rw (new-length m l s id new) h), either-true))
   own-gives p n (overLimit (toBody id body) h) =
       given-last n (checks l s) _ (simp (lt-ltb 67_108_864 (functions.movedPastBody l s id body (length s)) h, either-true))
-  own-gives p n (overField (byId id value) j h u w) =
-      given-last n (checks l s) _ (simp (patch-failed l s id value (j, h, u, w), either-true))
-  own-gives p n (overField (byValue old new) j h u w) =
-      given-last n (checks l s) _ (simp (patch-failed l s (findId l s (utf16 old)) new (j, h, u, w), either-true))
+  own-gives p n (overField (byId m id value) j h u w) =
+      given-last n (checks l s) _ (simp (patch-failed m l s id value (j, h, u, w), either-true))
+  own-gives p n (overField (byValue m old new) j h u w) =
+      given-last n (checks l s) _ (simp (patch-failed m l s (findId l s (utf16 old)) new (j, h, u, w), either-true))
   own-gives p n (overField (toBody id body) j h u w) =
       given-last n (checks l s) _ (simp (fields-failed l s (functions.movedPastBody l s id body) (j, h, u, w), either-true))
   own-gives p n (overSize id body t h) = given-last n (checks l s) _ (simp (size-failed l s id body t h, either-true))
@@ -157,8 +161,8 @@ module _ (l : Layout) (s : List ℕ) (room : ℕ) where
 
   rises : (p : Patch) → rising 1 (length (orderOf p)) (inTurns (orderOf p) (allChecks p)) ≡ true
   unfolding checks turnIn
-  rises (byId id value) = refl
-  rises (byValue old new) = refl
+  rises (byId m id value) = refl
+  rises (byValue m old new) = refl
   rises (toBody id body) = refl
 
   in-order : (p : Patch) → InOrder (orderOf p) (PatchFault l s room p) (allChecks p)
@@ -221,8 +225,8 @@ room-more l s p room more h f = roomed-more (outcomeOf l s p) room more h f
 
 -- what a patch makes where it is accepted
 abbrev resultOf : Layout → List ℕ → Patch → List ℕ
-resultOf l s (byId id value) = string.patchedString l s id value
-resultOf l s (byValue old new) = string.patchedString l s (findId l s (utf16 old)) new
+resultOf l s (byId m id value) = string.patchedString m l s id value
+resultOf l s (byValue m old new) = string.patchedString m l s (findId l s (utf16 old)) new
 resultOf l s (toBody id body) = functions.patchedBody l s id body
 
 module _ (l : Layout) (s : List ℕ) (bytes : AllBelow 256 s) (p : Step) (in-bytes : InBytes (p .patch)) where
@@ -233,14 +237,14 @@ module _ (l : Layout) (s : List ℕ) (bytes : AllBelow 256 s) (p : Step) (in-byt
       (refused (judge (checks l s ++ ownChecks l s q)))
   unfolding outcomeOf strings.patchById strings.byIdRefusal strings.patchByValue strings.byValueRefusal functions.patchBody
       functions.bodyRefusal
-  outcome-is (byId id value) = refl
-  outcome-is (byValue old new) = refl
+  outcome-is (byId m id value) = refl
+  outcome-is (byValue m old new) = refl
   outcome-is (toBody id body) = refl
 
   all-numbered : (q : Patch) → numbered (checks l s ++ ownChecks l s q) ≡ true
   unfolding checks
-  all-numbered (byId id value) = refl
-  all-numbered (byValue old new) = refl
+  all-numbered (byId m id value) = refl
+  all-numbered (byValue m old new) = refl
   all-numbered (toBody id body) = refl
 
   -- a list that is passed begins with a list that is passed

@@ -12,6 +12,7 @@ use Rattle.bits.specs.Choice.{pick, both, either, implies}
 use Rattle.bits.proofs.TestLaws.{below-or, both-0, both-1, either-0, either-1, either-or, either-true, imp-false, all-not, all-fails}
 use Rattle.bits.proofs.DecideLaws.{Decides, leb-decides, eqb-decides, not-decides, both-decides, implies-decides, all-decides}
 use Rattle.format.specs.declared.Layout.{Layout}
+use Rattle.format.specs.declared.Mode.{Mode}
 use Rattle.format.specs.declared.Layout.the-variants.{Modern, Legacy}
 use Rattle.format.specs.Table as table
 use Rattle.image.specs.Sections.{functionsIn, debugIn, tailAt}
@@ -160,33 +161,33 @@ module _ (l : Layout) (s : List ℕ) (id : ℕ) where
 
 -- ---- strings: 11 and 12
 
-module _ (l : Layout) (s : List ℕ) (id : ℕ) (value : List ℕ) where
+module _ (m : Mode) (l : Layout) (s : List ℕ) (id : ℕ) (value : List ℕ) where
   abbrev goes : ℕ → ℕ
-  goes = placeAfter l s (aString id value)
+  goes = placeAfter l s (aString m id value)
 
-  pub new-length : newLength l s id value ≡ goes (length s)
+  pub new-length : newLength m l s id value ≡ goes (length s)
   unfolding newLength
   new-length = go (fitsInPlace l s id value)
     where
-      go : (b : Bool) → pick b (length s) (moved (tailAt l s) (newTail l (stringsWith l s id (asString value)) s) (length s))
-          ≡ moved (tailAt l s) (pick b (tailAt l s) (newTail l (stringsWith l s id (asString value)) s)) (length s)
+      go : (b : Bool) → pick b (length s) (moved (tailAt l s) (newTail l (stringsWith m l s id (asString value)) s) (length s))
+          ≡ moved (tailAt l s) (pick b (tailAt l s) (newTail l (stringsWith m l s id (asString value)) s)) (length s)
       go true = sym (moved-still (tailAt l s) (length s))
       go false = refl
 
-  pub patch-wrong : patchFits l s id value ≡ false → Beyond l s goes
+  pub patch-wrong : patchFits m l s id value ≡ false → Beyond l s goes
   unfolding patchFits
   patch-wrong e =
-      let mv : ℕ → ℕ = moved (tailAt l s) (newTail l (stringsWith l s id (asString value)) s) in
+      let mv : ℕ → ℕ = moved (tailAt l s) (newTail l (stringsWith m l s id (asString value)) s) in
       let no : fitsInPlace l s id value ≡ false = either-0 (fitsInPlace l s id value) (fieldsFit l s mv) e in
       rw no (fields-wrong l s mv (either-1 (fitsInPlace l s id value) (fieldsFit l s mv) e))
 
   -- what does not move fits already
-  pub patch-failed : Beyond l s goes → patchFits l s id value ≡ false
+  pub patch-failed : Beyond l s goes → patchFits m l s id value ≡ false
   unfolding patchFits
   patch-failed x = go (fitsInPlace l s id value) x
     where
-      go : (b : Bool) → Beyond l s (moved (tailAt l s) (pick b (tailAt l s) (newTail l (stringsWith l s id (asString value)) s)))
-          → either b (fieldsFit l s (moved (tailAt l s) (newTail l (stringsWith l s id (asString value)) s))) ≡ false
+      go : (b : Bool) → Beyond l s (moved (tailAt l s) (pick b (tailAt l s) (newTail l (stringsWith m l s id (asString value)) s)))
+          → either b (fieldsFit l s (moved (tailAt l s) (newTail l (stringsWith m l s id (asString value)) s))) ≡ false
       go true (j, h, t, w) =
           let f : Func = funcOf l s j in
           let (a, b) = small-most l s j t in
@@ -195,7 +196,7 @@ module _ (l : Layout) (s : List ℕ) (id : ℕ) (value : List ℕ) where
             | inr g ↦ omega
                 (arith, moved-still (tailAt l s) (f .info))
           ])
-      go false x = fields-failed l s (moved (tailAt l s) (newTail l (stringsWith l s id (asString value)) s)) x
+      go false x = fields-failed l s (moved (tailAt l s) (newTail l (stringsWith m l s id (asString value)) s)) x
 
 -- ---- bodies: the new size
 

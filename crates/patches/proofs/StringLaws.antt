@@ -16,6 +16,7 @@ use Rattle.bits.proofs.ListLaws.{AllBelow, below-sets, below-bytesOf}
 use Rattle.bits.proofs.ByteLaws.{length-bytesOf}
 use Rattle.bits.proofs.WriteLaws.{sets-off}
 use Rattle.format.specs.declared.Layout.{Layout}
+use Rattle.format.specs.declared.Mode.{Mode}
 use Rattle.format.specs.Hash.{hashOf}
 use Rattle.format.specs.Move.{moved}
 use Rattle.format.proofs.MoveLaws.{moved-low, moved-high}
@@ -25,6 +26,7 @@ use Rattle.image.specs.Strings.{placeAt, sizeOf, Str, stringOf}
 use Rattle.image.specs.Kinds.{isIdentifier, rankOf, hashIn}
 use Rattle.image.specs.Functions.{funcOf}
 use Rattle.image.specs.Admitted.{Admitted}
+use Rattle.edits.specs.Packing.{Spaced}
 use Rattle.edits.specs.Packing as packing
 use Rattle.edits.specs.Rebuild.{rebuild}
 use Rattle.image.proofs.PlaceLaws.{ordered, hash-in, string-in}
@@ -32,20 +34,20 @@ use Rattle.edits.proofs.SlotLaws.{func-eq}
 use Rattle.image.proofs.KindLaws.{rank-lt}
 use Rattle.edits.proofs.ReadLaws.{functions-same, kindCount-same, identifierCount-same, stringCount-same, counts-of, tailAt-same}
 use Rattle.edits.proofs.FitLaws.{fields-use}
-use Rattle.edits.proofs.InPlaceLaws.{InPlace, put-same, put-admitted, put-string, put-func, put-body, put-hash, put-identifier}
+use Rattle.edits.proofs.InPlaceLaws.{InPlace, put-same, put-admitted, put-place, put-string, put-func, put-body, put-hash, put-identifier}
 use Rattle.edits.proofs.InPlaceLaws.{put-rank, own-string, string-in-place, hash-in-place, own-hash}
 use Rattle.edits.proofs.PackLaws.{carries}
 use Rattle.edits.proofs.RebuildLaws.{Rebuilds, rebuiltPlace, length-rebuilt, counts-kept, rebuilt-identifier, rebuilt-rank}
 use Rattle.edits.proofs.RebuildLaws.{rebuilt-hash, rebuilt-tail, rebuilt-func, rebuilt-body}
-use Rattle.edits.proofs.StringLaws.{tail-is, rebuilt-debug, rebuilt-string}
+use Rattle.edits.proofs.StringLaws.{tail-is, rebuilt-debug, rebuilt-string, rebuilt-spaced}
 use Rattle.edits.proofs.KeepLaws.{rebuilt-admitted}
 use Rattle.unicode.specs.Utf8.{utf16}
 use Rattle.string_packing.specs.Strings.{asString, stringWith, stringsWith}
 use Rattle.string_overlap.specs.Overlap.{overlap, isApart, isAlone}
 use Rattle.string_in_place.specs.Patch.{fitsInPlace, inPlace, rehashed, changed, finished, patchedString, newLength, patchFits}
 use Rattle.patches.specs.Patches.{Target, aString}
-use Rattle.patches.specs.Promise.{stringAfter, hashAfter, placeAfter, functionAfter, Kept, Promise}
-use Rattle.patches.proofs.CalmLaws.{Calm, calm, final-calm, final-hash, final-sealed, kept-after}
+use Rattle.patches.specs.Promise.{stringAfter, hashAfter, placeAfter, functionAfter, Unmoved, StringPlaces, Kept, Promise}
+use Rattle.patches.proofs.CalmLaws.{Calm, calm, spaced-after, final-calm, final-hash, final-sealed, kept-after}
 use Rattle.patches.proofs.ValueLaws.{ascii-below, value-valid, with-valid, hash-lt}
 
 -- a place that moves from where it goes to stays
@@ -53,18 +55,18 @@ pub moved-still : (a p : ℕ) → moved a a p ≡ p
 moved-still a p = elim (below-or p a) [ inl h ↦ moved-low a a p h | inr h ↦ moved-high a a p h ∙ omega arith ]
 
 -- a string patch of an admitted image that no check refuses
-pub record StringPassed (l : Layout) (s : List ℕ) (id : ℕ) (value : List ℕ) : Type 0 where
+pub record StringPassed (m : Mode) (l : Layout) (s : List ℕ) (id : ℕ) (value : List ℕ) : Type 0 where
   pub admitted : Admitted l s
   pub known : id < stringsIn s
   pub bytes : AllBelow 256 value
   -- 11
-  pub limit : newLength l s id value ≤ sizeLimit
+  pub limit : newLength m l s id value ≤ sizeLimit
   -- 12
-  pub field : patchFits l s id value ≡ true
+  pub field : patchFits m l s id value ≡ true
 
-module _ (l : Layout) (s : List ℕ) (id : ℕ) (value : List ℕ) (ok : StringPassed l s id value) where
+module _ (m : Mode) (l : Layout) (s : List ℕ) (id : ℕ) (value : List ℕ) (ok : StringPassed m l s id value) where
   abbrev c : Target
-  c = aString id value
+  c = aString m id value
 
   abbrev p₀ : ℕ
   p₀ = storageAt l s + placeAt l s id .at
@@ -166,6 +168,10 @@ module _ (l : Layout) (s : List ℕ) (id : ℕ) (value : List ℕ) (ok : StringP
           );
         }
 
+    pub in-place-unmoved : Unmoved l s (inPlace l s id value)
+    unfolding inPlace
+    in-place-unmoved = put-place l s p₀ value written
+
     pub in-place-hash : (r : ℕ) → r < identifiersIn s → hashIn l (inPlace l s id value) r ≡ hashIn l s r
     unfolding inPlace
     in-place-hash r h =
@@ -178,7 +184,7 @@ module _ (l : Layout) (s : List ℕ) (id : ℕ) (value : List ℕ) (ok : StringP
     f = stringWith l s id (asString value)
 
     abbrev ts : packing.Packed
-    ts = stringsWith l s id (asString value)
+    ts = stringsWith m l s id (asString value)
 
     abbrev v : List ℕ
     v = rebuild l ts s
@@ -192,7 +198,7 @@ module _ (l : Layout) (s : List ℕ) (id : ℕ) (value : List ℕ) (ok : StringP
     rebuilds : Rebuilds l f ts s
     unfolding newLength patchFits stringsWith
     rebuilds = record {
-      carries = carries f (stringsIn s);
+      carries = carries m f (stringsIn s);
       strings = with-valid l s id (asString value) ad (value-valid value (ok .bytes));
       limit = rw (long, goes (length s)) (rw no at (ok .limit));
       field = fields-use l s (rebuiltPlace l ts s) (rw no at (ok .field));
@@ -228,11 +234,15 @@ module _ (l : Layout) (s : List ℕ) (id : ℕ) (value : List ℕ) (ok : StringP
           debug = rebuilt-debug l ts s ad f rebuilds ∙ sym (goes (debugIn l s));
           long = long;
           tail = λ p h e b q.
-              let m : placeAfter l s c p ≡ p - tailAt l s + (tailAt l v)
+              let there : placeAfter l s c p ≡ p - tailAt l s + (tailAt l v)
               = goes p ∙ moved-high (tailAt l s) _ p h ∙ rw (tail-is l ts s ad f rebuilds) in
               let n : length v ≡ length s - tailAt l s + (tailAt l v) = length-rebuilt l ts s ad ∙ rw (tail-is l ts s ad f rebuilds) in
-              (omega (arith, m), omega (arith, m, n), rw (goes p) (rebuilt-tail l ts s ad p h q));
+              (omega (arith, there), omega (arith, there, n), rw (goes p) (rebuilt-tail l ts s ad p h q));
         }
+
+    pub rebuild-spaced : Spaced m l v
+    unfolding stringsWith
+    rebuild-spaced = rebuilt-spaced m l f s ad rebuilds
 
     pub rebuild-hash : (r : ℕ) → r < identifiersIn s → hashIn l v r ≡ hashIn l s r
     rebuild-hash = rebuilt-hash l ts s ad
@@ -311,6 +321,28 @@ module _ (l : Layout) (s : List ℕ) (id : ℕ) (value : List ℕ) (ok : StringP
         ]
         go false t = stand r h
 
+    pub sealed-spaced : Spaced m l x → Spaced m l (sealed (lengthed (rehashed l s id (utf16 value) x)))
+    unfolding rehashed
+    sealed-spaced sp =
+        let y : List ℕ = rehashed l s id (utf16 value) x in
+        spaced-after m l y (sealed (lengthed y)) (final-calm l y (rehashed-kept .admitted)) (go (isIdentifier l s id) refl)
+      where
+        go : (b : Bool) → isIdentifier l s id ≡ b
+            → Spaced m l (pick b (sets x (hashesAt l s + r₀ * 4) (bytesOf 4 (hashOf (utf16 value)))) x)
+        go true t = rw (← same-hashes) (spaced-after m l x u (hash-calm t) sp)
+        go false t = sp
+
+    pub sealed-unmoved : Unmoved l s x → Unmoved l s (sealed (lengthed (rehashed l s id (utf16 value) x)))
+    unfolding rehashed
+    sealed-unmoved un i h =
+        let y : List ℕ = rehashed l s id (utf16 value) x in
+        final-calm l y (rehashed-kept .admitted) .storage .place i (rw (rehashed-kept .strings) h) ∙ go (isIdentifier l s id) refl
+      where
+        go : (b : Bool) → isIdentifier l s id ≡ b
+            → placeAt l (pick b (sets x (hashesAt l s + r₀ * 4) (bytesOf 4 (hashOf (utf16 value)))) x) i ≡ placeAt l s i
+        go true t = rw (← same-hashes) (hash-calm t .storage .place i (rw (k .strings) h) ∙ un i h)
+        go false t = un i h
+
     pub sealed-promise : Promise l s (sealed (lengthed (rehashed l s id (utf16 value) x))) c
     sealed-promise =
         let y : List ℕ = rehashed l s id (utf16 value) x in
@@ -323,13 +355,23 @@ module _ (l : Layout) (s : List ℕ) (id : ℕ) (value : List ℕ) (ok : StringP
 
   -- ---- both ways
 
-  pub string-promise : Promise l s (patchedString l s id value) c
+  pub string-promise : Promise l s (patchedString m l s id value) c
   unfolding patchedString finished changed
   string-promise = go (fitsInPlace l s id value) refl
     where
       go : (b : Bool) → fitsInPlace l s id value ≡ b
           → Promise l s (sealed (lengthed
-          (rehashed l s id (utf16 value) (pick b (inPlace l s id value) (rebuild l (stringsWith l s id (asString value)) s))))) c
+          (rehashed l s id (utf16 value) (pick b (inPlace l s id value) (rebuild l (stringsWith m l s id (asString value)) s))))) c
       go true t = sealed-promise (inPlace l s id value) (in-place-kept t) (in-place-hash t)
       go false t =
-          sealed-promise (rebuild l (stringsWith l s id (asString value)) s) (rebuild-kept t) (rebuild-hash t)
+          sealed-promise (rebuild l (stringsWith m l s id (asString value)) s) (rebuild-kept t) (rebuild-hash t)
+
+  -- ---- where the strings stand
+
+  pub string-places : StringPlaces l s (patchedString m l s id value) c
+  unfolding patchedString finished changed
+  string-places = (
+    λ away. rw away
+        (sealed-spaced (rebuild l (stringsWith m l s id (asString value)) s) (rebuild-kept away) (rebuild-hash away) (rebuild-spaced away)),
+    λ fits. rw fits (sealed-unmoved (inPlace l s id value) (in-place-kept fits) (in-place-hash fits) (in-place-unmoved fits)),
+  )

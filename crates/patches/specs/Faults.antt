@@ -11,6 +11,7 @@ use Rattle.refusals.specs.Numbers as refusals
 use Rattle.refusals.specs.Order.{ofStringById, ofStringByValue, ofBody, turnIn}
 use Rattle.format.specs.declared.Layout.{Layout}
 use Rattle.format.specs.declared.Layout.the-variants.{Modern, Legacy}
+use Rattle.format.specs.declared.Mode.{Mode}
 use Rattle.image.specs.Sections.{functionsIn, stringsIn, debugIn}
 use Rattle.image.specs.Strings.{stringOf, unitsOf}
 use Rattle.image.specs.Functions.{funcOf}
@@ -22,8 +23,8 @@ use Rattle.patches.specs.Promise.{placeAfter}
 
 -- the order in which the numbers of a patch are due
 abbrev pub orderOf : Patch → List ℕ
-orderOf (byId id value) = ofStringById
-orderOf (byValue old new) = ofStringByValue
+orderOf (byId m id value) = ofStringById
+orderOf (byValue m old new) = ofStringByValue
 orderOf (toBody id body) = ofBody
 
 -- number k is due before number n
@@ -43,12 +44,12 @@ pub data PatchFault (l : Layout) (s : List ℕ) (room : ℕ) : Patch → ℕ →
   -- 1 to 6: the image is refused
   badImage : (p : Patch) (n : ℕ) → Fault l s n → PatchFault l s room p n
   -- 7 id: "no such string or function"
-  noString : (id : ℕ) (value : List ℕ) → stringsIn s ≤ id → PatchFault l s room (byId id value) refusals.id
+  noString : (m : Mode) (id : ℕ) (value : List ℕ) → stringsIn s ≤ id → PatchFault l s room (byId m id value) refusals.id
   noFunction : (id : ℕ) (body : List ℕ) → functionsIn s ≤ id → PatchFault l s room (toBody id body) refusals.id
   -- 8 value: "not valid UTF-8"
-  badValue : (id : ℕ) (value : List ℕ) → isUtf8 value ≡ false → PatchFault l s room (byId id value) refusals.value
-  badOld : (old new : List ℕ) → isUtf8 old ≡ false → PatchFault l s room (byValue old new) refusals.value
-  badNew : (old new : List ℕ) → isUtf8 new ≡ false → PatchFault l s room (byValue old new) refusals.value
+  badValue : (m : Mode) (id : ℕ) (value : List ℕ) → isUtf8 value ≡ false → PatchFault l s room (byId m id value) refusals.value
+  badOld : (m : Mode) (old new : List ℕ) → isUtf8 old ≡ false → PatchFault l s room (byValue m old new) refusals.value
+  badNew : (m : Mode) (old new : List ℕ) → isUtf8 new ≡ false → PatchFault l s room (byValue m old new) refusals.value
   -- 9 inside: "another body shares a byte with it"
   shares : (id : ℕ) (body : List ℕ) (j : ℕ) → j < functionsIn s → j ≢ id
       → ShareByte (funcOf l s id .begin) (funcOf l s id .size) (funcOf l s j .begin) (funcOf l s j .size)
@@ -68,8 +69,8 @@ pub data PatchFault (l : Layout) (s : List ℕ) (room : ℕ) : Patch → ℕ →
   wasEmpty : (id : ℕ) (body : List ℕ) → funcOf l s id .size ≡ 0 → 0 < length body
       → PatchFault l s room (toBody id body) refusals.empty
   -- 14 absent: "no string has the old value's UTF-16 units"
-  absent : (old new : List ℕ) → ((i : ℕ) → i < stringsIn s → unitsOf (stringOf l s i) ≢ utf16 old)
-      → PatchFault l s room (byValue old new) refusals.absent
+  absent : (m : Mode) (old new : List ℕ) → ((i : ℕ) → i < stringsIn s → unitsOf (stringOf l s i) ≢ utf16 old)
+      → PatchFault l s room (byValue m old new) refusals.absent
   -- 11 limit: "result over 67,108,864 bytes"
   overLimit : (p : Patch) → 67_108_864 < goesTo l s p (length s) → PatchFault l s room p refusals.limit
   -- 12 field: "a small record's moved body offset or moved info place over 33,554,431"

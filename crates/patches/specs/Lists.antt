@@ -20,8 +20,8 @@ use Rattle.patches.specs.Promise.{stringAfter, bodyAfter, hashAfter, siz
 
 -- the bytes of a patch are bytes
 abbrev pub InBytes : Patch → Type 0
-InBytes (byId id value) = (p : ℕ) → getD value p 0 < 256
-InBytes (byValue old new) = (p : ℕ) → getD new p 0 < 256
+InBytes (byId m id value) = (p : ℕ) → getD value p 0 < 256
+InBytes (byValue m old new) = (p : ℕ) → getD new p 0 < 256
 InBytes (toBody id body) = (p : ℕ) → getD body p 0 < 256
 
 abbrev pub AllInBytes : List Step → Type 0

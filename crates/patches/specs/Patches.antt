@@ -4,21 +4,28 @@ use mathlib.Core.List.{List, [], _∷_}
 use Prim.Native.Nat.{ℕ}
 use Rattle.bits.specs.Outcome.{Outcome, refused, made, roomed}
 use Rattle.format.specs.declared.Layout.{Layout}
+use Rattle.format.specs.declared.Mode.{Mode}
 use Rattle.unicode.specs.Utf8.{utf16}
 use Rattle.string_find.specs.Find.{findId}
 use Rattle.strings.specs.Patch.{patchById, patchByValue}
 use Rattle.functions.specs.Patch.{patchBody}
 
--- a string by its id, a string by its value (old, new), a body by its id
+-- a string by its id and a string by its value (old, new), each in a mode (02, No. 2); a body by its id
 pub data Patch : Type 0 where
-  byId : ℕ → List ℕ → Patch
-  byValue : List ℕ → List ℕ → Patch
+  byId : Mode → ℕ → List ℕ → Patch
+  byValue : Mode → List ℕ → List ℕ → Patch
   toBody : ℕ → List ℕ → Patch
+
+-- a patch in another mode; a body has none
+abbrev pub inMode : Mode → Patch → Patch
+inMode m (byId k id value) = byId m id value
+inMode m (byValue k old new) = byValue m old new
+inMode m (toBody id body) = toBody id body
 
 -- what a patch makes of an image, whatever the room
 unfoldable pub outcomeOf : Layout → List ℕ → Patch → Outcome
-outcomeOf l s (byId id value) = patchById l s id value
-outcomeOf l s (byValue old new) = patchByValue l s old new
+outcomeOf l s (byId m id value) = patchById m l s id value
+outcomeOf l s (byValue m old new) = patchByValue m l s old new
 outcomeOf l s (toBody id body) = patchBody l s id body
 
 -- a patch, and the room for its result
@@ -39,16 +46,21 @@ unfoldable pub run : Layout → List Step → List ℕ → List ℕ
 run l [] s = s
 run l (p ∷ ps) s = run l ps (imageAfter (stepOf l s p) s)
 
--- ---- what a patch sets: a string to a value, or a body to bytes
+-- the same steps, each in one mode
+unfoldable pub allIn : Mode → List Step → List Step
+allIn m [] = []
+allIn m (p ∷ ps) = record { patch = inMode m (p .patch); room = p .room } ∷ allIn m ps
+
+-- ---- what a patch sets: a string to a value, with the mode of a rebuild, or a body to bytes
 
 pub data Target : Type 0 where
-  aString : ℕ → List ℕ → Target
+  aString : Mode → ℕ → List ℕ → Target
   aBody : ℕ → List ℕ → Target
 
 -- by value it is the lowest id that has the old value's units
 unfoldable pub targetOf : Layout → List ℕ → Patch → Target
-targetOf l s (byId id value) = aString id value
-targetOf l s (byValue old new) = aString (findId l s (utf16 old)) new
+targetOf l s (byId m id value) = aString m id value
+targetOf l s (byValue m old new) = aString m (findId l s (utf16 old)) new
 targetOf l s (toBody id body) = aBody id body
 
 -- ---- what is carried along a list: each accepted step may set it, a refused one does not

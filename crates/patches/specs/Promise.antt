@@ -1,25 +1,28 @@
 -- What one accepted patch sets, moves and promises: the step from which `Promised` (Lists) is made. 01, Strings and Bodies.
 -- docs/FORMAT.md: Lists of patches.
 use mathlib.Core.Path.{_≡_}
-use mathlib.Core.Bool.{true}
+use mathlib.Core.Bool.{true, false}
+use mathlib.Core.Logic.{_⊎_}
 use mathlib.Core.List.{List}
 use Prim.Native.Nat.{ℕ, _+_, _≤_, _<_}
 use lib.Dec.{eqb}
 use lib.ListN.{length, getD}
 use Rattle.bits.specs.Choice.{pick, both}
 use Rattle.format.specs.declared.Layout.{Layout}
+use Rattle.format.specs.declared.Mode.the-variants.{Plain}
 use Rattle.format.specs.Table as table
 use Rattle.format.specs.Hash.{hashOf}
 use Rattle.format.specs.Move.{moved}
 use Rattle.footer.specs.Footer.{footerLength}
 use Rattle.footer.specs.Finalize.{Sealed}
 use Rattle.image.specs.Sections.{functionsIn, kindsIn, identifiersIn, stringsIn, debugIn, tailAt}
-use Rattle.image.specs.Strings.{Str, stringOf}
+use Rattle.image.specs.Strings.{Str, stringOf, placeAt}
 use Rattle.image.specs.Kinds.{isIdentifier, rankOf, hashIn}
 use Rattle.image.specs.Functions.{Func, funcOf, bodyOf}
 use Rattle.image.specs.Admitted.{Disjoint, Admitted}
 use Rattle.unicode.specs.Utf8.{utf16}
-use Rattle.string_packing.specs.Strings.{asString, stringsWith}
+use Rattle.edits.specs.Packing.{placed, NoneOdd, Spaced}
+use Rattle.string_packing.specs.Strings.{asString, stringWith, stringsWith}
 use Rattle.edits.specs.Rebuild.{newTail}
 use Rattle.string_in_place.specs.Patch.{fitsInPlace}
 use Rattle.functions.specs.Patch.{threshold}
@@ -29,27 +32,27 @@ use Rattle.patches.specs.Patches.{Target, aString, aBody}
 
 -- string i: the value, narrow if ASCII, else UTF-16
 abbrev pub stringAfter : ℕ → Target → Str → Str
-stringAfter i (aString id value) old = pick (eqb i id) (asString value) old
+stringAfter i (aString m id value) old = pick (eqb i id) (asString value) old
 stringAfter i (aBody id body) old = old
 
 -- body i
 abbrev pub bodyAfter : ℕ → Target → List ℕ → List ℕ
-bodyAfter i (aString id value) old = old
+bodyAfter i (aString m id value) old = old
 bodyAfter i (aBody id body) old = pick (eqb i id) body old
 
 -- hash slot r: the hash of the value, where the string is an identifier of this rank
 abbrev pub hashAfter : Layout → ℕ → List ℕ → Target → ℕ → ℕ
-hashAfter l r s (aString id value) old = pick (both (isIdentifier l s id) (eqb r (rankOf l s id))) (hashOf (utf16 value)) old
+hashAfter l r s (aString m id value) old = pick (both (isIdentifier l s id) (eqb r (rankOf l s id))) (hashOf (utf16 value)) old
 hashAfter l r s (aBody id body) old = old
 
 -- ---- what moves: "a place at or past the tail (rebuild) or threshold (body) moves by delta, any other and 0 stay"
 
 abbrev pub movesFrom : Layout → List ℕ → Target → ℕ
-movesFrom l s (aString id value) = tailAt l s
+movesFrom l s (aString m id value) = tailAt l s
 movesFrom l s (aBody id body) = threshold (funcOf l s id)
 
 abbrev pub movesTo : Layout → List ℕ → Target → ℕ
-movesTo l s (aString id value) = pick (fitsInPlace l s id value) (tailAt l s) (newTail l (stringsWith l s id (asString value)) s)
+movesTo l s (aString m id value) = pick (fitsInPlace l s id value) (tailAt l s) (newTail l (stringsWith m l s id (asString value)) s)
 movesTo l s (aBody id body) = funcOf l s id .begin + length body
 
 abbrev pub placeAfter : Layout → List ℕ → Target → ℕ → ℕ
@@ -57,7 +60,7 @@ placeAfter l s c = moved (movesFrom l s c) (movesTo l s c)
 
 -- the size of body i
 abbrev pub sizeAfter : ℕ → Target → ℕ → ℕ
-sizeAfter i (aString id value) old = old
+sizeAfter i (aString m id value) old = old
 sizeAfter i (aBody id body) old = pick (eqb i id) (length body) old
 
 -- function i: its places move, and a patched body has its new size
@@ -72,12 +75,30 @@ functionAfter l s c i f = record {
 
 -- "every tail byte outside patched bodies, large-header words and footer"
 abbrev pub OutsideBody : Layout → List ℕ → Target → ℕ → Type 0
-OutsideBody l s (aString id value) p = Unit {0}
+OutsideBody l s (aString m id value) p = Unit {0}
 OutsideBody l s (aBody id body) p = p < threshold (funcOf l s id) → p < funcOf l s id .begin
 
 abbrev pub OutsideHeaders : Layout → List ℕ → ℕ → Type 0
 OutsideHeaders l s p =
     (j : ℕ) → j < functionsIn s → funcOf l s j .large ≡ true → Disjoint (funcOf l s j .ptr) (table.largeRow l .width) p 1
+
+-- ---- where the strings of t stand, made from s by a patch that sets c. 02, No. 2
+
+-- no string has moved
+abbrev pub Unmoved : Layout → List ℕ → List ℕ → Type 0
+Unmoved l s t = (i : ℕ) → i < stringsIn s → placeAt l t i ≡ placeAt l s i
+
+-- after a rebuild as its mode packs them; "In-place patches never move a string"; and no body patch does
+abbrev pub StringPlaces : Layout → List ℕ → List ℕ → Target → Type 0
+StringPlaces l s t (aString m id value) =
+    (fitsInPlace l s id value ≡ false → Spaced m l t) × (fitsInPlace l s id value ≡ true → Unmoved l s t)
+StringPlaces l s t (aBody id body) = Unmoved l s t
+
+-- the mode does not matter: nothing moves, or no wide string comes to an odd place where each stands where the one before it ends
+abbrev pub Modeless : Layout → List ℕ → Target → Type 0
+Modeless l s (aString m id value) =
+    (fitsInPlace l s id value ≡ true) ⊎ NoneOdd (stringsIn s) (placed Plain (stringWith l s id (asString value)))
+Modeless l s (aBody id body) = Unit {0}
 
 -- ---- what t promises, made from s by a patch that sets c
 

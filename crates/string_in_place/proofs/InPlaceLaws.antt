@@ -1,5 +1,5 @@
 -- The value over the bytes of its string.
-use mathlib.Core.Path.{_≡_, ap, sym, _∙_}
+use mathlib.Core.Path.{_≡_, refl, ap, sym, _∙_}
 use mathlib.Core.Bool.{Bool, true, false, not}
 use mathlib.Core.List.{List}
 use Prim.Native.Nat.{ℕ, _+_, _-_, _≤_, _<_}
@@ -16,6 +16,7 @@ use Rattle.bits.specs.declared.Answer.{Answer}
 use Rattle.bits.specs.declared.Answer.the-variants.{Refused}
 use Rattle.bits.proofs.TestLaws.{both-0, both-1}
 use Rattle.bits.proofs.WriteLaws.{sets-all}
+use Rattle.format.specs.declared.Mode.{Mode}
 use Rattle.format.specs.Entry as entry
 use Rattle.footer.specs.Finalize.{leastLength, sizeLimit}
 use Rattle.image.specs.Sections.{storageAt}
@@ -28,7 +29,8 @@ use Rattle.string_walk.specs.declared.StringRecord.{StringRecord}
 use Rattle.string_walk.specs.Places.{Stands}
 use Rattle.string_walk.proofs.RecordLaws.{start-is, record-inside}
 use Rattle.string_in_place.specs.Known.{Overwritten, finishedWith}
-use Rattle.string_in_place.specs.Patch.{fitsInPlace, inPlace, changed, finished, patchedString, newLength, patchFits, patchKnown}
+use Rattle.string_in_place.specs.Patch.{fitsInPlace, inPlace, changed, finished, patchedInPlace, patchedString, newLength}
+use Rattle.string_in_place.specs.Patch.{patchFits, patchKnown}
 use Rattle.string_in_place.proofs.FinishLaws.{Slotted, finished-is, answers-over, length-finished, Makes, room-short, room-written}
 
 -- ---- the test
@@ -92,56 +94,51 @@ module _ (p : Places) (s value : List ℕ) (id : ℕ) (own : StringRecord) (ov :
   pub value-in : own .start + length value ≤ length s
   value-in = omega (arith, value-size, record-inside p s (ov .laid .placed) id own (ov .stands))
 
-  bytes-are : (out o₁ o₂ : List ℕ) → Overlaid p s value own out o₁ o₂ → o₂ ≡ changed (p .layout) s id value
-  unfolding changed inPlace
+  bytes-are : (out o₁ o₂ : List ℕ) → Overlaid p s value own out o₁ o₂ → o₂ ≡ inPlace (p .layout) s id value
+  unfolding inPlace
   bytes-are out o₁ o₂ w =
-      w .put ∙ rw (w .copied, sets-all s out (sym (w .long)), ov .fits, start-is p s (ov .laid .placed) id own (ov .stands))
+      w .put ∙ rw (w .copied, sets-all s out (sym (w .long)), start-is p s (ov .laid .placed) id own (ov .stands))
       (ap (λ (q : entry.Place). sets s (storageAt (p .layout) s + q .at) value) (ov .stands .place .is))
 
-  length-changed : length (changed (p .layout) s id value) ≡ length s
-  unfolding changed inPlace
-  length-changed = rw (ov .fits) (length-sets s (storageAt (p .layout) s + placeAt (p .layout) s id .at) value)
+  length-put : length (inPlace (p .layout) s id value) ≡ length s
+  unfolding inPlace
+  length-put = length-sets s (storageAt (p .layout) s + placeAt (p .layout) s id .at) value
 
   least-is : leastLength ≤ length s
   least-is = let z : Sectioned p s = sectioned p s (ov .laid .placed) in omega arith
 
-  length-patched : length (patchedString (p .layout) s id value) ≡ length s
-  unfolding patchedString
+  length-patched : length (patchedInPlace (p .layout) s id value) ≡ length s
+  unfolding patchedInPlace
   length-patched =
-      length-finished (p .layout) s value (changed (p .layout) s id value) id (rw length-changed least-is) ∙ length-changed
+      length-finished (p .layout) s value (inPlace (p .layout) s id value) id (rw length-put least-is) ∙ length-put
 
   pub in-place : (out o₁ o₂ o₃ : List ℕ) (r : Answer) → Overlaid p s value own out o₁ o₂
       → Slotted p s id (own .rank) (length o₂)
       → Answers (made (finishedWith (p .«hashes_at») (own .rank) value o₂)) r o₂ o₃
-      → Answers (made (patchedString (p .layout) s id value)) r out o₃
-  unfolding patchedString
+      → Answers (made (patchedInPlace (p .layout) s id value)) r out o₃
+  unfolding patchedInPlace
   in-place out o₁ o₂ o₃ r w t a =
-      let c : o₂ ≡ changed (p .layout) s id value = bytes-are out o₁ o₂ w in
-      let m : length o₂ ≡ length s = ap length c ∙ length-changed in
+      let c : o₂ ≡ inPlace (p .layout) s id value = bytes-are out o₁ o₂ w in
+      let n : length o₂ ≡ length s = ap length c ∙ length-put in
       let k : length (finished (p .layout) s id value o₂) ≡ length o₂
-      = length-finished (p .layout) s value o₂ id (omega (arith, m, least-is)) in
-      rw (← c) (answers-over (finished (p .layout) s id value o₂) o₂ out o₃ r (sym k) (w .long ∙ sym m ∙ sym k)
+      = length-finished (p .layout) s value o₂ id (omega (arith, n, least-is)) in
+      rw (← c) (answers-over (finished (p .layout) s id value o₂) o₂ out o₃ r (sym k) (w .long ∙ sym n ∙ sym k)
       (rw (finished-is p s id (own .rank) (length o₂) t value o₂) at a))
 
-  -- nothing is refused but for the room
-  pub known-in-place : length s ≤ sizeLimit → patchKnown (p .layout) s id value ≡ made (patchedString (p .layout) s id value)
-  unfolding patchKnown judge newLength patchFits
-  known-in-place most = rw (ov .fits, le-ltb sizeLimit (length s) most)
-
   -- in a buffer of any length
-  most-is : length s ≤ sizeLimit
-  most-is = sectioned p s (ov .laid .placed) .most
-
-  makes : Makes (patchKnown (p .layout) s id value) (patchedString (p .layout) s id value) (length s)
-  makes = record { is = known-in-place most-is; long = length-patched }
+  makes : Makes (made (patchedInPlace (p .layout) s id value)) (patchedInPlace (p .layout) s id value) (length s)
+  makes = record { is = refl; long = length-patched }
 
   pub in-short : (out : List ℕ) → length out < length s
-      → Answers (roomed (length out) (patchKnown (p .layout) s id value)) (Refused 13) out out
-  in-short out h =
-      room-short (patchKnown (p .layout) s id value) (patchedString (p .layout) s id value) out (length s) makes h
+      → Answers (roomed (length out) (made (patchedInPlace (p .layout) s id value))) (Refused 13) out out
+  in-short out h = room-short _ (patchedInPlace (p .layout) s id value) out (length s) makes h
 
   pub in-room : (out : List ℕ) → length s ≤ length out → (part : List ℕ) (r : Answer)
-      → Answers (made (patchedString (p .layout) s id value)) r (take (length s - 0) (drop 0 out)) part
-      → Answers (roomed (length out) (patchKnown (p .layout) s id value)) r out (putMid 0 (length s - 0) out part)
-  in-room out h part r a =
-      room-written (patchKnown (p .layout) s id value) (patchedString (p .layout) s id value) out (length s) makes h part r a
+      → Answers (made (patchedInPlace (p .layout) s id value)) r (take (length s - 0) (drop 0 out)) part
+      → Answers (roomed (length out) (made (patchedInPlace (p .layout) s id value))) r out (putMid 0 (length s - 0) out part)
+  in-room out h part r a = room-written _ (patchedInPlace (p .layout) s id value) out (length s) makes h part r a
+
+  -- nothing else is refused, whatever the mode
+  pub known-in-place : (m : Mode) → patchKnown m (p .layout) s id value ≡ made (patchedInPlace (p .layout) s id value)
+  unfolding patchKnown judge newLength patchFits patchedString changed patchedInPlace
+  known-in-place m = rw (ov .fits, le-ltb sizeLimit (length s) (sectioned p s (ov .laid .placed) .most))

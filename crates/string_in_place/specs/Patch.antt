@@ -1,4 +1,4 @@
--- What becomes of an image when one of its strings gets another value. 01, Strings.
+-- What becomes of an image when one of its strings gets another value. 01, Strings; 02, No. 2: the mode of a rebuild.
 -- docs/FORMAT.md: String patches.
 use mathlib.Core.Bool.{Bool, not}
 use mathlib.Core.List.{List, [], _∷_}
@@ -11,6 +11,7 @@ use Rattle.bits.specs.Choice.{pick, both, either, Check, check, judge}
 use Rattle.bits.specs.Bytes.{bytesOf, ascii}
 use Rattle.bits.specs.Outcome.{Outcome, outcomeFor}
 use Rattle.format.specs.declared.Layout.{Layout}
+use Rattle.format.specs.declared.Mode.{Mode}
 use Rattle.format.specs.Table as table
 use Rattle.format.specs.Hash.{hashOf}
 use Rattle.format.specs.Move.{moved}
@@ -44,35 +45,39 @@ rehashed l s id units out =
 -- ---- the patched image: in place, or rebuilt with the list of new strings; "Every accepted patch ends so": the file length and the footer
 
 -- the bytes but for hash slot, file length and footer
-unfoldable pub changed : Layout → List ℕ → ℕ → List ℕ → List ℕ
-changed l s id value = pick (fitsInPlace l s id value) (inPlace l s id value) (rebuild l (stringsWith l s id (asString value)) s)
+unfoldable pub changed : Mode → Layout → List ℕ → ℕ → List ℕ → List ℕ
+changed m l s id value = pick (fitsInPlace l s id value) (inPlace l s id value) (rebuild l (stringsWith m l s id (asString value)) s)
 
 -- an image with its hash slot, file length and footer
 unfoldable pub finished : Layout → List ℕ → ℕ → List ℕ → List ℕ → List ℕ
 finished l s id value out = sealed (lengthed (rehashed l s id (utf16 value) out))
 
-unfoldable pub patchedString : Layout → List ℕ → ℕ → List ℕ → List ℕ
-patchedString l s id value = finished l s id value (changed l s id value)
+-- in place: "In-place patches never move a string, so they are the same in each mode" (02, No. 2)
+unfoldable pub patchedInPlace : Layout → List ℕ → ℕ → List ℕ → List ℕ
+patchedInPlace l s id value = finished l s id value (inPlace l s id value)
+
+unfoldable pub patchedString : Mode → Layout → List ℕ → ℕ → List ℕ → List ℕ
+patchedString m l s id value = finished l s id value (changed m l s id value)
 
 -- ---- refusals 11 and 12
 
 -- where what lay in the tail goes
-abbrev pub movedWithTail : Layout → List ℕ → ℕ → List ℕ → ℕ → ℕ
-movedWithTail l s id value = moved (tailAt l s) (newTail l (stringsWith l s id (asString value)) s)
+abbrev pub movedWithTail : Mode → Layout → List ℕ → ℕ → List ℕ → ℕ → ℕ
+movedWithTail m l s id value = moved (tailAt l s) (newTail l (stringsWith m l s id (asString value)) s)
 
 -- the length of the result
-unfoldable pub newLength : Layout → List ℕ → ℕ → List ℕ → ℕ
-newLength l s id value = pick (fitsInPlace l s id value) (length s) (movedWithTail l s id value (length s))
+unfoldable pub newLength : Mode → Layout → List ℕ → ℕ → List ℕ → ℕ
+newLength m l s id value = pick (fitsInPlace l s id value) (length s) (movedWithTail m l s id value (length s))
 
 -- 12: a place that moves fits its record
-unfoldable pub patchFits : Layout → List ℕ → ℕ → List ℕ → Bool
-patchFits l s id value = either (fitsInPlace l s id value) (fieldsFit l s (movedWithTail l s id value))
+unfoldable pub patchFits : Mode → Layout → List ℕ → ℕ → List ℕ → Bool
+patchFits m l s id value = either (fitsInPlace l s id value) (fieldsFit l s (movedWithTail m l s id value))
 
 -- what is judged of the result
-abbrev pub resultChecks : Layout → List ℕ → ℕ → List ℕ → List Check
-resultChecks l s id value =
-    check refusals.limit (ltb sizeLimit (newLength l s id value)) ∷ check refusals.field (not (patchFits l s id value)) ∷ []
+abbrev pub resultChecks : Mode → Layout → List ℕ → ℕ → List ℕ → List Check
+resultChecks m l s id value =
+    check refusals.limit (ltb sizeLimit (newLength m l s id value)) ∷ check refusals.field (not (patchFits m l s id value)) ∷ []
 
 -- a string of an admitted image with another value
-unfoldable pub patchKnown : Layout → List ℕ → ℕ → List ℕ → Outcome
-patchKnown l s id value = outcomeFor (judge (resultChecks l s id value)) (patchedString l s id value)
+unfoldable pub patchKnown : Mode → Layout → List ℕ → ℕ → List ℕ → Outcome
+patchKnown m l s id value = outcomeFor (judge (resultChecks m l s id value)) (patchedString m l s id value)

@@ -11,7 +11,7 @@ ghost use Rattle.unicode.specs.Utf8.{utf16};
 ghost use Rattle.sections.specs.Places.{Laid};
 ghost use Rattle.string_walk.specs.Places.{Stands};
 ghost use Rattle.string_in_place.specs.Known.{Overwritten, hashed, finishedWith, Finishable};
-ghost use Rattle.string_in_place.specs.Patch.{fitsInPlace, patchedString, patchKnown};
+ghost use Rattle.string_in_place.specs.Patch.{fitsInPlace, patchedInPlace};
 
 // ---- the end of every patch
 
@@ -67,7 +67,7 @@ fn put_in_place(
     value: &[u8],
 ) -> Answer
     requires { ⌜ Overwritten p (now image) (now value) id own × (length (now out) ≡ length (now image)) ⌝ }
-    ensures { λ r. ⌜ Answers (made (patchedString (p .layout) (now (image .entry)) id (now (value .entry)))) r (now (out .entry))
+    ensures { λ r. ⌜ Answers (made (patchedInPlace (p .layout) (now (image .entry)) id (now (value .entry)))) r (now (out .entry))
         (now (out .exit)) ⌝ }
 {
     bits::put_bytes(out, 0, image);
@@ -76,7 +76,8 @@ fn put_in_place(
     finish(out, p.hashes_at, rank, value)
 }
 
-// The same in a buffer of any length. 11 and 12 never come up: nothing moves.
+// The same in a buffer of any length. 11 and 12 never come up, and the mode does not matter: nothing
+// moves.
 pub fn patch_in_place(
     out: &mut [u8],
     image: &[u8],
@@ -86,7 +87,8 @@ pub fn patch_in_place(
     value: &[u8],
 ) -> Answer
     requires { ⌜ Overwritten p (now image) (now value) id own ⌝ }
-    ensures { λ r. ⌜ Answers (roomed (length (now (out .entry))) (patchKnown (p .layout) (now (image .entry)) id (now (value .entry)))) r
+    ensures { λ r. ⌜ Answers
+        (roomed (length (now (out .entry))) (made (patchedInPlace (p .layout) (now (image .entry)) id (now (value .entry))))) r
         (now (out .entry)) (now (out .exit)) ⌝ }
 {
     let n = image.len();

@@ -8,6 +8,7 @@ use lib.Dec.{eqb}
 use lib.ListN.{length, length-append, length-replicate}
 use Rattle.bits.specs.Choice.{pick}
 use Rattle.bits.specs.Bytes.{up4}
+use Rattle.format.specs.declared.Mode.{Mode}
 use Rattle.format.specs.Table.{ifSet}
 use Rattle.format.specs.Entry as entry
 use Rattle.footer.specs.Finalize.{sizeLimit}
@@ -35,20 +36,22 @@ set-bit true = refl
 set-bit false = refl
 
 -- before the first string
-pub reached-none : (p : Places) (s : List ℕ) (id : ℕ) (x : Shape) (o : Cursor) → CursorOf p s o → o .id ≡ 0
-    → Reached p s id x (record { old = o; over = 0; at = 0 })
-reached-none p s id x o h e =
-    record { old = h; sums = rw e (sums-none (p .layout) s id x); few = omega arith; low = omega arith }
+pub reached-none : (m : Mode) (p : Places) (s : List ℕ) (id : ℕ) (x : Shape) (o : Cursor) → CursorOf p s o → o .id ≡ 0
+    → Reached m p s id x (record { old = o; over = 0; at = 0 })
+reached-none m p s id x o h e =
+    record { old = h; sums = rw e (sums-none m (p .layout) s id x); few = omega arith; low = omega arith }
 
 -- the numbers are small
-pub strings-few : (p : Places) (s : List ℕ) (id : ℕ) (x : Shape) (c : Packer) → InTurn p s id x c → p .strings ≤ 16777216
-strings-few p s id x c it = let z : Sectioned p s = sectioned p s (it .laid .placed) in omega arith
+pub strings-few : (m : Mode) (p : Places) (s : List ℕ) (id : ℕ) (x : Shape) (c : Packer) → InTurn m p s id x c
+    → p .strings ≤ 16777216
+strings-few m p s id x c it = let z : Sectioned p s = sectioned p s (it .laid .placed) in omega arith
 
 -- a string in its turn, where it stands, and its new place
-pub record PlaceFound (p : Places) (s : List ℕ) (id : ℕ) (x : Shape) (c : Packer) (r : Visited) (n : Place) : Type 0 where
-  pub turn : InTurn p s id x c
+pub record PlaceFound (m : Mode) (p : Places) (s : List ℕ) (id : ℕ) (x : Shape) (c : Packer) (r : Visited) (n : Place) : Type 0 where
+  pub turn : InTurn m p s id x c
   pub visits : VisitedOf p s (c .old) r
-  pub new : asPlace n ≡ placeWith (eqb (c .old .id) id) x (asPlace (r .string .place)) (c .at)
+  pub new : asPlace n ≡ placeWith m (eqb (c .old .id) id) x (asPlace (r .string .place)) (c .at)
+  pub near : n .at ≤ c .at + 1
 
 -- what a string takes at a place: one overflow entry or none, and its bytes
 pub record Takes (n : Place) (over : Bool) (v z : ℕ) : Type 0 where
@@ -58,7 +61,8 @@ pub record Takes (n : Place) (over : Bool) (v z : ℕ) : Type 0 where
   pub size : z ≡ sizeOf (asPlace n)
   pub low : z ≤ n .count * 2
 
-module _ (p : Places) (s : List ℕ) (id : ℕ) (x : Shape) (c : Packer) (r : Visited) (n : Place) (f : PlaceFound p s id x c r n) where
+module _ (m : Mode) (p : Places) (s : List ℕ) (id : ℕ) (x : Shape) (c : Packer) (r : Visited) (n : Place)
+    (f : PlaceFound m p s id x c r n) where
   old-count : r .string .place .count ≤ sizeLimit
   old-count =
       let z : Sectioned p s = sectioned p s (f .turn .laid .placed) in
@@ -73,55 +77,56 @@ module _ (p : Places) (s : List ℕ) (id : ℕ) (x : Shape) (c : Packer) (r : Vi
 
   -- the turn, by what the code found
   pub turned : (over : Bool) (v z : ℕ) → Takes n over v z
-      → Turned p s id x c (record {
+      → Turned m p s id x c (record {
         old = r .string;
         new = n;
-        next = record { old = r .next; over = c .over + v; at = c .at + z };
+        next = record { old = r .next; over = c .over + v; at = n .at + z };
       })
   turned over v z t =
       let e : v ≡ entry.bit (entry.isOver (asPlace n)) = t .entries ∙ set-bit over ∙ ap entry.bit (t .overflows) in
       let small : n .count ≤ sizeLimit = count-small in
-      let low : c .at ≤ c .old .id * (sizeLimit * 2) = f .turn .reached .low in
+      let low : c .at ≤ c .old .id * (sizeLimit * 2 + 1) = f .turn .reached .low in
       record {
         old = f .visits .string;
         new = f .new;
         count = count-small;
         string = f .visits .id;
         over = ap (λ (k : ℕ). c .over + k) e;
-        at = ap (λ (k : ℕ). c .at + k) (t .size);
+        at = ap (λ (k : ℕ). n .at + k) (t .size);
         reached = record {
           old = f .visits .next;
           sums = rw (f .visits .id, t .size, e)
-              (sums-next (p .layout) s id (c .old .id) (c .at) (c .over) x (asPlace (r .string .place)) (asPlace n) (f .turn .reached .sums)
+              (sums-next m (p .layout) s id (c .old .id) (c .at) (c .over) x (asPlace (r .string .place)) (asPlace n)
+              (f .turn .reached .sums)
               (f .visits .string .place .is) (f .new));
           few = omega (arith, f .turn .reached .few, f .visits .id, t .few);
-          low = omega (arith, f .visits .id, t .low);
+          low = omega (arith, f .visits .id, f .near, t .low);
         };
       }
 
 -- behind the last string
-pub measured : (p : Places) (s : List ℕ) (id : ℕ) (x : Shape) (c : Packer) → c .old .id ≡ p .strings → Reached p s id x c
-    → Measured p s id x (record { storage = c .at; overflows = c .over })
-measured p s id x c e rc = record { sums = rw e at (rc .sums); few = omega (arith, rc .few); low = rw e at (rc .low) }
+pub measured : (m : Mode) (p : Places) (s : List ℕ) (id : ℕ) (x : Shape) (c : Packer) → c .old .id ≡ p .strings
+    → Reached m p s id x c → Measured m p s id x (record { storage = c .at; overflows = c .over })
+measured m p s id x c e rc = record { sums = rw e at (rc .sums); few = omega (arith, rc .few); low = rw e at (rc .low) }
 
 -- ---- the tail behind them
 
-module _ (p : Places) (s : List ℕ) (pl : Placed p s) (id : ℕ) (x : Shape) (z : Sizes) (m : Measured p s id x z) (t : Str)
+module _ (m : Mode) (p : Places) (s : List ℕ) (pl : Placed p s) (id : ℕ) (x : Shape) (z : Sizes) (me : Measured m p s id x z) (t : Str)
     (sh : Shaped x t) where
-  pub storage-is : z .storage ≡ length (stringsWith (p .layout) s id t .store)
+  pub storage-is : z .storage ≡ length (stringsWith m (p .layout) s id t .store)
   unfolding stringsWith
-  storage-is = rw (sectioned p s pl .strings) at (m .sums t sh .0)
+  storage-is = rw (sectioned p s pl .strings) at (me .sums t sh .0)
 
-  pub overflows-are : z .overflows ≡ overs (stringsWith (p .layout) s id t .place) (stringsIn s)
+  pub overflows-are : z .overflows ≡ overs (stringsWith m (p .layout) s id t .place) (stringsIn s)
   unfolding stringsWith
-  overflows-are = rw (sectioned p s pl .strings) at (m .sums t sh .1)
+  overflows-are = rw (sectioned p s pl .strings) at (me .sums t sh .1)
 
   pub length-region : p .«small_at» + length
-      (region (stringsIn s) (stringsWith (p .layout) s id t)) ≡ p .«over_at» + z .overflows * 8 + z .storage
+      (region (stringsIn s) (stringsWith m (p .layout) s id t)) ≡ p .«over_at» + z .overflows * 8 + z .storage
   unfolding region stringsWith
   length-region =
       let sc : Sectioned p s = sectioned p s pl in
-      let q = stringsWith (p .layout) s id t in
+      let q = stringsWith m (p .layout) s id t in
       rw (
         length-append,
         length-append,
@@ -131,12 +136,12 @@ module _ (p : Places) (s : List ℕ) (pl : Placed p s) (id : ℕ) (x : Shape) (z
         ← storage-is,
       ) (omega arith)
 
-  pub tail-is : up4 (p .«over_at» + z .overflows * 8 + z .storage) ≡ newTail (p .layout) (stringsWith (p .layout) s id t) s
+  pub tail-is : up4 (p .«over_at» + z .overflows * 8 + z .storage) ≡ newTail (p .layout) (stringsWith m (p .layout) s id t) s
   unfolding padded
   tail-is =
       let n : ℕ = p .«over_at» + z .overflows * 8 + z .storage in
-      let e : smallAt (p .layout) s + length (region (stringsIn s) (stringsWith (p .layout) s id t)) ≡ n
+      let e : smallAt (p .layout) s + length (region (stringsIn s) (stringsWith m (p .layout) s id t)) ≡ n
       =
-      ap (λ (a : ℕ). a + length (region (stringsIn s) (stringsWith (p .layout) s id t))) (sym (sectioned p s pl .smallFrom))
+      ap (λ (a : ℕ). a + length (region (stringsIn s) (stringsWith m (p .layout) s id t))) (sym (sectioned p s pl .smallFrom))
       ∙ length-region in
       rw (length-append, e, length-replicate) (omega (arith, e))

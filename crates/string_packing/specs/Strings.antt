@@ -1,19 +1,20 @@
--- The strings of an image with another one at one id. 01, Strings.
+-- The strings of an image with another one at one id. 01, Strings; 02, No. 2.
 -- docs/FORMAT.md: String patches, Packing.
 use mathlib.Core.Path.{_≡_}
 use mathlib.Core.Bool.{Bool, true, false}
 use mathlib.Core.List.{List}
-use Prim.Native.Nat.{ℕ, _*_}
+use Prim.Native.Nat.{ℕ, _+_, _*_}
 use lib.Dec.{eqb}
 use lib.ListN.{length}
 use Rattle.bits.specs.Choice.{pick}
 use Rattle.bits.specs.Bytes.{ascii}
 use Rattle.format.specs.declared.Layout.{Layout}
+use Rattle.format.specs.declared.Mode.{Mode}
 use Rattle.format.specs.Entry.{Place}
 use Rattle.unicode.specs.Utf8.{utf16, unitBytes}
 use Rattle.image.specs.Sections.{stringsIn}
 use Rattle.image.specs.Strings.{Str, unitSize, stringOf}
-use Rattle.edits.specs.Packing.{Packed, packed}
+use Rattle.edits.specs.Packing.{Packed, gapOf, packed}
 use Rattle.edits.specs.Rebuild.{overs}
 use Rattle.string_packing.specs.declared.Shape.{Shape}
 
@@ -26,11 +27,11 @@ unfoldable pub stringWith : Layout → List ℕ → ℕ → Str → ℕ → Str
 stringWith l s id t i = pick (eqb i id) t (stringOf l s i)
 
 -- the first n of them packed, and all
-abbrev pub firsts : Layout → List ℕ → ℕ → Str → ℕ → Packed
-firsts l s id t n = packed (stringWith l s id t) n
+abbrev pub firsts : Mode → Layout → List ℕ → ℕ → Str → ℕ → Packed
+firsts m l s id t n = packed m (stringWith l s id t) n
 
-unfoldable pub stringsWith : Layout → List ℕ → ℕ → Str → Packed
-stringsWith l s id t = firsts l s id t (stringsIn s)
+unfoldable pub stringsWith : Mode → Layout → List ℕ → ℕ → Str → Packed
+stringsWith m l s id t = firsts m l s id t (stringsIn s)
 
 -- ---- how much room they take
 
@@ -38,12 +39,17 @@ stringsWith l s id t = firsts l s id t (stringsIn s)
 abbrev pub Shaped : Shape → Str → Type 0
 Shaped x t = (t .wide ≡ x .wide) × (length (t .bytes) ≡ x .count * unitSize (x .wide))
 
--- the place of a string at an offset: that of the new one, or that of one that stood in the image
-abbrev pub placeWith : Bool → Shape → Place → ℕ → Place
-placeWith new x p at = record { wide = pick new (x .wide) (p .wide); at = at; count = pick new (x .count) (p .count) }
+-- the place of a string that is packed next, where those before it take `at` bytes: that of the new one, or that of one that stood in
+-- the image
+abbrev pub placeWith : Mode → Bool → Shape → Place → ℕ → Place
+placeWith m new x p at = record {
+  wide = pick new (x .wide) (p .wide);
+  at = at + gapOf m (pick new (x .wide) (p .wide)) at;
+  count = pick new (x .count) (p .count);
+}
 
 -- bytes and overflow entries of the first i strings, whatever the bytes of the new one are
-abbrev pub Sums : Layout → List ℕ → ℕ → Shape → ℕ → ℕ → ℕ → Type 0
-Sums l s id x i storage overflows =
+abbrev pub Sums : Mode → Layout → List ℕ → ℕ → Shape → ℕ → ℕ → ℕ → Type 0
+Sums m l s id x i storage overflows =
     (t : Str) → Shaped x t
-    → (storage ≡ length (firsts l s id t i .store)) × (overflows ≡ overs (firsts l s id t i .place) i)
+    → (storage ≡ length (firsts m l s id t i .store)) × (overflows ≡ overs (firsts m l s id t i .place) i)

@@ -8,9 +8,10 @@ use lib.Seq.{sets}
 use Rattle.bits.specs.Bytes.{bytesOf, up4}
 use Rattle.bits.proofs.ByteLaws.{length-bytesOf}
 use Rattle.bits.proofs.WriteLaws.{sets-append, sets-comm}
+use Rattle.format.specs.declared.Mode.{Mode}
 use Rattle.format.specs.Entry.{Place, smallWord}
 use Rattle.image.specs.Strings.{Str}
-use Rattle.edits.specs.Packing.{Packed, placed, storeOf, packed}
+use Rattle.edits.specs.Packing.{Packed, gapOf, startOf, placed, storeOf, packed}
 use Rattle.edits.specs.Rebuild.{smalls, pairIfOver, pairs, overs, region, padded}
 use Rattle.edits.proofs.TableLaws.{overs-next, smalls-next, pairs-next, size-smalls, size-pair, size-pairs}
 use Rattle.edits.proofs.PackLaws.{store-next}
@@ -35,37 +36,41 @@ longer A a P p S s o x y z h k =
 
 -- ---- one string more
 
-module _ (to : RegionPlaces) (f : ℕ → Str) (i : ℕ) (out : List ℕ) where
+module _ (m : Mode) (to : RegionPlaces) (f : ℕ → Str) (i : ℕ) (out : List ℕ) where
   abbrev at : ℕ
-  at = length (storeOf f i)
+  at = length (storeOf m f i)
 
   abbrev ps : ℕ → Place
-  ps = placed f
+  ps = placed m f
+
+  abbrev before : List ℕ
+  before = regionPut to i (packed m f i) out
 
   pub laid-next : to .«small_at» + i * 4 + 4 ≤ to .«over_at» → to .«over_at» + overs ps (suc i) * 8 ≤ to .«storage_at»
-      → regionPut to (suc i) (packed f (suc i)) out ≡ putString to i (overs ps i) at (f i) (regionPut to i (packed f i) out)
-  unfolding regionPut putString putEntry
+      → regionPut to (suc i) (packed m f (suc i)) out ≡ putString m to i (overs ps i) at (f i) before
+  unfolding regionPut putString putEntry startOf
   laid-next h l =
       let w : ℕ = smallWord (overs ps i) (ps i) in
       let A : List ℕ = smalls ps i in
       let B : List ℕ = pairs ps i in
+      let zeros : List ℕ = replicate (gapOf m (f i .wide) at) 0 in
       let j : to .«small_at» + length A + length (bytesOf 4 w) ≤ to .«over_at» = rw (size-smalls ps i, length-bytesOf 4 w) h in
-      let m : to .«over_at» + length B + length (pairIfOver (ps i)) ≤ to .«storage_at»
+      let k : to .«over_at» + length B + length (pairIfOver (ps i)) ≤ to .«storage_at»
       = rw (size-pairs ps i, size-pair ps i) (omega (arith, l, overs-next ps i)) in
       rw (
-        store-next f i,
+        store-next m f i,
         smalls-next ps i,
         pairs-next ps i,
-        longer A (bytesOf 4 w) B (pairIfOver (ps i)) (storeOf f i) (f i .bytes) out (to .«small_at») (to .«over_at»)
-            (to .«storage_at») j m,
+        longer A (bytesOf 4 w) B (pairIfOver (ps i)) (storeOf m f i) (zeros ++ f i .bytes) out (to .«small_at») (to .«over_at»)
+            (to .«storage_at») j k,
         size-smalls ps i,
         size-pairs ps i,
       )
       refl
 
-pub laid-none : (to : RegionPlaces) (f : ℕ → Str) (out : List ℕ) → out ≡ regionPut to 0 (packed f 0) out
+pub laid-none : (m : Mode) (to : RegionPlaces) (f : ℕ → Str) (out : List ℕ) → out ≡ regionPut to 0 (packed m f 0) out
 unfolding regionPut storeOf smalls pairs
-laid-none to f out = refl
+laid-none m to f out = refl
 
 -- ---- the tables side by side, then zeros
 

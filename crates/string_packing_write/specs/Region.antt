@@ -1,19 +1,20 @@
--- The tables and the storage of a list of strings, written each from a place on. 01, Strings.
+-- The tables and the storage of a list of strings, written each from a place on. 01, Strings; 02, No. 2.
 -- docs/FORMAT.md: Packing.
 use mathlib.Core.Bool.{Bool}
-use mathlib.Core.List.{List}
+use mathlib.Core.List.{List, _++_}
 use Prim.Native.Nat.{ℕ, _+_, _≤_, _<_}
-use lib.ListN.{length}
+use lib.ListN.{length, replicate}
 use lib.Seq.{sets}
 use Rattle.bits.specs.Choice.{pick, both}
 use Rattle.bits.specs.Bytes.{bytesAt}
+use Rattle.format.specs.declared.Mode.{Mode}
 use Rattle.format.specs.Table as table
 use Rattle.format.specs.Number.{entryAt, bytesFor}
 use Rattle.format.specs.Entry.{Place, bit, isOver, smallWord}
 use Rattle.footer.specs.Finalize.{sizeLimit}
 use Rattle.unicode.specs.Utf8.{utf16, unitBytes}
 use Rattle.image.specs.Strings.{Str}
-use Rattle.edits.specs.Packing.{Packed, standing}
+use Rattle.edits.specs.Packing.{Packed, gapOf, standing}
 use Rattle.edits.specs.Rebuild.{smalls, pairIfOver, pairs, overs}
 use Rattle.string_packing_write.specs.declared.RegionPlaces.{RegionPlaces}
 
@@ -23,9 +24,11 @@ putEntry to i k p out =
     sets (sets out (entryAt (to .«small_at») table.smallEntry i) (bytesFor table.smallEntry (smallWord k p)))
     (entryAt (to .«over_at») table.overflowEntry k) (pairIfOver p)
 
--- string i, packed at an offset of storage
-unfoldable pub putString : RegionPlaces → ℕ → ℕ → ℕ → Str → List ℕ → List ℕ
-putString to i k at t out = sets (putEntry to i k (standing at t) out) (to .«storage_at» + at) (t .bytes)
+-- string i, where those before it take `at` bytes of storage: its entry, and its bytes behind its gap
+unfoldable pub putString : Mode → RegionPlaces → ℕ → ℕ → ℕ → Str → List ℕ → List ℕ
+putString m to i k at t out =
+    let gap = gapOf m (t .wide) at in
+    sets (putEntry to i k (standing (at + gap) t) out) (to .«storage_at» + at) (replicate gap 0 ++ t .bytes)
 
 -- n packed strings
 unfoldable pub regionPut : RegionPlaces → ℕ → Packed → List ℕ → List ℕ

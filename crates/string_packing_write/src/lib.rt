@@ -1,5 +1,6 @@
 // The tables and the storage of an image's strings, written anew: one pass over the old image, with
 // the new string at its id.
+use format::Mode;
 use sections::Places;
 use string_packing::Packer;
 use string_packing::Shape;
@@ -89,31 +90,34 @@ fn put_stored<'a>(
     bits::put_bytes(out, to, source(image, value, is_new, at, n));
 }
 
-// The string at the cursor: its entry and its bytes. Answers the cursor behind it.
+// The string at the cursor: its entry, the zeros before it and its bytes. Answers the cursor behind it.
 fn put_string<'a>(
     out: &mut [u8],
     image: &'a [u8],
     value: &'a [u8],
     p: Places,
+    mode: Mode,
     to: RegionPlaces,
     id: usize,
     new: Shape,
     c: Packer,
 ) -> Packer
-    requires { ⌜ InTurn p (now image) id new c × Shaped new (asString (now value)) ⌝ }
-    requires { ⌜ Roomy to (p .strings) (stringsWith (p .layout) (now image) id (asString (now value))) (length (now out)) ⌝ }
-    ensures { λ r. ⌜ (r .old .id ≡ c .old .id + 1) × Reached p (now (image .entry)) id new r ⌝ }
-    ensures { λ _. ⌜ now (out .exit) ≡ putString to (c .old .id) (c .over) (c .at)
+    requires { ⌜ InTurn mode p (now image) id new c × Shaped new (asString (now value)) ⌝ }
+    requires { ⌜ Roomy to (p .strings) (stringsWith mode (p .layout) (now image) id (asString (now value))) (length (now out)) ⌝ }
+    ensures { λ r. ⌜ (r .old .id ≡ c .old .id + 1) × Reached mode p (now (image .entry)) id new r ⌝ }
+    ensures { λ _. ⌜ now (out .exit) ≡ putString mode to (c .old .id) (c .over) (c .at)
         (stringWith (p .layout) (now (image .entry)) id (asString (now (value .entry))) (c .old .id)) (now (out .entry)) ⌝ }
 {
     let i = c.old.id;
-    let t = string_packing::take_turn(image, p, id, new, c);
+    let t = string_packing::take_turn(image, p, mode, id, new, c);
     let old = t.old;
     let size = string_tables::size_of(old.place);
-    put_entry(out, to, i, c.over, t.new);
+    let place = t.new;
+    put_entry(out, to, i, c.over, place);
+    bits::put_zeros(out, to.storage_at + c.at, place.at - c.at);
     put_stored(
         out,
-        to.storage_at + c.at,
+        to.storage_at + place.at,
         image,
         value,
         i == id,
@@ -130,17 +134,18 @@ fn put_strings<'a>(
     image: &'a [u8],
     value: &'a [u8],
     p: Places,
+    mode: Mode,
     to: RegionPlaces,
     id: usize,
     new: Shape,
 )
-    requires { ⌜ Writable p (now image) (now value) id new to (length (now out)) ⌝ }
+    requires { ⌜ Writable mode p (now image) (now value) id new to (length (now out)) ⌝ }
     ensures { λ _. ⌜ now (out .exit) ≡ regionPut to (p .strings)
-        (stringsWith (p .layout) (now (image .entry)) id (asString (now (value .entry)))) (now (out .entry)) ⌝ }
+        (stringsWith mode (p .layout) (now (image .entry)) id (asString (now (value .entry)))) (now (out .entry)) ⌝ }
 {
     let mut c = string_packing::nothing_packed();
     while c.old.id < p.strings {
-        c = put_string(out, image, value, p, to, id, new, c);
+        c = put_string(out, image, value, p, mode, to, id, new, c);
     }
 }
 
@@ -151,14 +156,14 @@ pub fn put_region<'a>(
     image: &'a [u8],
     value: &'a [u8],
     p: Places,
+    mode: Mode,
     id: usize,
     new: Shape,
     sizes: Sizes,
 )
-    requires { ⌜ Sized p (now image) (now value) id new sizes (length (now out)) ⌝ }
-    ensures { λ _. ⌜ now (out .exit) ≡ sets (now (out .entry)) (p .«small_at»)
-        (padded (p .«small_at») (region (p .strings) (stringsWith (p .layout) (now (image .entry)) id (asString (now (value .entry))))))
-        ⌝ }
+    requires { ⌜ Sized mode p (now image) (now value) id new sizes (length (now out)) ⌝ }
+    ensures { λ _. ⌜ now (out .exit) ≡ sets (now (out .entry)) (p .«small_at») (padded (p .«small_at»)
+        (region (p .strings) (stringsWith mode (p .layout) (now (image .entry)) id (asString (now (value .entry)))))) ⌝ }
 {
     let storage_at = sections::entry_at(p.over_at, sizes.overflows, format::OVERFLOW_ENTRY);
     let to = RegionPlaces {
@@ -166,7 +171,7 @@ pub fn put_region<'a>(
         over_at: p.over_at,
         storage_at,
     };
-    put_strings(out, image, value, p, to, id, new);
+    put_strings(out, image, value, p, mode, to, id, new);
     let end = storage_at + sizes.storage;
     bits::put_zeros(out, end, bits::up4(end) - end);
 }

@@ -9,6 +9,7 @@ use lib.Seq.{sets}
 use Rattle.bits.specs.Bytes.{up4}
 use Rattle.bits.specs.Outcome.{Answers, made}
 use Rattle.bits.specs.declared.Answer.{Answer}
+use Rattle.format.specs.declared.Mode.{Mode}
 use Rattle.format.specs.Table as table
 use Rattle.footer.specs.Finalize.{sizeLimit}
 use Rattle.image.specs.Sections.{stringsIn, smallAt, tailAt}
@@ -35,32 +36,33 @@ use Rattle.string_in_place.proofs.FinishLaws.{Slotted, finished-is, answers-ove
 use Rattle.string_rebuild.specs.Ready.{Ready}
 
 -- the strings of the new image, packed
-abbrev pub newStrings : Places → List ℕ → List ℕ → ℕ → Packed
-newStrings p s value id = stringsWith (p .layout) s id (asString value)
+abbrev pub newStrings : Mode → Places → List ℕ → List ℕ → ℕ → Packed
+newStrings m p s value id = stringsWith m (p .layout) s id (asString value)
 
 -- the tail moves, for the strings' sake
 abbrev moveTail : Places → ℕ → Move
 moveTail p to = record { from = p .tail; to = to; cause = Strings }
 
 -- in a buffer of so much room: what stands around the strings, the strings, the two counts and what moves, one after the other
-pub record Rewritten (p : Places) (s value : List ℕ) (id : ℕ) (z : Sizes) (to room : ℕ) (out o₁ o₂ o₃ o₄ : List ℕ)
-    : Type 0 where
+pub record Rewritten (m : Mode) (p : Places) (s value : List ℕ) (id : ℕ) (z : Sizes) (to room : ℕ)
+    (out o₁ o₂ o₃ o₄ : List ℕ) : Type 0 where
   pub fits : length out ≡ room
   pub around : o₁ ≡ around (p .«small_at») (p .tail) to s out
-  pub strings : o₂ ≡ sets o₁ (p .«small_at») (padded (p .«small_at») (region (p .strings) (newStrings p s value id)))
+  pub strings : o₂ ≡ sets o₁ (p .«small_at») (padded (p .«small_at») (region (p .strings) (newStrings m p s value id)))
   pub counts : o₃ ≡ writeAll (countWords (z .overflows) (z .storage)) o₂
   pub places : o₄ ≡ relocated (p .layout) s (moveTail p to) o₃
   pub long : length o₄ ≡ length out
 
-module _ (p : Places) (s value : List ℕ) (id : ℕ) (x : Shape) (z : Sizes) (to room : ℕ) (rd : Ready p s value id x z to room) where
+module _ (m : Mode) (p : Places) (s value : List ℕ) (id : ℕ) (x : Shape) (z : Sizes) (to room : ℕ)
+    (rd : Ready m p s value id x z to room) where
   sc : Sectioned p s
   sc = sectioned p s (rd .asked .laid .placed)
 
   abbrev ts : Packed
-  ts = newStrings p s value id
+  ts = newStrings m p s value id
 
   to-is : to ≡ newTail (p .layout) ts s
-  to-is = rd .tail ∙ tail-is p s (rd .asked .laid .placed) id x z (rd .measured) (asString value) (rd .shaped)
+  to-is = rd .tail ∙ tail-is m p s (rd .asked .laid .placed) id x z (rd .measured) (asString value) (rd .shaped)
 
   -- ---- what the calls ask for
 
@@ -94,7 +96,7 @@ module _ (p : Places) (s value : List ℕ) (id : ℕ) (x : Shape) (z : Sizes) (t
 
   pub movable : Movable (p .layout) s (moveTail p to) room
   movable =
-      subst⁻¹ (λ (m : Move). Movable (p .layout) s m room) move-is
+      subst⁻¹ (λ (v : Move). Movable (p .layout) s v room) move-is
       (rebuild-movable (p .layout) s room ts
       (record {
         admitted = rd .asked .laid .admitted;
@@ -105,7 +107,7 @@ module _ (p : Places) (s value : List ℕ) (id : ℕ) (x : Shape) (z : Sizes) (t
 
   -- ---- what they leave
 
-  module _ {out o₁ o₂ o₃ o₄ : List ℕ} (w : Rewritten p s value id z to room out o₁ o₂ o₃ o₄) where
+  module _ {out o₁ o₂ o₃ o₄ : List ℕ} (w : Rewritten m p s value id z to room out o₁ o₂ o₃ o₄) where
     spliced : o₂ ≡ splice (smallAt (p .layout) s) (tailAt (p .layout) s) (padded (smallAt (p .layout) s) (region (stringsIn s) ts)) s
     spliced =
         let a : ℕ = smallAt (p .layout) s in
@@ -122,12 +124,12 @@ module _ (p : Places) (s value : List ℕ) (id : ℕ) (x : Shape) (z : Sizes) (t
 
     rebuilt : o₄ ≡ rebuild (p .layout) ts s
     rebuilt =
-        w .places ∙ ap (λ (m : Move). relocated (p .layout) s m o₃) move-is
+        w .places ∙ ap (λ (v : Move). relocated (p .layout) s v o₃) move-is
         ∙ ap (relocated (p .layout) s (rebuilding (p .layout) ts s))
         (w .counts
         ∙ rw (
-          overflows-are p s (rd .asked .laid .placed) id x z (rd .measured) (asString value) (rd .shaped),
-          storage-is p s
+          overflows-are m p s (rd .asked .laid .placed) id x z (rd .measured) (asString value) (rd .shaped),
+          storage-is m p s
               (rd .asked .laid .placed) id x z (rd .measured) (asString value) (rd .shaped),
           spliced,
         ))
@@ -135,7 +137,7 @@ module _ (p : Places) (s value : List ℕ) (id : ℕ) (x : Shape) (z : Sizes) (t
 
     pub patch-put : (own : StringRecord) → Stands p s id own → (o₅ : List ℕ) (r : Answer)
         → Answers (made (finishedWith (p .«hashes_at») (own .rank) value o₄)) r o₄ o₅
-        → Answers (made (patchedString (p .layout) s id value)) r out o₅
+        → Answers (made (patchedString m (p .layout) s id value)) r out o₅
     unfolding patchedString changed
     patch-put own st o₅ r a =
         let k : length (finished (p .layout) s id value o₄) ≡ length o₄

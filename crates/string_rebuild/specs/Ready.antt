@@ -5,6 +5,7 @@ use mathlib.Core.List.{List}
 use Prim.Native.Nat.{ℕ, _+_, _-_, _≤_, _<_}
 use lib.ListN.{length}
 use Rattle.bits.specs.Bytes.{up4}
+use Rattle.format.specs.declared.Mode.{Mode}
 use Rattle.format.specs.Table.{overflowEntry}
 use Rattle.format.specs.Number.{entryAt}
 use Rattle.format.specs.Move.{moved}
@@ -26,11 +27,11 @@ pub record Asked (p : Places) (s value : List ℕ) (id : ℕ) : Type 0 where
 
 -- the value's shape, the measured sizes and the tail's new start are at hand, the buffer has the length of the result, and small records
 -- hold the places that move
-pub record Ready (p : Places) (s value : List ℕ) (id : ℕ) (x : Shape) (z : Sizes) (to room : ℕ) : Type 0 where
+pub record Ready (m : Mode) (p : Places) (s value : List ℕ) (id : ℕ) (x : Shape) (z : Sizes) (to room : ℕ) : Type 0 where
   pub asked : Asked p s value id
   pub small : x .count ≤ sizeLimit
   pub shaped : Shaped x (asString value)
-  pub measured : Measured p s id x z
+  pub measured : Measured m p s id x z
   pub tail : to ≡ up4 (entryAt (p .«over_at») overflowEntry (z .overflows) + z .storage)
   pub long : room ≡ length s - p .tail + to
   pub limit : room ≤ sizeLimit

@@ -1,6 +1,7 @@
 // A string of an admitted image gets a value that does not fit in place: the strings are packed anew,
 // and what lies behind them moves. Sizes are judged before the first byte is written.
 use bits::Answer;
+use format::Mode;
 use relocate::Cause;
 use relocate::Move;
 use sections::Places;
@@ -19,15 +20,16 @@ fn put_rebuilt<'a>(
     image: &'a [u8],
     value: &'a [u8],
     p: Places,
+    mode: Mode,
     id: usize,
     own: StringRecord,
     new: Shape,
     sizes: Sizes,
     tail: usize,
 ) -> Answer
-    requires { ⌜ Ready p (now image) (now value) id new sizes tail (length (now out)) ⌝ }
+    requires { ⌜ Ready mode p (now image) (now value) id new sizes tail (length (now out)) ⌝ }
     requires { ⌜ Stands p (now image) id own ⌝ }
-    ensures { λ r. ⌜ Answers (made (patchedString (p .layout) (now (image .entry)) id (now (value .entry)))) r (now (out .entry))
+    ensures { λ r. ⌜ Answers (made (patchedString mode (p .layout) (now (image .entry)) id (now (value .entry)))) r (now (out .entry))
         (now (out .exit)) ⌝ }
 {
     let layout = p.layout;
@@ -37,7 +39,7 @@ fn put_rebuilt<'a>(
         cause: Cause::Strings,
     };
     relocate::copy_around(out, image, p.small_at, p.tail, tail);
-    string_packing_write::put_region(out, image, value, p, id, new, sizes);
+    string_packing_write::put_region(out, image, value, p, mode, id, new, sizes);
     relocate::put_counts(out, sizes.overflows, sizes.storage);
     relocate::relocate(out, image, layout, m);
     let rank = own.rank;
@@ -52,19 +54,21 @@ pub fn rebuild<'a>(
     image: &'a [u8],
     value: &'a [u8],
     p: Places,
+    mode: Mode,
     id: usize,
     own: StringRecord,
 ) -> Answer
     requires { ⌜ Asked p (now image) (now value) id ⌝ }
     requires { ⌜ Stands p (now image) id own ⌝ }
-    ensures { λ r. ⌜ Answers (roomed (length (now (out .entry))) (patchKnown (p .layout) (now (image .entry)) id (now (value .entry)))) r
+    ensures { λ r. ⌜ Answers
+        (roomed (length (now (out .entry))) (patchKnown mode (p .layout) (now (image .entry)) id (now (value .entry)))) r
         (now (out .entry)) (now (out .exit)) ⌝ }
 {
     let new = string_packing::shape_of(value);
     if footer::SIZE_LIMIT < new.count {
         return Answer::Refused(refusals::LIMIT);
     }
-    let sizes = string_packing::measure(image, p, id, new);
+    let sizes = string_packing::measure(image, p, mode, id, new);
     let tail = string_packing::new_tail(p, sizes);
     let n = image.len() - p.tail + tail;
     if footer::SIZE_LIMIT < n {
@@ -76,5 +80,16 @@ pub fn rebuild<'a>(
     if out.len() < n {
         return Answer::Refused(refusals::ROOM);
     }
-    put_rebuilt(&mut out[0..n], image, value, p, id, own, new, sizes, tail)
+    put_rebuilt(
+        &mut out[0..n],
+        image,
+        value,
+        p,
+        mode,
+        id,
+        own,
+        new,
+        sizes,
+        tail,
+    )
 }

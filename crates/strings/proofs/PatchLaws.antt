@@ -13,6 +13,7 @@ use Rattle.bits.specs.Outcome.{Answers, roomed, outcomeFor}
 use Rattle.bits.specs.declared.Answer.{Answer}
 use Rattle.bits.specs.declared.Answer.the-variants.{Refused}
 use Rattle.format.specs.declared.Layout.{Layout}
+use Rattle.format.specs.declared.Mode.{Mode}
 use Rattle.unicode.specs.Utf8.{isUtf8, utf16}
 use Rattle.image.specs.Sections.{stringsIn}
 use Rattle.image.specs.Admission.{checks}
@@ -43,15 +44,15 @@ module _ (l : Layout) (s : List ℕ) (r : Admission) (e : r ≡ admission l s) w
       let z : eqb k 0 ≡ false = ne-eqb k 0 (λ y. omega (arith, refused-is l s r e k f .1)) in
       rw (refused-then l s r e k f ds, z, m) (refl, refl)
 
-  pub id-refused : (id : ℕ) (value out : List ℕ) (k n : ℕ) → r ≡ answer.Refused k → n ≡ numberOf r
-      → Answers (roomed (length out) (patchById l s id value)) (Refused n) out out
+  pub id-refused : (m : Mode) (id : ℕ) (value out : List ℕ) (k n : ℕ) → r ≡ answer.Refused k → n ≡ numberOf r
+      → Answers (roomed (length out) (patchById m l s id value)) (Refused n) out out
   unfolding patchById byIdRefusal
-  id-refused id value out k n f g = refused-all _ (patchedString l s id value) out k n f g
+  id-refused m id value out k n f g = refused-all _ (patchedString m l s id value) out k n f g
 
-  pub value-refused : (old new out : List ℕ) (k n : ℕ) → r ≡ answer.Refused k → n ≡ numberOf r
-      → Answers (roomed (length out) (patchByValue l s old new)) (Refused n) out out
+  pub value-refused : (m : Mode) (old new out : List ℕ) (k n : ℕ) → r ≡ answer.Refused k → n ≡ numberOf r
+      → Answers (roomed (length out) (patchByValue m l s old new)) (Refused n) out out
   unfolding patchByValue byValueRefusal
-  value-refused old new out k n f g = refused-all _ (patchedString l s (findId l s (utf16 old)) new) out k n f g
+  value-refused m old new out k n f g = refused-all _ (patchedString m l s (findId l s (utf16 old)) new) out k n f g
 
 -- ---- admitted: what comes behind decides
 
@@ -81,39 +82,39 @@ pub record ValueTested (l : Layout) (s : List ℕ) (r : Admission) (p : Places) 
   pub known : id < p .strings
   pub tested : b ≡ isUtf8 value
 
-module _ (l : Layout) (s : List ℕ) (r : Admission) (p : Places) (id : ℕ) (value out : List ℕ) where
+module _ (m : Mode) (l : Layout) (s : List ℕ) (r : Admission) (p : Places) (id : ℕ) (value out : List ℕ) where
   behind : Admits l s r p
-      → patchById l s id value ≡ outcomeFor
-      (judge (check 7 (leb (stringsIn s) id) ∷ check 8 (not (isUtf8 value)) ∷ resultChecks l s id value))
-      (patchedString l s id value)
+      → patchById m l s id value ≡ outcomeFor
+      (judge (check 7 (leb (stringsIn s) id) ∷ check 8 (not (isUtf8 value)) ∷ resultChecks m l s id value))
+      (patchedString m l s id value)
   unfolding patchById byIdRefusal
-  behind h = ap (λ (n : ℕ). outcomeFor n (patchedString l s id value)) (laid-then l s r (h .is) p (h .laid) _)
+  behind h = ap (λ (n : ℕ). outcomeFor n (patchedString m l s id value)) (laid-then l s r (h .is) p (h .laid) _)
 
-  pub id-absent : (loc : Location) → Located l s r p id loc → (m : ℕ) → loc ≡ location.Refused m → (n : ℕ)
+  pub id-absent : (loc : Location) → Located l s r p id loc → (k : ℕ) → loc ≡ location.Refused k → (n : ℕ)
       → n ≡ location-number loc
-      → Answers (roomed (length out) (patchById l s id value)) (Refused n) out out
+      → Answers (roomed (length out) (patchById m l s id value)) (Refused n) out out
   unfolding judge roomed
-  id-absent loc h m u n v =
-      let (w, b) = located-none p s id refusals.id loc (h .location) m u in
+  id-absent loc h k u n v =
+      let (w, b) = located-none p s id refusals.id loc (h .location) k u in
       let x : n ≡ 7 = v ∙ ap location-number u ∙ w in
       rw (behind (h .admits), ← strings-is l s r p (h .admits), le-leb (p .strings) id b, x) (refl, refl)
 
   module _ (b : Bool) (h : ValueTested l s r p id value b) where
-    pub id-value : not b ≡ true → Answers (roomed (length out) (patchById l s id value)) (Refused 8) out out
+    pub id-value : not b ≡ true → Answers (roomed (length out) (patchById m l s id value)) (Refused 8) out out
     unfolding judge roomed
     id-value t =
         rw (behind (h .admits), ← strings-is l s r p (h .admits), lt-leb (p .strings) id (h .known), ← h .tested, not-true b t)
         (refl, refl)
 
-    known-is : not b ≡ false → patchById l s id value ≡ patchKnown l s id value
+    known-is : not b ≡ false → patchById m l s id value ≡ patchKnown m l s id value
     unfolding patchKnown judge
     known-is t =
         behind (h .admits)
         ∙ rw (← strings-is l s r p (h .admits), lt-leb (p .strings) id (h .known), ← h .tested, not-false b t)
 
     pub id-known : not b ≡ false → (a : Answer) (o : List ℕ)
-        → Answers (roomed (length out) (patchKnown (p .layout) s id value)) a out o
-        → Answers (roomed (length out) (patchById l s id value)) a out o
+        → Answers (roomed (length out) (patchKnown m (p .layout) s id value)) a out o
+        → Answers (roomed (length out) (patchById m l s id value)) a out o
     id-known t a o k = rw (known-is t) (rw (layout-is l s r p (h .admits)) at k)
 
 -- ---- by value
@@ -136,24 +137,24 @@ pub record ValueSought (l : Layout) (s : List ℕ) (r : Admission) (p : Places) 
   pub valid : not c ≡ false
   pub location : Locates p s (findId (p .layout) s (utf16 old)) refusals.absent loc
 
-module _ (l : Layout) (s : List ℕ) (r : Admission) (p : Places) (old new out : List ℕ) where
+module _ (m : Mode) (l : Layout) (s : List ℕ) (r : Admission) (p : Places) (old new out : List ℕ) where
   abbrev at : ℕ
   at = findId l s (utf16 old)
 
   after : Admits l s r p
-      → patchByValue l s old new
+      → patchByValue m l s old new
       ≡ outcomeFor (judge (check 8 (not (isUtf8 old)) ∷ check 8 (not (isUtf8 new)) ∷ check 14 (leb (stringsIn s) at)
-      ∷ resultChecks l s at new)) (patchedString l s at new)
+      ∷ resultChecks m l s at new)) (patchedString m l s at new)
   unfolding patchByValue byValueRefusal
-  after h = ap (λ (n : ℕ). outcomeFor n (patchedString l s at new)) (laid-then l s r (h .is) p (h .laid) _)
+  after h = ap (λ (n : ℕ). outcomeFor n (patchedString m l s at new)) (laid-then l s r (h .is) p (h .laid) _)
 
   pub old-value : (b : Bool) → OldTested l s r p old b → not b ≡ true
-      → Answers (roomed (length out) (patchByValue l s old new)) (Refused 8) out out
+      → Answers (roomed (length out) (patchByValue m l s old new)) (Refused 8) out out
   unfolding judge roomed
   old-value b h t = rw (after (h .admits), ← h .tested, not-true b t) (refl, refl)
 
   pub new-value : (b c : Bool) → NewTested l s r p old new b c → not c ≡ true
-      → Answers (roomed (length out) (patchByValue l s old new)) (Refused 8) out out
+      → Answers (roomed (length out) (patchByValue m l s old new)) (Refused 8) out out
   unfolding judge roomed
   new-value b c h u =
       rw (after (h .before .admits), ← h .before .tested, not-false b (h .valid), ← h .tested, not-true c u) (refl, refl)
@@ -163,8 +164,8 @@ module _ (l : Layout) (s : List ℕ) (r : Admission) (p : Places) (old new out :
     admits = h .before .before .admits
 
     -- both values are UTF-8: whether there is such a string decides
-    sought : patchByValue l s old new
-        ≡ outcomeFor (judge (check 14 (leb (stringsIn s) at) ∷ resultChecks l s at new)) (patchedString l s at new)
+    sought : patchByValue m l s old new
+        ≡ outcomeFor (judge (check 14 (leb (stringsIn s) at) ∷ resultChecks m l s at new)) (patchedString m l s at new)
     unfolding judge
     sought =
         after admits ∙ rw (← h .before .before .tested, not-false b (h .before .valid), ← h .before .tested, not-false c (h .valid))
@@ -172,13 +173,13 @@ module _ (l : Layout) (s : List ℕ) (r : Admission) (p : Places) (old new out :
     found-here : findId (p .layout) s (utf16 old) ≡ at
     found-here = rw (layout-is l s r p admits)
 
-    pub value-absent : (m : ℕ) → loc ≡ location.Refused m → (n : ℕ) → n ≡ location-number loc
-        → Answers (roomed (length out) (patchByValue l s old new)) (Refused n) out out
+    pub value-absent : (k : ℕ) → loc ≡ location.Refused k → (n : ℕ) → n ≡ location-number loc
+        → Answers (roomed (length out) (patchByValue m l s old new)) (Refused n) out out
     unfolding judge roomed
-    value-absent m v n w =
-        let (x, k) = located-none p s _ refusals.absent loc (h .location) m v in
+    value-absent k v n w =
+        let (x, b) = located-none p s _ refusals.absent loc (h .location) k v in
         let y : n ≡ 14 = w ∙ ap location-number v ∙ x in
-        rw (sought, ← strings-is l s r p admits, le-leb (p .strings) at (rw found-here at k), y) (refl, refl)
+        rw (sought, ← strings-is l s r p admits, le-leb (p .strings) at (rw found-here at b), y) (refl, refl)
 
     module _ (id : ℕ) (q : StringRecord) (n : Counts) (v : loc ≡ location.At id q n) where
       id-is : id ≡ at
@@ -187,10 +188,10 @@ module _ (l : Layout) (s : List ℕ) (r : Admission) (p : Places) (old new out :
       id-in : id < p .strings
       id-in = located-self p s _ refusals.absent loc (h .location) id q n v .0
 
-      found-is : patchByValue l s old new ≡ patchKnown l s id new
+      found-is : patchByValue m l s old new ≡ patchKnown m l s id new
       unfolding patchKnown judge
       found-is = sought ∙ rw (← id-is, ← strings-is l s r p admits, lt-leb (p .strings) id id-in)
 
-      pub value-known : (a : Answer) (o : List ℕ) → Answers (roomed (length out) (patchKnown (p .layout) s id new)) a out o
-          → Answers (roomed (length out) (patchByValue l s old new)) a out o
+      pub value-known : (a : Answer) (o : List ℕ) → Answers (roomed (length out) (patchKnown m (p .layout) s id new)) a out o
+          → Answers (roomed (length out) (patchByValue m l s old new)) a out o
       value-known a o k = rw found-is (rw (layout-is l s r p admits) at k)

@@ -2,6 +2,7 @@
 use admission::Admission;
 use bits::Answer;
 use format::Layout;
+use format::Mode;
 use sections::Places;
 use string_walk::Location;
 use string_walk::StringRecord;
@@ -20,18 +21,20 @@ fn patch_known<'a>(
     image: &'a [u8],
     value: &'a [u8],
     p: Places,
+    mode: Mode,
     id: usize,
     own: StringRecord,
 ) -> Answer
     requires { ⌜ Laid p (now image) × (id < p .strings) ⌝ }
     requires { ⌜ Stands p (now image) id own ⌝ }
-    ensures { λ r. ⌜ Answers (roomed (length (now (out .entry))) (patchKnown (p .layout) (now (image .entry)) id (now (value .entry)))) r
+    ensures { λ r. ⌜ Answers
+        (roomed (length (now (out .entry))) (patchKnown mode (p .layout) (now (image .entry)) id (now (value .entry)))) r
         (now (out .entry)) (now (out .exit)) ⌝ }
 {
     if string_in_place::fits_in_place(image, p, id, own, value) {
         return string_in_place::patch_in_place(out, image, p, id, own, value);
     }
-    string_rebuild::rebuild(out, image, value, p, id, own)
+    string_rebuild::rebuild(out, image, value, p, mode, id, own)
 }
 
 // String `id` gets a value. Answers the new length; the image is at the front of `out`. Refused with
@@ -41,11 +44,12 @@ fn patch_known<'a>(
 pub fn patch_string_by_id<'a>(
     image: &'a [u8],
     layout: Layout,
+    mode: Mode,
     id: usize,
     value: &'a [u8],
     out: &mut [u8],
 ) -> Answer
-    ensures { λ r. ⌜ Answers (roomed (length (now (out .entry))) (patchById layout (now (image .entry)) id (now (value .entry)))) r
+    ensures { λ r. ⌜ Answers (roomed (length (now (out .entry))) (patchById mode layout (now (image .entry)) id (now (value .entry)))) r
         (now (out .entry)) (now (out .exit)) ⌝ }
 {
     let admitted = admission::admit(image, layout);
@@ -59,7 +63,7 @@ pub fn patch_string_by_id<'a>(
     if !unicode::is_utf8(value) {
         return Answer::Refused(refusals::VALUE);
     }
-    patch_known(out, image, value, p, id, own)
+    patch_known(out, image, value, p, mode, id, own)
 }
 
 // The lowest string that has the units of `old` gets the value `new`. Refused as by id, but for 8
@@ -67,12 +71,13 @@ pub fn patch_string_by_id<'a>(
 pub fn patch_string_replace<'a>(
     image: &'a [u8],
     layout: Layout,
+    mode: Mode,
     old: &[u8],
     new: &'a [u8],
     out: &mut [u8],
 ) -> Answer
     ensures { λ r. ⌜ Answers
-        (roomed (length (now (out .entry))) (patchByValue layout (now (image .entry)) (now (old .entry)) (now (new .entry)))) r
+        (roomed (length (now (out .entry))) (patchByValue mode layout (now (image .entry)) (now (old .entry)) (now (new .entry)))) r
         (now (out .entry)) (now (out .exit)) ⌝ }
 {
     let admitted = admission::admit(image, layout);
@@ -89,5 +94,5 @@ pub fn patch_string_replace<'a>(
     let Location::At(id, own, _) = location else {
         return Answer::Refused(string_walk::number_of(location));
     };
-    patch_known(out, image, new, p, id, own)
+    patch_known(out, image, new, p, mode, id, own)
 }

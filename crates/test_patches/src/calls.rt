@@ -1,5 +1,6 @@
 // The calls by their numbers, with arguments in the order of the judge's table, oracle/src/patches.
 use bits::Answer as Length;
+use format::Mode;
 use test_frames::Answer;
 use test_frames::HEAD;
 use test_frames::Status;
@@ -10,26 +11,48 @@ pub fn inputs_length(head: &[u8; HEAD]) -> usize {
     word(head, 2) as usize + word(head, 3) as usize + word(head, 4) as usize
 }
 
+// The last mode word of a call: string patches have two modes, a body patch has one.
+fn last_mode(number: u64) -> u32 {
+    match number {
+        34 => 0,
+        _ => 1,
+    }
+}
+
+// The mode of a word: 0 plain, 1 even.
+fn mode_of(word: u32) -> Mode {
+    match word {
+        0 => Mode::Plain,
+        _ => Mode::Even,
+    }
+}
+
 // The answer of a call. Its output is left as the function that it names leaves it.
 pub fn answer_call(head: &[u8; HEAD], inputs: &[u8], out: &mut [u8]) -> Answer {
+    let number = test_frames::number(head);
     let byte = test_frames::byte(head, 0);
+    let mode_word = word(head, 5);
     let old_end = word(head, 2) as usize;
     let new_end = old_end + word(head, 3) as usize;
     if byte > 4 {
+        return test_frames::bare(Status::Unknown);
+    }
+    if mode_word > last_mode(number) {
         return test_frames::bare(Status::Unknown);
     }
     if new_end > inputs.len() {
         return test_frames::bare(Status::Unknown);
     }
     let layout = input_records::layout_of(byte);
+    let mode = mode_of(mode_word);
     let id = word(head, 1) as usize;
     let new = &inputs[old_end..new_end];
     let image = &inputs[new_end..];
-    match test_frames::number(head) {
-        32 => lengthed(strings::patch_string_by_id(image, layout, id, new, out)),
+    match number {
+        32 => lengthed(strings::patch_string_by_id(image, layout, mode, id, new, out)),
         33 => {
             let old = &inputs[0..old_end];
-            lengthed(strings::patch_string_replace(image, layout, old, new, out))
+            lengthed(strings::patch_string_replace(image, layout, mode, old, new, out))
         }
         34 => lengthed(functions::patch_function_bytes(image, layout, id, new, out)),
         _ => test_frames::bare(Status::Unknown),

@@ -1,34 +1,60 @@
-//! sharp: an honest look at the fixed calls of admission. For each mistake of `reading::Slip` it counts
-//! those that a program with that mistake would answer otherwise. Ends with 1 where there are none, or where
-//! an image that was made whole is refused.
+//! sharp image|patches [all]: an honest look at the fixed calls of a family. For each mistake that the second reading
+//! can make on purpose it counts those that a program with that mistake would answer otherwise. Ends with 1 where
+//! there are none, or where an image that was made whole is refused.
 
+use std::fmt::Debug;
 use std::process::ExitCode;
 
-use oracle::image::reading::{slips, Slip, TESTS};
-use oracle::image::{finds, makes_whole_images, FAMILY};
+use oracle::family::Family;
+use oracle::image::reading::{self, Slip, TESTS};
+use oracle::image::{self, makes_whole_images};
+use oracle::job::packing;
+use oracle::patches;
+use oracle::stream::Call;
 
 fn main() -> ExitCode {
     if !makes_whole_images() {
         println!("oracle: image: an image that was made whole is refused");
         return ExitCode::FAILURE;
     }
-    let calls = (FAMILY.fixed)();
+    let given = Family::of_arguments();
+    match given.as_ref().map(|(family, words)| (family.name, *family, !words.is_empty())) {
+        Some(("image", family, all)) => {
+            let named = |slip| match slip {
+                Slip::Without(i) => format!("the test left out: {}", TESTS[i].sentence),
+                slip => format!("{slip:?}"),
+            };
+            report(family, &reading::slips(), image::finds, named, all)
+        }
+        Some(("patches", family, all)) => {
+            report(family, &packing::slips(), patches::finds, |slip| format!("{slip:?}"), all)
+        }
+        _ => {
+            eprintln!("usage: sharp image|patches [all]");
+            ExitCode::from(2)
+        }
+    }
+}
+
+fn report<S: Copy + Debug>(
+    family: &Family,
+    slips: &[S],
+    finds: fn(&Call, S) -> bool,
+    named: impl Fn(S) -> String,
+    all: bool,
+) -> ExitCode {
+    let calls = (family.fixed)();
     let mut missed = 0;
-    let slips = slips();
-    for slip in &slips {
+    for slip in slips {
         let found = calls.iter().filter(|call| finds(call, *slip)).count();
-        if found == 0 || std::env::args().len() > 1 {
-            match slip {
-                Slip::Without(i) => {
-                    println!("{found} find the test left out: {}", TESTS[*i].sentence)
-                }
-                slip => println!("{found} find {slip:?}"),
-            }
+        if found == 0 || all {
+            println!("{found} find {}", named(*slip));
         }
         missed += usize::from(found == 0);
     }
     println!(
-        "oracle: image: {} mistakes on purpose, {missed} not found by the fixed calls",
+        "oracle: {}: {} mistakes on purpose, {missed} not found by the fixed calls",
+        family.name,
         slips.len()
     );
     ExitCode::from(u8::from(missed > 0))

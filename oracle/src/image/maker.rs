@@ -12,15 +12,22 @@ use crate::random::Random;
 pub struct Shape {
     pub strings: usize,
     pub string_length: usize,
+    /// One in so many strings is wide.
+    pub wide: u64,
     pub functions: usize,
     pub body: usize,
 }
 
-pub const SMALL: Shape = Shape { strings: 6, string_length: 8, functions: 4, body: 12 };
-pub const MIDDLE: Shape = Shape { strings: 40, string_length: 30, functions: 20, body: 80 };
-pub const LARGE: Shape = Shape { strings: 400, string_length: 50, functions: 100, body: 300 };
+pub const SMALL: Shape = Shape { strings: 6, string_length: 8, wide: 3, functions: 4, body: 12 };
+pub const MIDDLE: Shape =
+    Shape { strings: 40, string_length: 30, wide: 3, functions: 20, body: 80 };
+pub const LARGE: Shape =
+    Shape { strings: 400, string_length: 50, wide: 3, functions: 100, body: 300 };
+/// Many wide strings among narrow ones, so that a rebuild puts many at odd places.
+pub const ODD: Shape = Shape { strings: 20, string_length: 3, wide: 2, functions: 4, body: 12 };
 /// About as long as a call can carry.
-pub const HUGE: Shape = Shape { strings: 3000, string_length: 20, functions: 700, body: 60 };
+pub const HUGE: Shape =
+    Shape { strings: 3000, string_length: 20, wide: 3, functions: 700, body: 60 };
 
 /// An image, and what was put into it.
 pub struct Made {
@@ -178,7 +185,7 @@ fn fresh(random: &mut Random, shape: Shape, storage: &mut Vec<u8>) -> (bool, usi
         let gap = random.within(1..4);
         storage.extend(random.bytes(gap));
     }
-    let wide = random.one_in(3);
+    let wide = random.one_in(shape.wide);
     let count = match random.below(32) {
         0 => random.within(253..258),
         1 => 254,

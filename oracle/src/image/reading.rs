@@ -151,11 +151,11 @@ pub const TESTS: [Test; 18] = [
         sentence: "or a narrow byte exceeds 0x7F",
         broken: |r| {
             let storage = r.places().storage;
-            let byte = |at: u64| r.image.get((storage + at) as usize).copied().unwrap_or(0);
+            let place = |at: u64| (storage + at).min(r.image.len() as u64) as usize;
             let judged = |string: &&Stored| !string.wide || r.slips(Slip::WideBytesJudged);
             r.strings().iter().filter(judged).any(|string| {
-                let end = string.end.min(r.length());
-                (string.start..end).any(|at| byte(at) > 0x7f)
+                let bytes = r.image.get(place(string.start)..place(string.end));
+                !bytes.unwrap_or(&[]).is_ascii()
             })
         },
     },

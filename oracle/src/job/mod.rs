@@ -1,10 +1,12 @@
 //! Jobs: **a second reading** of document 01, "Programs", over images made at random.
 
 pub mod made;
+pub mod packing;
 pub mod patch;
 
 use crate::image::layout::Layout;
 use crate::image::reading::Reading;
+use packing::Packing;
 use patch::{finish, patch, Patch};
 
 const IMAGE_MOST: usize = 65_536;
@@ -69,7 +71,7 @@ fn patch_record(input: &mut &[u8]) -> Option<Patch> {
     let length = little(next(input, 2)?);
     let bytes = next(input, length)?.to_vec();
     match &mark[..] {
-        b"ST" => Some(Patch::Text { id, value: bytes }),
+        b"ST" => Some(Patch::Text { id, value: bytes, packing: Packing::PLAIN }),
         b"FB" => Some(Patch::Body { id, bytes }),
         _ => None,
     }

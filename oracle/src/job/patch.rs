@@ -1,14 +1,17 @@
-//! A second reading of document 01, "Strings", "Bodies" and "Refusal numbers" 7 to 13: one patch of one
-//! image. It takes the image apart into values and writes them anew, where our code edits bytes.
+//! A second reading of document 01, "Strings", "Bodies" and "Refusal numbers" 7 to 14, and of the modes of
+//! document 02, No. 2: one patch of one image. It takes the image apart into values and writes them anew,
+//! where our code edits bytes.
 
 use hbc_decomp::write::footer::rehash_footer;
 
+use super::packing::{Packed, Packing, Piece, Slip};
 use crate::image::layout::*;
 use crate::image::reading::Reading;
 use crate::leaves::record::{self, set_pointer};
 
 pub enum Patch {
-    Text { id: u32, value: Vec<u8> },
+    Text { id: u32, value: Vec<u8>, packing: Packing },
+    Replace { old: Vec<u8>, value: Vec<u8>, packing: Packing },
     Body { id: u32, bytes: Vec<u8> },
 }
 
@@ -22,10 +25,11 @@ pub fn patch(layout: Layout, image: &[u8], room: u64, patch: &Patch) -> Result<V
         0 => {}
         number => return Err(number),
     }
-    let old = Parts::of(layout, image);
+    let parts = Parts::of(layout, image);
     match patch {
-        Patch::Text { id, value } => old.with_text(*id as usize, value, room),
-        Patch::Body { id, bytes } => old.with_body(*id as usize, bytes, room),
+        Patch::Text { id, value, packing } => parts.with_text(*id as usize, value, *packing, room),
+        Patch::Replace { old, value, packing } => parts.replaced(old, value, *packing, room),
+        Patch::Body { id, bytes } => parts.with_body(*id as usize, bytes, room),
     }
 }
 
@@ -108,7 +112,31 @@ impl<'a> Parts<'a> {
 
     // ---- Strings.
 
-    fn with_text(&self, id: usize, value: &[u8], room: u64) -> Result<Vec<u8>, u32> {
+    /// "the lowest such id is patched"
+    fn replaced(
+        &self,
+        old: &[u8],
+        value: &[u8],
+        packing: Packing,
+        room: u64,
+    ) -> Result<Vec<u8>, u32> {
+        let (Ok(old), Ok(_)) = (std::str::from_utf8(old), std::str::from_utf8(value)) else {
+            return Err(8);
+        };
+        let units: Vec<u16> = old.encode_utf16().collect();
+        match self.texts.iter().position(|text| self.units(text) == units) {
+            Some(id) => self.with_text(id, value, packing, room),
+            None => Err(14),
+        }
+    }
+
+    fn with_text(
+        &self,
+        id: usize,
+        value: &[u8],
+        packing: Packing,
+        room: u64,
+    ) -> Result<Vec<u8>, u32> {
         if id >= self.texts.len() {
             return Err(7);
         }
@@ -116,7 +144,9 @@ impl<'a> Parts<'a> {
             return Err(8);
         };
         let units: Vec<u16> = text.encode_utf16().collect();
-        let mut new = if self.fits_in_place(id, value) {
+        let is_odd = |text: &Text| text.wide && text.start % 2 == 1;
+        let is_moved = packing.slips(Slip::InPlaceOnlyWhereEven) && self.texts.iter().any(is_odd);
+        let mut new = if self.fits_in_place(id, value) && !is_moved {
             if room < self.image.len() as u64 {
                 return Err(13);
             }
@@ -125,13 +155,22 @@ impl<'a> Parts<'a> {
             new[start..start + value.len()].copy_from_slice(value);
             new
         } else {
-            self.rebuilt(id, value, &units, room)?
+            self.rebuilt(id, value, &units, packing, room)?
         };
         if self.identifiers[id] {
             let rank = self.identifiers[..id].iter().filter(|is| **is).count();
             set_word(&mut new, self.hashes + 4 * rank, hash(&units));
         }
         Ok(finish(new))
+    }
+
+    fn bytes(&self, text: &Text) -> &[u8] {
+        &self.image[self.storage + text.start..self.storage + text.end]
+    }
+
+    fn units(&self, text: &Text) -> Vec<u16> {
+        let width = if text.wide { 2 } else { 1 };
+        self.bytes(text).chunks(width).map(|unit| number(unit, 0, width) as u16).collect()
     }
 
     fn fits_in_place(&self, id: usize, value: &[u8]) -> bool {
@@ -142,44 +181,52 @@ impl<'a> Parts<'a> {
     }
 
     /// The strings packed anew, and everything in the tail moved.
-    fn rebuilt(&self, id: usize, value: &[u8], units: &[u16], room: u64) -> Result<Vec<u8>, u32> {
+    fn rebuilt(
+        &self,
+        id: usize,
+        value: &[u8],
+        units: &[u16],
+        packing: Packing,
+        room: u64,
+    ) -> Result<Vec<u8>, u32> {
+        let wide: Vec<u8> = units.iter().flat_map(|unit| unit.to_le_bytes()).collect();
         let value = if value.is_ascii() {
-            (false, value.to_vec())
+            Piece { wide: false, bytes: value, old: None }
         } else {
-            (true, units.iter().flat_map(|unit| unit.to_le_bytes()).collect())
+            Piece { wide: true, bytes: &wide, old: None }
         };
-        let (mut smalls, mut pairs, mut storage) = (vec![], vec![], 0u64);
-        for (i, text) in self.texts.iter().enumerate() {
-            let (wide, size) =
-                if i == id { (value.0, value.1.len()) } else { (text.wide, text.end - text.start) };
-            let length = if wide { size / 2 } else { size } as u64;
-            if storage >= 0x80_0000 || length >= 255 {
-                smalls.push(0xff << 24 | (pairs.len() as u32 / 2) << 1 | u32::from(wide));
-                // Cut where the image is refused anyway: a sum past the limit comes first.
-                pairs.extend([storage as u32, length as u32]);
-            } else {
-                smalls.push((length << 24 | storage << 1) as u32 | u32::from(wide));
-            }
-            storage += size as u64;
-        }
-        let tables = 4 * (smalls.len() + pairs.len()) as u64;
-        let tail = (self.small as u64 + tables + storage).div_ceil(4) * 4;
-        let length = tail + (self.image.len() - self.tail) as u64;
-        let moved = |place: usize| place as u64 + tail - self.tail as u64;
-        self.judge(length, &moved, true, room)?;
+        let mut pieces: Vec<Piece> = self.texts.iter().map(|text| self.piece(text)).collect();
+        pieces[id] = value;
+        let packed = packing.pack(&pieces);
+        let tail = self.tail_behind(&packed);
+        let rest = (self.image.len() - self.tail) as u64;
+        let moved_to = |tail: u64| move |place: usize| place as u64 + tail - self.tail as u64;
+        let judged = |number: u32| match packing.slips(Slip::JudgedPlain(number)) {
+            true => self.tail_behind(&Packing::PLAIN.pack(&pieces)),
+            false => tail,
+        };
+        let has_room = judged(13) + rest <= room;
+        self.judge(judged(11) + rest, &moved_to(judged(12)), true, has_room)?;
 
         let mut new = self.image[..self.small].to_vec();
-        set_word(&mut new, OVERFLOWS, pairs.len() as u32 / 2);
-        set_word(&mut new, STORAGE, storage as u32);
-        new.extend(smalls.iter().chain(&pairs).flat_map(|word| word.to_le_bytes()));
-        for (i, text) in self.texts.iter().enumerate() {
-            let old = &self.image[self.storage + text.start..self.storage + text.end];
-            new.extend(if i == id { &value.1 } else { old });
-        }
+        set_word(&mut new, OVERFLOWS, packed.pairs.len() as u32 / 2);
+        set_word(&mut new, STORAGE, packed.size as u32);
+        new.extend(packed.smalls.iter().chain(&packed.pairs).flat_map(|word| word.to_le_bytes()));
+        new.extend(packing.storage(&packed, &pieces));
         new.resize(tail as usize, 0);
         new.extend(&self.image[self.tail..]);
-        self.relocate(&mut new, &moved, true, None);
+        self.relocate(&mut new, &moved_to(tail), true, None);
         Ok(new)
+    }
+
+    fn piece(&self, text: &Text) -> Piece<'_> {
+        Piece { wide: text.wide, bytes: self.bytes(text), old: Some(text.start) }
+    }
+
+    /// Where the tail starts behind new tables and storage.
+    fn tail_behind(&self, packed: &Packed) -> u64 {
+        let tables = 4 * (packed.smalls.len() + packed.pairs.len()) as u64;
+        (self.small as u64 + tables + packed.size).div_ceil(4) * 4
     }
 
     // ---- Bodies.
@@ -212,7 +259,7 @@ impl<'a> Parts<'a> {
         };
         let most = if self.layout.is_modern() { 16_383 } else { 32_767 };
         let fits = own.header.is_some() || bytes.len() <= most;
-        self.judge(length, &moved, fits, room)?;
+        self.judge(length, &moved, fits, length <= room)?;
 
         let mut new = self.image[..own.body].to_vec();
         new.extend(bytes);
@@ -231,7 +278,7 @@ impl<'a> Parts<'a> {
         length: u64,
         moved: &dyn Fn(usize) -> u64,
         fits: bool,
-        room: u64,
+        has_room: bool,
     ) -> Result<(), u32> {
         let far = |place: usize| place != 0 && moved(place) > FIELD;
         let small = |f: &&Function| f.header.is_none();
@@ -239,7 +286,7 @@ impl<'a> Parts<'a> {
             Err(11)
         } else if !fits || self.functions.iter().filter(small).any(|f| far(f.body) || far(f.info)) {
             Err(12)
-        } else if length > room {
+        } else if !has_room {
             Err(13)
         } else {
             Ok(())

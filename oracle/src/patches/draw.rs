@@ -1,11 +1,12 @@
 //! Patches at random, and the fixed calls.
 
 use super::judgement::judge;
-use super::{small, texts, Kind, Patch};
+use super::{odd, small, texts, Kind, Patch};
 use crate::image::damage::DAMAGES;
 use crate::image::layout::{set_word, Layout, LAYOUTS};
-use crate::image::maker::{make, put_function, Made, Shape, LARGE, MIDDLE, SMALL};
+use crate::image::maker::{make, put_function, Made, Shape, LARGE, MIDDLE, ODD, SMALL};
 use crate::image::reading::{Reading, Stored};
+use crate::job::packing::Mode;
 use crate::random::Random;
 use crate::stream::Call;
 
@@ -124,7 +125,7 @@ fn roomed(random: &mut Random, patch: Patch) -> Option<Call> {
 /// A patch of a string, by its id or by its value.
 fn string_call(
     random: &mut Random,
-    kind: Kind,
+    (kind, mode): (Kind, Mode),
     layout: Layout,
     image: &[u8],
     of: Value,
@@ -139,7 +140,8 @@ fn string_call(
     let chosen = if strings.is_empty() { 0 } else { random.within(0..strings.len()) };
     let own = strings.get(chosen).unwrap_or(&none);
     let new = value(random, &reading, own, of);
-    let mut patch = Patch { kind, layout, id: chosen as u32, old: &[], new: &new, image, room: 0 };
+    let id = chosen as u32;
+    let mut patch = Patch { kind, mode, layout, id, old: &[], new: &new, image, room: 0 };
     if random.one_in(24) {
         patch.id = random.pick(&[strings.len() as u32, strings.len() as u32 + 1, u32::MAX]);
     }
@@ -192,8 +194,8 @@ fn body_call(random: &mut Random, mut made: Made, length: Length) -> Option<Call
         id = random.pick(&[count, count + 1, u32::MAX as usize]);
     }
     let (layout, image) = (made.layout, &made.image);
-    let kind = Kind::Body;
-    roomed(random, Patch { kind, layout, id: id as u32, old: &[], new: &body, image, room: 0 })
+    let (kind, mode, id) = (Kind::Body, Mode::Plain, id as u32);
+    roomed(random, Patch { kind, mode, layout, id, old: &[], new: &body, image, room: 0 })
 }
 
 /// Most info places and the debug offset out of the body's way, but near its edges.
@@ -230,6 +232,10 @@ fn string_kind(random: &mut Random) -> Kind {
     }
 }
 
+fn mode(random: &mut Random) -> Mode {
+    random.pick(&[Mode::Plain, Mode::Even])
+}
+
 /// The image, patched once before or damaged, or as it was made.
 fn prepared(random: &mut Random, made: Made) -> Option<(Layout, Vec<u8>)> {
     let layout = made.layout;
@@ -238,10 +244,10 @@ fn prepared(random: &mut Random, made: Made) -> Option<(Layout, Vec<u8>)> {
         return Some((layout, damage(random, &made)?));
     }
     if random.one_in(4) {
-        let of = random.pick(&VALUES);
-        let call = string_call(random, Kind::ById, layout, &made.image, of)?;
+        let (mode, of) = (mode(random), random.pick(&VALUES));
+        let call = string_call(random, (Kind::ById, mode), layout, &made.image, of)?;
         let answer = call.answer();
-        let at = answer.buffer.len() - super::room(&call);
+        let at = answer.buffer.len() - super::patch(&call).room;
         let length = answer.results[0] as usize;
         if answer.status == 0 {
             return Some((layout, answer.buffer[at..at + length].to_vec()));
@@ -258,7 +264,7 @@ fn drawn(random: &mut Random, layout: Layout, shape: Shape) -> Option<Call> {
         return body_call(random, made, length);
     }
     let (layout, image) = prepared(random, made)?;
-    let kind = string_kind(random);
+    let kind = (string_kind(random), mode(random));
     let of = random.pick(&VALUES);
     string_call(random, kind, layout, &image, of)
 }
@@ -269,6 +275,7 @@ pub fn random(random: &mut Random) -> Call {
         let shape = match random.below(400) {
             0 => LARGE,
             1..25 => MIDDLE,
+            25..275 => ODD,
             _ => SMALL,
         };
         if let Some(call) = drawn(random, layout, shape) {
@@ -277,19 +284,13 @@ pub fn random(random: &mut Random) -> Call {
     }
 }
 
-/// The departures' inputs, then each layout with each kind of value and each length of a body.
+/// The departures' inputs, then each layout with each kind of value and each length of a body; then the even mode.
 pub fn fixed() -> Vec<Call> {
     let mut random = Random(32);
     let mut calls: Vec<Call> =
         small::shown().into_iter().filter_map(|shown| shown.call()).collect();
     for layout in LAYOUTS {
-        for (kind, of) in VALUES.iter().flat_map(|of| [(Kind::ById, *of), (Kind::ByValue, *of)]) {
-            let tries = std::iter::repeat_with(|| {
-                let image = make(&mut random, layout, SMALL).image;
-                string_call(&mut random, kind, layout, &image, of)
-            });
-            calls.extend(tries.take(100).flatten().take(3));
-        }
+        calls.extend(fixed_strings(&mut random, Mode::Plain, layout, SMALL, 3));
         for length in LENGTHS {
             let most = if matches!(length, Length::AtTheField) { 1 } else { 6 };
             let tries = std::iter::repeat_with(|| {
@@ -298,6 +299,29 @@ pub fn fixed() -> Vec<Call> {
             });
             calls.extend(tries.take(100).flatten().take(most));
         }
+    }
+    calls.extend(odd::fixed());
+    for layout in LAYOUTS {
+        calls.extend(fixed_strings(&mut random, Mode::Even, layout, ODD, 1));
+    }
+    calls
+}
+
+/// Some patches of strings of a layout, by id and by value, for each kind of value.
+fn fixed_strings(
+    random: &mut Random,
+    mode: Mode,
+    layout: Layout,
+    shape: Shape,
+    most: usize,
+) -> Vec<Call> {
+    let mut calls = vec![];
+    for (kind, of) in VALUES.iter().flat_map(|of| [(Kind::ById, *of), (Kind::ByValue, *of)]) {
+        let tries = std::iter::repeat_with(|| {
+            let image = make(random, layout, shape).image;
+            string_call(random, (kind, mode), layout, &image, of)
+        });
+        calls.extend(tries.take(100).flatten().take(most));
     }
     calls
 }

@@ -1,12 +1,14 @@
 //! The answer of a patch that document 01 asks for. Refusals are a second reading of the paper; the image
 //! of a patch that is accepted is the Rust's. Then the Rust's own answer is held to it: it is that answer,
-//! or one of the departures that the paper lists, recognised as exactly that.
+//! or one of the departures that the paper lists, recognised as exactly that. The even mode of document 02
+//! has a judge of its own.
 
 use super::rust::{self, Rust};
-use super::texts;
+use super::{even, texts};
 use super::{Kind, Patch};
 use crate::image::layout::{word, FUNCTIONS};
 use crate::image::reading::{Function, Reading};
+use crate::job::packing::Mode;
 
 const LIMIT: u64 = 67_108_864;
 /// The largest value of a small record's offset and info.
@@ -56,7 +58,7 @@ fn departed(answer: Result<Vec<u8>, u32>, departure: Departure) -> Judgement {
     Judgement { answer, departure: Some(departure) }
 }
 
-fn unlisted() -> Judgement {
+pub fn unlisted() -> Judgement {
     agreed(Err(UNLISTED))
 }
 
@@ -69,7 +71,10 @@ fn refused(number: u32, as_stated: bool, departure: Option<Departure>) -> Judgem
 }
 
 pub fn judge(patch: &Patch) -> Judgement {
-    let reading = Reading { layout: patch.layout, image: patch.image, slip: None };
+    if patch.mode == Mode::Even {
+        return even::judge(patch);
+    }
+    let reading = patch.reading();
     match reading.refusal() {
         0 if patch.kind == Kind::Body => judge_body(patch, &reading),
         0 => judge_string(patch, &reading),
@@ -95,8 +100,7 @@ fn judge_string(patch: &Patch, reading: &Reading) -> Judgement {
         let answer = by_id(patch, reading, patch.id as usize, new);
         return held(answer, reading, patch.id, new, rust::by_id(reading, patch.id, new));
     }
-    let units: Vec<u16> = old.encode_utf16().collect();
-    let found = strings.iter().position(|string| texts::units(reading, string) == units);
+    let found = texts::lowest(reading, old);
     let decodes = |string| String::from_utf16_lossy(&texts::units(reading, string)) == old;
     let decoded = strings.iter().position(decodes);
     let answer = match found {

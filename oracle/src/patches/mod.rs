@@ -1,8 +1,10 @@
 //! Calls 32 to 34: the patches, by the Rust on a file that the judge parses, and by a second reading of
-//! document 01 for what is refused.
+//! document 01 for what is refused; those in the even mode, which the Rust has not, by one of document 02.
 
 pub mod draw;
+pub mod even;
 pub mod judgement;
+pub mod odd;
 pub mod parsed;
 mod rust;
 pub mod small;
@@ -11,6 +13,8 @@ mod texts;
 use crate::family::Argument::*;
 use crate::family::{Answered, Family, Function};
 use crate::image::layout::Layout;
+use crate::image::reading::Reading;
+use crate::job::packing::{Mode, Slip};
 use crate::stream::{Call, ARGUMENTS};
 use judgement::{judge, Departure};
 
@@ -34,8 +38,16 @@ pub enum Kind {
     Body,
 }
 
+/// The modes of a kind of patch, each by its word.
+fn modes(kind: Kind) -> &'static [Mode] {
+    match kind {
+        Kind::Body => &[Mode::Plain],
+        _ => &[Mode::Plain, Mode::Even],
+    }
+}
+
 macro_rules! function {
-    ($number:literal, $name:literal, $kind:ident) => {
+    ($number:literal, $name:literal, $kind:ident $(, $mode:expr)?) => {
         Function {
             number: $number,
             name: $name,
@@ -45,6 +57,7 @@ macro_rules! function {
                 Word("length of the old value"),
                 Word("length of the new value or body"),
                 Word("length of the image"),
+                $($mode,)?
             ],
             run: |a, buffer| run(Kind::$kind, a, buffer),
         }
@@ -52,16 +65,17 @@ macro_rules! function {
 }
 
 static FUNCTIONS: [Function; 3] = [
-    function!(32, "patch_string_by_id", ById),
-    function!(33, "patch_string_replace", ByValue),
+    function!(32, "patch_string_by_id", ById, Flag("even")),
+    function!(33, "patch_string_replace", ByValue, Flag("even")),
     function!(34, "patch_function_bytes", Body),
 ];
 
 /// A patch: what the buffer of a call holds before its output, and the output's length. By id and in a
-/// body patch there is no old value.
+/// body patch there is no old value; a body patch is plain.
 #[derive(Clone, Copy)]
 pub struct Patch<'a> {
     pub kind: Kind,
+    pub mode: Mode,
     pub layout: Layout,
     pub id: u32,
     pub old: &'a [u8],
@@ -75,7 +89,12 @@ impl Patch<'_> {
         let (old, rest) = buffer.split_at(a[2] as usize);
         let (new, rest) = rest.split_at(a[3] as usize);
         let (image, out) = rest.split_at(a[4] as usize);
-        Patch { kind, layout: Layout(a[0] as u8), id: a[1], old, new, image, room: out.len() }
+        let mode = modes(kind)[a[5] as usize];
+        Patch { kind, mode, layout: Layout(a[0] as u8), id: a[1], old, new, image, room: out.len() }
+    }
+
+    fn reading(&self) -> Reading<'_> {
+        Reading { layout: self.layout, image: self.image, slip: None }
     }
 
     /// The call, with bytes that fill its room. None where it is too long for a call.
@@ -85,7 +104,8 @@ impl Patch<'_> {
             return None;
         }
         let lengths = [self.old, self.new, self.image].map(|part| part.len() as u32);
-        let arguments = [&[self.layout.0.into(), self.id], &lengths[..]].concat();
+        let mode = (self.mode == Mode::Even).into();
+        let arguments = [&[self.layout.0.into(), self.id], &lengths[..], &[mode]].concat();
         let function = &FUNCTIONS[self.kind as usize];
         Some(Call::new(function, &arguments, [inputs, out].concat()))
     }
@@ -99,13 +119,18 @@ fn run(kind: Kind, a: &[u32; ARGUMENTS], buffer: &mut [u8]) -> Answered {
     Ok(vec![image.len() as u32])
 }
 
-/// The length of a call's output.
-fn room(call: &Call) -> usize {
-    Patch::of(Kind::ById, &call.arguments, &call.buffer).room
+fn patch(call: &Call) -> Patch<'_> {
+    let kind = [Kind::ById, Kind::ByValue, Kind::Body][call.function.number as usize - 32];
+    Patch::of(kind, &call.arguments, &call.buffer)
 }
 
 /// The departure of the Rust that a call shows.
 pub fn departure(call: &Call) -> Option<Departure> {
-    let kind = [Kind::ById, Kind::ByValue, Kind::Body][call.function.number as usize - 32];
-    judge(&Patch::of(kind, &call.arguments, &call.buffer)).departure
+    judge(&patch(call)).departure
+}
+
+/// Whether the second reading with a slip answers a call otherwise.
+pub fn finds(call: &Call, slip: Slip) -> bool {
+    let patch = patch(call);
+    patch.kind != Kind::Body && even::read(&patch, None) != even::read(&patch, Some(slip))
 }

@@ -3,33 +3,34 @@
 use super::judgement::{judge, Departure, Judgement};
 use super::{Kind, Patch};
 use crate::image::layout::*;
+use crate::job::packing::Mode;
 use crate::leaves::record::{self, set_pointer};
 use crate::stream::Call;
 
 /// An image with nothing in it but what is stated; all other bytes are 0.
 #[derive(Clone, Default)]
-struct Plain {
-    layout: u8,
+pub struct Bare {
+    pub layout: u8,
     /// Wide, identifier, offset in storage, count.
-    strings: Vec<(bool, bool, usize, usize)>,
-    storage: Vec<u8>,
-    functions: Vec<Places>,
+    pub strings: Vec<(bool, bool, usize, usize)>,
+    pub storage: Vec<u8>,
+    pub functions: Vec<Places>,
     /// The bytes between the start of the tail and the footer.
-    tail: usize,
-    debug: Option<usize>,
+    pub tail: usize,
+    pub debug: Option<usize>,
 }
 
 /// The places of a function, counted from the tail.
 #[derive(Clone, Copy, Default)]
-struct Places {
-    header: Option<usize>,
-    body: usize,
-    size: usize,
-    info: Option<usize>,
+pub struct Places {
+    pub header: Option<usize>,
+    pub body: usize,
+    pub size: usize,
+    pub info: Option<usize>,
 }
 
-impl Plain {
-    fn image(&self) -> Vec<u8> {
+impl Bare {
+    pub fn image(&self) -> Vec<u8> {
         let layout = Layout(self.layout);
         let identifiers = self.strings.iter().filter(|string| string.1).count();
         let kinds_at = HEADER + layout.record() * self.functions.len();
@@ -108,7 +109,7 @@ impl Shown {
         name: &'static str,
         departure: Departure,
         kind: Kind,
-        image: &Plain,
+        image: &Bare,
         new: &[u8],
     ) -> Shown {
         let (layout, image) = (image.layout, image.image());
@@ -128,7 +129,8 @@ impl Shown {
         let (kind, old, new, image) = (self.kind, &self.old, &self.new, &self.image);
         // Enough for every one that is accepted; what is huge is refused before 13.
         let room = if image.len() > 60_000 { 0 } else { image.len() + 64 };
-        Patch { kind, layout: Layout(self.layout), id: 0, old, new, image, room }
+        let (mode, layout) = (Mode::Plain, Layout(self.layout));
+        Patch { kind, mode, layout, id: 0, old, new, image, room }
     }
 
     pub fn call(&self) -> Option<Call> {
@@ -141,13 +143,13 @@ impl Shown {
     }
 }
 
-fn narrow(text: &str) -> Plain {
+fn narrow(text: &str) -> Bare {
     let strings = vec![(false, false, 0, text.len())];
-    Plain { strings, storage: text.into(), ..Plain::default() }
+    Bare { strings, storage: text.into(), ..Bare::default() }
 }
 
-fn functions(layout: u8, functions: &[Places], tail: usize) -> Plain {
-    Plain { layout, functions: functions.to_vec(), tail, ..Plain::default() }
+fn functions(layout: u8, functions: &[Places], tail: usize) -> Bare {
+    Bare { layout, functions: functions.to_vec(), tail, ..Bare::default() }
 }
 
 fn body(body: usize, size: usize) -> Places {
@@ -171,7 +173,7 @@ pub fn shown() -> Vec<Shown> {
     wide.strings.push((true, false, 0, 1));
     all.push(Shown::new("wide entry overlapped", WideOverlapIgnored, Kind::ById, &wide, b"cd"));
     let lone =
-        Plain { strings: vec![(true, false, 0, 1)], storage: vec![0x00, 0xd8], ..Plain::default() };
+        Bare { strings: vec![(true, false, 0, 1)], storage: vec![0x00, 0xd8], ..Bare::default() };
     let mut decoded =
         Shown::new("decoded text compared", DecodedTextCompared, Kind::ByValue, &lone, b"");
     decoded.old = "\u{fffd}".into();
@@ -185,11 +187,11 @@ fn bodies() -> Vec<Shown> {
     use Departure::*;
     let info = Places { info: Some(0), ..body(0, 1) };
     let header = Places { header: Some(0), ..body(2, 0) };
-    let with_debug = |layout: u8, of: &[Places], tail: usize, debug: usize| Plain {
+    let with_debug = |layout: u8, of: &[Places], tail: usize, debug: usize| Bare {
         debug: Some(debug),
         ..functions(layout, of, tail)
     };
-    let show = |name, departure, image: &Plain, new: &[u8]| {
+    let show = |name, departure, image: &Bare, new: &[u8]| {
         Shown::new(name, departure, Kind::Body, image, new)
     };
     vec![
@@ -230,11 +232,11 @@ fn bodies() -> Vec<Shown> {
 /// image, or with bodies past 33,554,431.
 fn huge() -> Vec<Shown> {
     use Departure::*;
-    let shared = |strings: usize, size: usize| Plain {
+    let shared = |strings: usize, size: usize| Bare {
         strings: vec![(false, false, 0, size); strings],
         storage: vec![b'a'; size],
         functions: vec![body(0, 0)],
-        ..Plain::default()
+        ..Bare::default()
     };
     vec![
         Shown::new("result over the limit", NoSizeLimit, Kind::ById, &shared(2_400, 28_000), b""),

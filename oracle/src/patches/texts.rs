@@ -18,6 +18,12 @@ pub fn units(reading: &Reading, string: &Stored) -> Vec<u16> {
     }
 }
 
+/// The lowest id of a string with the units of a value.
+pub fn lowest(reading: &Reading, value: &str) -> Option<usize> {
+    let wanted: Vec<u16> = value.encode_utf16().collect();
+    reading.strings().iter().position(|string| units(reading, string) == wanted)
+}
+
 /// For each string whether it is an identifier: "kinds cover the ids in order".
 pub fn identifiers(reading: &Reading) -> Vec<bool> {
     let kinds = reading.places().kinds as usize;

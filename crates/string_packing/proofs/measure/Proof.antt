@@ -8,15 +8,15 @@ use Rattle.string_packing.specs.Pass.{Reached}
 use Rattle.string_packing.proofs.PassLaws.{measured}
 
 abbrev Inv-loop : tie.InvT-loop
-Inv-loop image p id new c₀ c = (c .old .id ≤ p .strings) × Reached p image id new c
+Inv-loop image p mode id new c₀ c = (c .old .id ≤ p .strings) × Reached mode p image id new c
 
 abbrev μ-loop : tie.MeasureT-loop
-μ-loop image p id new c₀ c = p .strings - c .old .id
+μ-loop image p mode id new c₀ c = p .strings - c .old .id
 
 loop-holds : tie.Need-loop-holds Inv-loop μ-loop
 loop-holds c =
     let e = c .nothing-packed .ensures in
-    (omega (arith, e .1), e .0 _ _ (c .before .before .pre .0 .placed) _ _)
+    (omega (arith, e .1), e .0 _ _ _ (c .before .before .pre .0 .placed) _ _)
 
 take-turn-requires : tie.Need-take-turn-requires Inv-loop μ-loop
 take-turn-requires c κs =
@@ -35,7 +35,7 @@ loop-again c =
 returns : tie.Need-returns Inv-loop μ-loop
 returns c =
     let at-loop = c .before .before .before in
-    measured _ _ _ _ _ (omega (arith, at-loop .loop .inv .0, c .if1 .left)) (at-loop .loop .inv .1)
+    measured _ _ _ _ _ _ (omega (arith, at-loop .loop .inv .0, c .if1 .left)) (at-loop .loop .inv .1)
 
 pub measure-spec : {M : Type 1} → statement M
 measure-spec =

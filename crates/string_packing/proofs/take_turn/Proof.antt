@@ -3,44 +3,47 @@ use borrow.Author.Needs.{needs}
 use Rattle.string_packing.proofs.take_turn.Statement.{statement}
 use Rattle.string_packing.proofs.take_turn.Tie as tie
 use native.Mathlib.Omega.{arith}
-use Rattle.string_packing.proofs.PassLaws.{strings-few, count-small, turned}
+use Rattle.string_packing.proofs.PassLaws.{PlaceFound, strings-few, count-small, turned}
 
-add-t14 : tie.Need-add-t14
-add-t14 c =
-    let start = c .before .before .before .before .before .before .before .before .before .before in
-    let q = start .pre in
-    omega (arith, strings-few _ _ _ _ _ q, q .known, q .reached .few)
+-- what is known of the new place
+found : (c : tie.After-new-place) → let at-string = c .before .before .before in
+    let a = at-string .before .before .before .args in
+    PlaceFound (a .mode) (a .p) (a .image .now) (a .id) (a .new) (a .c) (at-string .string-at .result) (c .new-place .result)
+found c =
+    let at-string = c .before .before .before in
+    let e = c .new-place .ensures in
+    record {
+      turn = at-string .before .before .before .pre;
+      visits = at-string .string-at .ensures;
+      new = e .0;
+      near = e .1 .1;
+    }
+
+new-place-requires : tie.Need-new-place-requires
+new-place-requires c κs =
+    let q = c .before .before .before .before .before .pre in
+    omega (arith, strings-few _ _ _ _ _ _ q, q .known, q .reached .low)
+
+add-over : tie.Need-add-over
+add-over c =
+    let q = c .before .before .before .before .before .before .before .before .before .before .pre in
+    omega (arith, strings-few _ _ _ _ _ _ q, q .known, q .reached .few)
 
 size-of-requires : tie.Need-size-of-requires
-size-of-requires c κs =
-    let at-new-place = c .before .before .before .before in
-    let at-string = at-new-place .before .before .before in
-    let q = at-string .before .before .before .pre in
-    omega (
-      arith,
-      count-small _ _ _ _ _ _ _ (record { turn = q; visits = at-string .string-at .ensures; new = at-new-place .new-place .ensures }),
-    )
+size-of-requires c κs = omega (arith, count-small _ _ _ _ _ _ _ _ (found (c .before .before .before .before)))
 
-add-t16 : tie.Need-add-t16
-add-t16 c =
-    let at-new-place = c .before .before .before .before .before .before in
-    let at-string = at-new-place .before .before .before in
-    let q = at-string .before .before .before .pre in
-    let few = strings-few _ _ _ _ _ q in
-    let small =
-    count-small _ _ _ _ _ _ _ (record { turn = q; visits = at-string .string-at .ensures; new = at-new-place .new-place .ensures }) in
-    omega (arith, few, q .known, q .reached .low, small)
+add-at : tie.Need-add-at
+add-at c =
+    let f = found (c .before .before .before .before .before .before) in
+    let q = f .turn in
+    omega (arith, strings-few _ _ _ _ _ _ q, q .known, q .reached .low, f .near, count-small _ _ _ _ _ _ _ _ f)
 
 returns : tie.Need-returns
 returns c =
     let at-size = c .before in
     let at-if-set = at-size .before .before in
     let at-is-over = at-if-set .before in
-    let at-new-place = at-is-over .before .before in
-    let at-string = at-new-place .before .before .before in
-    let q = at-string .before .before .before .pre in
-    turned _ _ _ _ _ _ _
-    (record { turn = q; visits = at-string .string-at .ensures; new = at-new-place .new-place .ensures }) _ _ _
+    turned _ _ _ _ _ _ _ _ (found (at-is-over .before .before)) _ _ _
     (record {
       overflows = at-is-over .is-over .ensures;
       entries = at-if-set .if-set .ensures .0;
@@ -52,5 +55,5 @@ returns c =
 pub take-turn-spec : {M : Type 1} → statement M
 take-turn-spec =
     tie.close
-    (tie.spec (λ c κs. search needs) (λ c κs. search needs) (λ c κs. search needs) (λ c κs. search needs) add-t14 size-of-requires
-    add-t16 returns)
+    (tie.spec (λ c κs. search needs) new-place-requires (λ c κs. search needs) (λ c κs. search needs) add-over size-of-requires add-at
+    returns)

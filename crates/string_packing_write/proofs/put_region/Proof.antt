@@ -8,7 +8,7 @@ put-strings-requires : tie.Need-put-strings-requires
 put-strings-requires c κs =
     let start = c .before .before .before .before .before in
     let q = start .pre in
-    let room = roomy _ _ _ _ _ _ _ q _ (c .before .entry-at .ensures) in
+    let room = roomy _ _ _ _ _ _ _ _ q _ (c .before .entry-at .ensures) in
     record { laid = q .laid; small = q .small; shaped = q .shaped; roomy = room }
 
 returns : tie.Need-returns
@@ -19,7 +19,7 @@ returns c =
     let start = at-entry-at .before .before .before .before in
     let a = start .args in
     let q = start .pre in
-    region-put (a .p) (a .image .now) (a .value .now) (a .id) (a .new) (a .sizes) _ q _ (at-entry-at .entry-at .ensures) _
+    region-put (a .mode) (a .p) (a .image .now) (a .value .now) (a .id) (a .new) (a .sizes) _ q _ (at-entry-at .entry-at .ensures) _
     (a .out .now) _ _
     (record {
       strings = at-put-strings .put-strings .ensures;

@@ -13,12 +13,12 @@ use Rattle.string_packing_write.proofs.RegionLaws.{laid-none}
 use Rattle.string_packing_write.proofs.PutLaws.{laid-further, all-strings}
 
 abbrev Inv-loop : tie.InvT-loop
-Inv-loop out₀ image value p to id new c₀ out c =
-    (c .old .id ≤ p .strings) × (length out ≡ length out₀) × Reached p image id new c
-    × (out ≡ regionPut to (c .old .id) (firsts (p .layout) image id (asString value) (c .old .id)) out₀)
+Inv-loop out₀ image value p mode to id new c₀ out c =
+    (c .old .id ≤ p .strings) × (length out ≡ length out₀) × Reached mode p image id new c
+    × (out ≡ regionPut to (c .old .id) (firsts mode (p .layout) image id (asString value) (c .old .id)) out₀)
 
 abbrev μ-loop : tie.MeasureT-loop
-μ-loop out₀ image value p to id new c₀ out c = p .strings - c .old .id
+μ-loop out₀ image value p mode to id new c₀ out c = p .strings - c .old .id
 
 loop-holds : tie.Need-loop-holds Inv-loop μ-loop
 loop-holds c =
@@ -27,8 +27,8 @@ loop-holds c =
     let e = c .nothing-packed .ensures in (
       omega (arith, e .1),
       refl,
-      e .0 _ _ (start .pre .laid .placed) _ _,
-      rw (e .1) (laid-none (a .to) (stringWith (a .p .layout) (a .image .now) (a .id) (asString (a .value .now))) (a .out .now)),
+      e .0 _ _ _ (start .pre .laid .placed) _ _,
+      rw (e .1) (laid-none (a .mode) (a .to) (stringWith (a .p .layout) (a .image .now) (a .id) (asString (a .value .now))) (a .out .now)),
     )
 
 put-string-requires : tie.Need-put-string-requires Inv-loop μ-loop
@@ -51,13 +51,13 @@ loop-again c =
     let q = start .pre in
     let v = at-loop .loop .inv in
     let e = at-put .put-string .ensures in
-    let it : InTurn (start .args .p) (start .args .image .now) (start .args .id) (start .args .new) (at-loop .loop .c)
+    let it : InTurn (start .args .mode) (start .args .p) (start .args .image .now) (start .args .id) (start .args .new) (at-loop .loop .c)
     = record { laid = q .laid; known = at-if .if1 .taken; reached = v .2; small = q .small } in (
       omega (arith, e .0 .0, at-if .if1 .taken),
       at-put .put-string .kept .0 ∙ v .1,
       e .0 .1,
       rw (e .0 .0)
-          (laid-further _ _ (start .args .value .now) _ _ _ _ _ (record { turn = it; shaped = q .shaped; roomy = q .roomy })
+          (laid-further _ _ _ (start .args .value .now) _ _ _ _ _ (record { turn = it; shaped = q .shaped; roomy = q .roomy })
           (start .args .out .now) _ _ (v .3) (e .1)),
     )
 
@@ -69,7 +69,7 @@ returns c =
     let at-loop = c .before .before .before in
     let start = at-loop .before .before .before .before .before in
     let v = at-loop .loop .inv in
-    all-strings _ _ (start .pre .laid .placed) _ _ _ (omega (arith, v .0, c .if1 .left)) _ (start .args .out .now) _ (v .3)
+    all-strings _ _ _ (start .pre .laid .placed) _ _ _ (omega (arith, v .0, c .if1 .left)) _ (start .args .out .now) _ (v .3)
 
 pub put-strings-spec : {M : Type 1} → statement M
 put-strings-spec =

@@ -11,7 +11,7 @@ copy-around-requires c κs =
     let start = c .before .before .before .before in
     let a = start .args in
     let q = start .pre .0 in
-    around-room (a .p) (a .image .now) (a .value .now) (a .id) (a .new) (a .sizes) (a .tail) _ q
+    around-room (a .mode) (a .p) (a .image .now) (a .value .now) (a .id) (a .new) (a .sizes) (a .tail) _ q
 
 put-region-requires : tie.Need-put-region-requires
 put-region-requires c κs =
@@ -19,7 +19,7 @@ put-region-requires c κs =
     let start = at-copy-around .before .before .before .before .before in
     let a = start .args in
     let q = start .pre .0 in
-    let r = region-room (a .p) (a .image .now) (a .value .now) (a .id) (a .new) (a .sizes) (a .tail) _ q in
+    let r = region-room (a .mode) (a .p) (a .image .now) (a .value .now) (a .id) (a .new) (a .sizes) (a .tail) _ q in
     record {
       laid = q .asked .laid;
       small = q .small;
@@ -37,7 +37,7 @@ put-counts-requires c κs =
     let a = start .args in
     let q = start .pre .0 in
     rw (at-put-region .put-region .kept .0, at-copy-around .copy-around .kept .0)
-    (header-room (a .p) (a .image .now) (a .value .now) (a .id) (a .new) (a .sizes) (a .tail) _ q)
+    (header-room (a .mode) (a .p) (a .image .now) (a .value .now) (a .id) (a .new) (a .sizes) (a .tail) _ q)
 
 relocate-requires : tie.Need-relocate-requires
 relocate-requires c κs =
@@ -48,7 +48,7 @@ relocate-requires c κs =
     let a = start .args in
     let q = start .pre .0 in
     rw (at-put-counts .put-counts .kept .0, at-put-region .put-region .kept .0, at-copy-around .copy-around .kept .0)
-    (movable (a .p) (a .image .now) (a .value .now) (a .id) (a .new) (a .sizes) (a .tail) _ q)
+    (movable (a .mode) (a .p) (a .image .now) (a .value .now) (a .id) (a .new) (a .sizes) (a .tail) _ q)
 
 finish-requires : tie.Need-finish-requires
 finish-requires c κs =
@@ -66,7 +66,7 @@ finish-requires c κs =
       at-copy-around .copy-around .kept .0,
     )
     (finishable _ _ _ _ _
-    (slotted (a .p) (a .image .now) (a .value .now) (a .id) (a .new) (a .sizes) (a .tail) _ q (a .own) (start .pre .1)))
+    (slotted (a .mode) (a .p) (a .image .now) (a .value .now) (a .id) (a .new) (a .sizes) (a .tail) _ q (a .own) (start .pre .1)))
 
 returns : tie.Need-returns
 returns c =
@@ -77,7 +77,7 @@ returns c =
     let start = at-copy-around .before .before .before .before .before in
     let a = start .args in
     let q = start .pre .0 in
-    patch-put (a .p) (a .image .now) (a .value .now) (a .id) (a .new) (a .sizes) (a .tail) _ q
+    patch-put (a .mode) (a .p) (a .image .now) (a .value .now) (a .id) (a .new) (a .sizes) (a .tail) _ q
     (record {
       fits = refl;
       around = at-copy-around .copy-around .ensures;

@@ -15,7 +15,7 @@ use Rattle.string_rebuild.proofs.JudgeLaws.{Gauged, FieldsTested, huge,
 
 gauged : (c : tie.After-new-tail) → let at-shape-of = c .before .before .before .before in
     let a = at-shape-of .before .before .before .before .args in
-    Gauged (a .p) (a .image .now) (a .value .now) (a .id) (at-shape-of .shape-of .result) (c .before .measure .result)
+    Gauged (a .mode) (a .p) (a .image .now) (a .value .now) (a .id) (at-shape-of .shape-of .result) (c .before .measure .result)
     (c .new-tail .result)
 gauged c =
     let at-shape-of = c .before .before .before .before in
@@ -30,8 +30,8 @@ gauged c =
 tested : (c : tie.After-fields-fit) → let at-new-tail = c .before .before .before in
     let at-shape-of = at-new-tail .before .before .before .before in
     let a = at-shape-of .before .before .before .before .args in
-    FieldsTested (a .p) (a .image .now) (a .value .now) (a .id) (at-shape-of .shape-of .result) (at-new-tail .before .measure .result)
-    (at-new-tail .new-tail .result) (c .fields-fit .result)
+    FieldsTested (a .mode) (a .p) (a .image .now) (a .value .now) (a .id) (at-shape-of .shape-of .result)
+    (at-new-tail .before .measure .result) (at-new-tail .new-tail .result) (c .fields-fit .result)
 tested c =
     record {
       before = gauged (c .before .before .before);
@@ -47,7 +47,7 @@ returns c =
     let a = start .args in
     let q = start .pre .0 in
     refuses _ 11 (a .out .now)
-    (huge (a .p) (a .image .now) (a .value .now) (a .id) q _ (c .before .before .shape-of .ensures) (c .if1 .taken))
+    (huge (a .mode) (a .p) (a .image .now) (a .value .now) (a .id) q _ (c .before .before .shape-of .ensures) (c .if1 .taken))
 
 measure-requires : tie.Need-measure-requires
 measure-requires c κs =
@@ -60,7 +60,7 @@ new-tail-requires c κs =
     let start = c .before .before .before .before .before .before .before in
     let a = start .args in
     let q = start .pre .0 in
-    low (a .p) (a .image .now) (a .value .now) (a .id) q _ _ (c .measure .ensures)
+    low (a .mode) (a .p) (a .image .now) (a .value .now) (a .id) q _ _ (c .measure .ensures)
 
 sub-n : tie.Need-sub-n
 sub-n c =
@@ -76,11 +76,11 @@ add-n c =
     let a = start .args in
     let q = start .pre .0 in
     let z = sectioned (a .p) (a .image .now) (q .laid .placed) in
-    omega
-    (arith, c .before .new-tail .ensures, low (a .p) (a .image .now) (a .value .now) (a .id) q _ _ (c .before .before .measure .ensures))
+    let b = low (a .mode) (a .p) (a .image .now) (a .value .now) (a .id) q _ _ (c .before .before .measure .ensures) in
+    omega (arith, c .before .new-tail .ensures, b)
 
 returns-2 : tie.Need-returns-2
-returns-2 c = over-limit _ _ _ _ _ _ _ (gauged (c .before .before)) _ (c .if2 .taken)
+returns-2 c = over-limit _ _ _ _ _ _ _ _ (gauged (c .before .before)) _ (c .if2 .taken)
 
 fields-fit-requires : tie.Need-fields-fit-requires
 fields-fit-requires c κs =
@@ -91,10 +91,10 @@ fields-fit-requires c κs =
     (q .laid, omega (arith, c .if2 .left))
 
 returns-3 : tie.Need-returns-3
-returns-3 c = no-field _ _ _ _ _ _ _ _ (tested (c .before)) _ (c .if3 .taken)
+returns-3 c = no-field _ _ _ _ _ _ _ _ _ (tested (c .before)) _ (c .if3 .taken)
 
 returns-4 : tie.Need-returns-4
-returns-4 c = room-short _ _ _ _ (makes _ _ _ _ _ _ _ _ (tested (c .before .before)) (c .before .if3 .left)) (c .if4 .taken)
+returns-4 c = room-short _ _ _ _ (makes _ _ _ _ _ _ _ _ _ (tested (c .before .before)) (c .before .if3 .left)) (c .if4 .taken)
 
 put-rebuilt-requires : tie.Need-put-rebuilt-requires
 put-rebuilt-requires c κs =
@@ -124,7 +124,7 @@ returns-5 : tie.Need-returns-5
 returns-5 c =
     let at-if4 = c .before .before .before .before in
     let at-if3 = at-if4 .before in
-    room-written _ _ _ _ (makes _ _ _ _ _ _ _ _ (tested (at-if3 .before)) (at-if3 .if3 .left)) (omega (arith, at-if4 .if4 .left)) _ _
+    room-written _ _ _ _ (makes _ _ _ _ _ _ _ _ _ (tested (at-if3 .before)) (at-if3 .if3 .left)) (omega (arith, at-if4 .if4 .left)) _ _
     (c .before .before .put-rebuilt .ensures)
 
 pub rebuild-spec : {M : Type 1} → statement M

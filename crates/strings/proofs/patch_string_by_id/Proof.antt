@@ -12,7 +12,8 @@ returns : tie.Need-returns
 returns c =
     let at-admit = c .before .before .before in
     let a = at-admit .before .before .before .before .args in
-    id-refused _ _ _ (at-admit .admit .ensures) (a .id) (a .value .now) (a .out .now) _ _ (c .before .enum-told .given .1)
+    id-refused _ _ _ (at-admit .admit .ensures) (a .mode) (a .id) (a .value .now) (a .out .now) _ _
+    (c .before .enum-told .given .1)
     (c .number-of .ensures)
 
 locate-requires : tie.Need-locate-requires
@@ -29,7 +30,7 @@ returns-2 c =
     let at-admitted = at-locate .before .before in
     let at-admit = at-admitted .before .before in
     let a = at-admit .before .before .before .before .args in
-    id-absent _ _ _ _ (a .id) (a .value .now) (a .out .now) _
+    id-absent _ _ _ _ _ (a .id) (a .value .now) (a .out .now) _
     (record {
       admits = record { is = at-admit .admit .ensures; laid = at-admitted .admitted .given .1 };
       location = at-locate .locate .ensures;
@@ -44,7 +45,7 @@ returns-3 c =
     let at-admit = at-admitted .before .before in
     let a = at-admit .before .before .before .before .args in
     let found = located-at _ _ _ _ _ (at-locate .locate .ensures) _ _ _ (at-location .location .given .1) in
-    id-value _ _ _ _ (a .id) (a .value .now) (a .out .now) _
+    id-value _ _ _ _ _ (a .id) (a .value .now) (a .out .now) _
     (record {
       admits = record { is = at-admit .admit .ensures; laid = at-admitted .admitted .given .1 };
       known = found .1;
@@ -71,7 +72,7 @@ returns-4 c =
     let at-admit = at-admitted .before .before in
     let a = at-admit .before .before .before .before .args in
     let found = located-at _ _ _ _ _ (at-locate .locate .ensures) _ _ _ (at-location .location .given .1) in
-    id-known _ _ _ _ (a .id) (a .value .now) (a .out .now) _
+    id-known _ _ _ _ _ (a .id) (a .value .now) (a .out .now) _
     (record {
       admits = record { is = at-admit .admit .ensures; laid = at-admitted .admitted .given .1 };
       known = found .1;

@@ -13,7 +13,7 @@ returns : tie.Need-returns
 returns c =
     let at-admit = c .before .before .before in
     let a = at-admit .before .before .before .before .before .args in
-    value-refused _ _ _ (at-admit .admit .ensures) (a .old .now) (a .new .now) (a .out .now) _ _ (c .before .enum-told .given .1)
+    value-refused _ _ _ (at-admit .admit .ensures) (a .mode) (a .old .now) (a .new .now) (a .out .now) _ _ (c .before .enum-told .given .1)
     (c .number-of .ensures)
 
 -- ---- what is known behind each test
@@ -51,10 +51,10 @@ sought c =
 returns-2 : tie.Need-returns-2
 returns-2 c =
     let a = c .before .before .before .before .before .before .before .before .before .before .args in
-    old-value _ _ _ _ (a .old .now) (a .new .now) (a .out .now) _ (old-tested (c .before)) (c .if1 .taken)
+    old-value _ _ _ _ _ (a .old .now) (a .new .now) (a .out .now) _ (old-tested (c .before)) (c .if1 .taken)
 
 returns-3 : tie.Need-returns-3
-returns-3 c = new-value _ _ _ _ _ _ _ _ _ (new-tested (c .before)) (c .if2 .taken)
+returns-3 c = new-value _ _ _ _ _ _ _ _ _ _ (new-tested (c .before)) (c .if2 .taken)
 
 find-requires : tie.Need-find-requires
 find-requires c κs =
@@ -66,7 +66,7 @@ find-requires c κs =
 
 returns-4 : tie.Need-returns-4
 returns-4 c =
-    value-absent _ _ _ _ _ _ _ _ _ _ (sought (c .before .before .before)) _ (c .before .enum-told2 .given .1) _ (c .number-of2 .ensures)
+    value-absent _ _ _ _ _ _ _ _ _ _ _ (sought (c .before .before .before)) _ (c .before .enum-told2 .given .1) _ (c .number-of2 .ensures)
 
 patch-known-requires : tie.Need-patch-known-requires
 patch-known-requires c κs =
@@ -85,7 +85,7 @@ returns-5 c =
     let at-find = at-location .before .before in
     let at-admit = at-find .before .before .before .before .before .before .before .before in
     let a = at-admit .before .before .before .before .before .args in
-    value-known _ _ _ _ _ _ (a .out .now) _ _ _ (sought at-find) _ _ _ (at-location .location .given .1) _ _
+    value-known _ _ _ _ _ _ _ (a .out .now) _ _ _ (sought at-find) _ _ _ (at-location .location .given .1) _ _
     (c .before .before .patch-known .ensures)
 
 pub patch-string-replace-spec : {M : Type 1} → statement M
