@@ -10,7 +10,7 @@
 // A patch that fits in place moves no string, and is the same in both.
 //
 // A function that writes answers the length of what it made, which is at the front of `out`, all later bytes as they were; or it
-// answers NEPULADRIM_REFUSED and the number of the refusal, as document 01 has it, and no byte is changed.
+// answers NEPULADRIM_REFUSED and the number of the refusal, as documents 01 and 02 have it, and no byte is changed.
 #ifndef NEPULADRIM_HBC_H
 #define NEPULADRIM_HBC_H
 
@@ -48,6 +48,19 @@ uint64_t nepuladrim_patch_string_by_id(const uint8_t *image, size_t image_length
 uint64_t nepuladrim_patch_string_replace(const uint8_t *image, size_t image_length, uint8_t layout, uint8_t mode,
                                          const uint8_t *old_value, size_t old_length, const uint8_t *new_value, size_t new_length,
                                          uint8_t *out, size_t out_length);
+
+// Strings become values in one pass: in place where each could be so on the image as it is given, else all strings are packed anew, once.
+// `ids` has the strings, `text` the values behind each other, which are UTF-8, and `ends` where each ends: value J is the text from the
+// end before it, the first one from 0, to ends[J]. `ids_length` and `ends_length` count words, and are the same; text behind the last end
+// is not looked at. The order of the list does not matter. With no ids the image gets its file length and footer. Where the same patches
+// by id one after the other are accepted, in the same mode, their last image is the one that is made here. What lies between is not
+// judged: a list may be taken though one of its single patches would meet a limit.
+// Refused with 15, for another layout or mode byte, or where there are not as many ends as ids, or an end is below the one before it or
+// past the text; 1 to 6; 7 for any id; 17 for any that is given twice, be it with the same value; 8 for any value; and 11, 12, 13 for
+// the image that would come out.
+uint64_t nepuladrim_patch_strings(const uint8_t *image, size_t image_length, uint8_t layout, uint8_t mode, const uint32_t *ids,
+                                  size_t ids_length, const uint8_t *text, size_t text_length, const uint32_t *ends,
+                                  size_t ends_length, uint8_t *out, size_t out_length);
 
 // The body of function `id` becomes other bytes. Refused with 15, 1 to 7, 9 to 13.
 uint64_t nepuladrim_patch_function_bytes(const uint8_t *image, size_t image_length, uint8_t layout, uint32_t id,

@@ -1,5 +1,6 @@
 // hbc demo: an image is built, patched, and listed before and after.
 #include "../hbc.h"
+#include "changes.h"
 #include "commands.h"
 #include "edits.h"
 #include "listing.h"

@@ -1,10 +1,9 @@
 #include "edits.h"
 
 #include "../hbc.h"
+#include "passes.h"
 #include "print.h"
 #include "refusals.h"
-#include "rows.h"
-#include "string_text.h"
 
 #include <stdlib.h>
 #include <string.h>
@@ -19,6 +18,12 @@ void add_edit(struct edits *edits, struct edit edit) {
 void free_edits(struct edits edits) {
     for (size_t i = 0; i < edits.count; i++) free(edits.at[i].value.at);
     free(edits.at);
+}
+
+bool is_among(const struct edit *edits, size_t count, const struct edit *edit) {
+    for (size_t i = 0; i < count; i++)
+        if (edits[i].kind == edit->kind && edits[i].id == edit->id) return true;
+    return false;
 }
 
 // ---- an edit that is refused
@@ -54,6 +59,20 @@ static void print_refused_edit(size_t place, const struct edit *edit, unsigned n
     print(stderr, ")\n");
 }
 
+// Of all edits of a pass together, the first of which has this place.
+static void print_refused_pass(size_t place, const struct edit *edits, size_t count, unsigned number, struct bytes image) {
+    char who[120];
+    uint64_t text = 0;
+    for (size_t i = 0; i < count; i++) text += edits[i].value.length;
+    snprintf(who, sizeof who, "the pass of edits %zu to %zu (%zu strings)", place, place + count - 1, count);
+    print_refusal(who, number);
+    print(stderr, " (what is to replace them has ");
+    print_count(stderr, text, "byte");
+    print(stderr, ", the image ");
+    print_count(stderr, image.length, "byte");
+    print(stderr, ")\n");
+}
+
 // ---- edits that are applied
 
 static uint64_t apply_edit(struct bytes image, uint8_t layout, uint8_t mode, const struct edit *edit, uint8_t *out) {
@@ -64,12 +83,24 @@ static uint64_t apply_edit(struct bytes image, uint8_t layout, uint8_t mode, con
                : nepuladrim_patch_string_by_id(image.at, image.length, layout, mode, edit->id, value, length, out, IMAGE_MOST);
 }
 
-// Applies the edits to an admitted image, which stands in a room as long as the spare one. The two change places with each.
+// Says which edit is refused, or that those of a pass are, the first of which has this place.
+static void print_refused(size_t place, const struct edit *edits, size_t count, unsigned number, struct bytes image, uint8_t layout,
+                          uint8_t *scratch) {
+    struct fault fault = {0, number};
+    if (count > 1) fault = fault_of(image, layout, edits, count);
+    if (fault.number) print_refused_edit(place + fault.edit, &edits[fault.edit], fault.number, image, layout, scratch);
+    else print_refused_pass(place, edits, count, number, image);
+}
+
+// Applies the edits to an admitted image, which stands in a room as long as the spare one. The two change places with each pass.
 static bool apply_all(struct bytes *image, uint8_t layout, uint8_t mode, struct edits edits, uint8_t **spare) {
-    for (size_t i = 0; i < edits.count; i++) {
-        uint64_t answer = apply_edit(*image, layout, mode, &edits.at[i], *spare);
+    for (size_t i = 0, count; i < edits.count; i += count) {
+        const struct edit *next = &edits.at[i];
+        count = pass_length(next, edits.count - i);
+        uint64_t answer = count == 1 ? apply_edit(*image, layout, mode, next, *spare)
+                                     : apply_pass(*image, layout, mode, next, count, *spare);
         if (is_refused(answer)) {
-            print_refused_edit(i + 1, &edits.at[i], refusal_of(answer), *image, layout, *spare);
+            print_refused(i + 1, next, count, refusal_of(answer), *image, layout, *spare);
             return false;
         }
         uint8_t *made = *spare;
@@ -94,50 +125,4 @@ bool apply_edits(const char *name, struct bytes image, uint8_t layout, uint8_t m
     free(spare);
     if (!is_made) free(made->at);
     return is_made;
-}
-
-// ---- what has changed
-
-static bool is_same(const struct edit *a, const struct edit *b) { return a->kind == b->kind && a->id == b->id; }
-
-static bool was_told(struct edits edits, size_t place) {
-    for (size_t i = 0; i < place; i++)
-        if (is_same(&edits.at[i], &edits.at[place])) return true;
-    return false;
-}
-
-static void print_change(FILE *to, struct bytes before, struct bytes after, uint8_t layout, const struct edit *edit,
-                         uint8_t *scratch) {
-    if (edit->kind == BODY) {
-        print(to, "body %u: %llu bytes are now %llu\n", edit->id,
-              (unsigned long long)length_there(before, layout, edit, scratch),
-              (unsigned long long)length_there(after, layout, edit, scratch));
-        return;
-    }
-    print(to, "string %u: ", edit->id);
-    print_string(to, before, layout, edit->id, scratch);
-    print(to, " is now ");
-    print_string(to, after, layout, edit->id, scratch);
-    print(to, "\n");
-}
-
-void print_changes(FILE *to, struct bytes before, struct bytes after, uint8_t layout, struct edits edits) {
-    uint8_t *scratch = room_for(IMAGE_MOST);
-    for (size_t i = 0; i < edits.count; i++)
-        if (!was_told(edits, i)) print_change(to, before, after, layout, &edits.at[i], scratch);
-    print(to, "image: %zu bytes are now %zu\n", before.length, after.length);
-    free(scratch);
-}
-
-// ---- wide strings at odd places
-
-static void count_odd(void *with, uint64_t id, const uint64_t *row) {
-    (void)id;
-    if (row[NEPULADRIM_STRING_IS_WIDE] && row[NEPULADRIM_STRING_AT] % 2) ++*(uint64_t *)with;
-}
-
-void print_odd_strings(FILE *to, struct bytes image, uint8_t layout) {
-    uint64_t odd = 0;
-    take_rows(image, layout, count_odd, &odd);
-    if (odd) print(to, "wide strings at odd places: %llu, as no edit has moved the strings\n", (unsigned long long)odd);
 }

@@ -14,7 +14,7 @@ struct bytes {
 // The most bytes of an image, as document 01 has it, and of a part of a listing.
 #define IMAGE_MOST ((size_t)67108864)
 
-// The most bytes of a value that are read: far more than an image can hold.
+// The most bytes of a value that are read, and of all values of a pass: far more than an image can hold.
 #define VALUE_MOST ((size_t)1 << 30)
 
 // Standard streams that are closed become ones that fail, so that no file gets their numbers.

@@ -45,6 +45,11 @@ static const char PATCH[] =
     "  --string-from ID=FILE    string ID becomes the bytes of FILE, which are UTF-8\n"
     "  --body ID=FILE           the body of function ID becomes the bytes of FILE\n"
     "\n"
+    "String edits of different ids that stand one behind the other are made in one pass: in place where each of them fits, else the\n"
+    "strings are packed anew, once. What comes out is what they make one after the other, but only the end is judged: the image may\n"
+    "be too long in between. A body, or an id that is edited again, ends a pass and begins the next; of two edits of an id the later\n"
+    "one counts.\n"
+    "\n"
     "With no edit, the image gets its file length and its footer. OUT may be IMAGE. It is written whole or not at all: a new file\n"
     "beside it takes its name, and its mode where it was there. Where OUT is a link, what it leads to is written; what is no\n"
     "regular file is not replaced. Where OUT is -, the image goes to standard output, and what changed to standard error.\n"
@@ -52,7 +57,7 @@ static const char PATCH[] =
     "\n"
     "--even is for a loader that reads wide strings, which are UTF-16, as 16-bit words and stops at an odd address. A string edit\n"
     "that does not fit in place packs all strings anew; each wide one then starts at an even place, behind one zero byte where\n"
-    "that is needed. It holds for all string edits of the call; bodies are the same either way. An edit that fits in place moves\n"
+    "that is needed. It holds for all string edits of the call; bodies are the same either way. Edits that fit in place move\n"
     "nothing: wide strings at odd places stay there until an edit packs the strings anew. An edit of a wide string always does,\n"
     "also to its own text. How many have stayed is printed.\n";
 

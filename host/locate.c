@@ -35,10 +35,9 @@ static struct search take_search(char **left) {
 
 // ---- one string
 
-static void print_located(struct bytes image, uint8_t layout, uint32_t id, const uint64_t *facts) {
-    uint8_t *scratch = room_for(IMAGE_MOST);
+static void print_located(struct bytes image, uint32_t id, const uint64_t *facts) {
     print(stdout, "string %u: ", id);
-    print_string(stdout, image, layout, id, scratch);
+    print_string(stdout, image, facts);
     print(stdout, "\n");
     print_number("start", facts[NEPULADRIM_STRING_AT]);
     print_number("bytes", facts[NEPULADRIM_STRING_BYTES]);
@@ -47,7 +46,6 @@ static void print_located(struct bytes image, uint8_t layout, uint32_t id, const
     print(stdout, "kind: %s\n", facts[NEPULADRIM_STRING_IS_IDENTIFIER] ? "identifier" : "plain");
     print_number("small entries visited", facts[NEPULADRIM_STRING_SMALL_VISITED]);
     print_number("overflow entries visited", facts[NEPULADRIM_STRING_OVERFLOW_VISITED]);
-    free(scratch);
 }
 
 static void print_no_string(struct bytes image, uint8_t layout, uint32_t id) {
@@ -64,7 +62,7 @@ static unsigned locate_one(struct bytes image, uint8_t layout, uint32_t id) {
     uint64_t facts[NEPULADRIM_STRING_FACTS];
     uint64_t answer = nepuladrim_string_facts(image.at, image.length, layout, id, facts, NEPULADRIM_STRING_FACTS);
     if (!is_refused(answer)) {
-        print_located(image, layout, id, facts);
+        print_located(image, id, facts);
         return 0;
     }
     if (refusal_of(answer) == NO_SUCH_ID) print_no_string(image, layout, id);

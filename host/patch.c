@@ -1,5 +1,6 @@
 // hbc patch: an image with edits.
 #include "../hbc.h"
+#include "changes.h"
 #include "commands.h"
 #include "edits.h"
 #include "outputs.h"

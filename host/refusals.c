@@ -25,11 +25,14 @@ static const char *const MEANING[] = {
     "room: the image would have more bytes than there is room for",
     "absent: no string has that value",
     "job: what was given to the proved function is malformed",
+    NULL, // 16 is not given
+    "twice: an id is edited twice in one pass",
 };
 #define MEANINGS (sizeof MEANING / sizeof MEANING[0])
 
 void print_refusal(const char *who, unsigned number) {
-    print(stderr, "hbc: %s is refused: %u, %s", who, number, number - 1 < MEANINGS ? MEANING[number - 1] : "unknown");
+    const char *meaning = number - 1 < MEANINGS ? MEANING[number - 1] : NULL;
+    print(stderr, "hbc: %s is refused: %u, %s", who, number, meaning ? meaning : "unknown");
 }
 
 void print_ids(uint64_t count, const char *what) {

@@ -1,4 +1,4 @@
-// Refusals in words: the number, the name that document 01 gives it, and what it means.
+// Refusals in words: the number, the name that it has, and what it means.
 #ifndef HOST_REFUSALS_H
 #define HOST_REFUSALS_H
 
@@ -10,8 +10,9 @@
 bool is_refused(uint64_t answer);
 unsigned refusal_of(uint64_t answer);
 
-// The number of an id that is not there: what is there is told then.
+// The number of an id that is not there: what is there is told then. And that of a value that is no text.
 #define NO_SUCH_ID 7
+#define NO_TEXT 8
 
 // Says WHO is refused, on standard error, without an end of line: more may be said of what was there.
 void print_refusal(const char *who, unsigned number);

@@ -4,15 +4,12 @@
 #include "print.h"
 #include "text.h"
 
-void print_string(FILE *to, struct bytes image, uint8_t layout, uint32_t id, uint8_t *scratch) {
-    const uint64_t most_units = 100;
-    uint64_t facts[NEPULADRIM_STRING_FACTS];
-    nepuladrim_string_facts(image.at, image.length, layout, id, facts, NEPULADRIM_STRING_FACTS);
-    nepuladrim_string(image.at, image.length, layout, id, scratch, IMAGE_MOST);
-    uint64_t units = facts[NEPULADRIM_STRING_UNITS];
+void print_string(FILE *to, struct bytes image, const uint64_t *row) {
+    const uint64_t most_units = 100, units = row[NEPULADRIM_STRING_UNITS];
+    const uint8_t *bytes = image.at + row[NEPULADRIM_STRING_AT];
     struct text text = begin_text(to);
     for (uint64_t i = 0; i < units && i < most_units; i++)
-        put_unit(&text, facts[NEPULADRIM_STRING_IS_WIDE] ? scratch[2 * i] + 256u * scratch[2 * i + 1] : scratch[i]);
+        put_unit(&text, row[NEPULADRIM_STRING_IS_WIDE] ? bytes[2 * i] + 256u * bytes[2 * i + 1] : bytes[i]);
     end_text(&text);
     print(to, "%s (", units > most_units ? "..." : "");
     print_count(to, units, "unit");

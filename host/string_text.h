@@ -6,7 +6,7 @@
 
 #include <stdio.h>
 
-// Prints a string of an admitted image, and its number of units. What is long is cut. The scratch is as long as an image may be.
-void print_string(FILE *to, struct bytes image, uint8_t layout, uint32_t id, uint8_t *scratch);
+// Prints a string of an admitted image, by its row of hbc.h, and its number of units. What is long is cut.
+void print_string(FILE *to, struct bytes image, const uint64_t *row);
 
 #endif

@@ -32,11 +32,12 @@ const ODD: Shape = Shape { is_odd: true, ..MIXED };
 pub fn shape(name: &str) -> Shape {
     match name {
         "modern" => MODERN,
-        "mixed" => MIXED,
+        // They differ in how long bodies are, which is the caller's.
+        "mixed" | "bodies" => MIXED,
         "pairs" => PAIRS,
         "names" => NAMES,
         "odd" => ODD,
-        _ => panic!("{name}: neither modern, mixed, pairs, names nor odd"),
+        _ => panic!("{name}: neither modern, mixed, bodies, pairs, names nor odd"),
     }
 }
 

@@ -1,31 +1,9 @@
 // Calls each function of hbc.h from C, to success and to a refusal. Ends with 1 at the first answer that is not as it should be.
-#include "../../hbc.h"
-
-#include <stdio.h>
-#include <stdlib.h>
-#include <string.h>
+#include "common.h"
 
 static uint8_t image[256], out[256];
 
-// What is asked for is there, else the line says what is not.
-#define is(what)                                                                                                              \
-    do {                                                                                                                      \
-        if (!(what)) {                                                                                                        \
-            printf("tests/c: not so, line %d: %s\n", __LINE__, #what);                                                        \
-            exit(1);                                                                                                          \
-        }                                                                                                                     \
-    } while (0)
-
-#define BYTES(text) (const uint8_t *)(text), sizeof(text) - 1
-
-// The buffer holds what it held before a call.
-static int untouched(void) {
-    for (size_t i = 0; i < sizeof out; i++)
-        if (out[i] != 0xa5) return 0;
-    return 1;
-}
-
-static uint64_t refused(uint64_t number) { return NEPULADRIM_REFUSED + number; }
+static int untouched(void) { return is_untouched(out, 0, sizeof out); }
 
 // ---- the modes of a string patch
 

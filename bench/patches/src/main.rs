@@ -1,13 +1,17 @@
 // Patches an image laid out as compilers lay them out, with as many strings as functions, 1 MiB for 10,000 of each:
-//   bench-patches ours|theirs place|rebuild|even|equal|body modern|mixed|names|odd COUNT REPEATS
+//   bench-patches ours|theirs place|rebuild|even|equal|body modern|mixed|names|odd|bodies COUNT REPEATS
 // prints the length of the image and a sum of the result's bytes. The Rust's file is parsed before, also for no repeats, so
 // that what REPEATS adds is its patch call alone. even: a rebuild in even mode, where theirs is the judge's second reading.
+// In an image with bodies, which is as mixed, 40,000 of each make 8 MiB.
+//   bench-patches ours|theirs pass|places SHAPE COUNT EDITS REPEATS
+// does so with many edits in one pass.
 //   bench-patches compare
 // holds ours to theirs byte for byte on images too long for a stream of calls.
 
 #[path = "../../src/image.rs"]
 mod image;
 mod large;
+mod pass;
 
 use hbc_decomp::opcode::BytecodeFormat;
 use hbc_decomp::write::patch::{patch_function_bytes, patch_string_by_id, PatchOptions};
@@ -42,12 +46,12 @@ extern "C" {
     ) -> u64;
 }
 
-/// What bodies have besides, so that 10,000 functions and strings make 1 MiB.
+/// What bodies have besides, so that 10,000 functions and strings make 1 MiB, or 40,000 make 8 MiB.
 fn more(shape: &str) -> usize {
-    if shape == "modern" {
-        18
-    } else {
-        38
+    match shape {
+        "modern" => 18,
+        "bodies" => 143,
+        _ => 38,
     }
 }
 
@@ -107,8 +111,17 @@ fn sum(bytes: &[u8]) -> u64 {
 fn main() {
     let words: Vec<String> = std::env::args().collect();
     if words[1] == "compare" {
-        return large::compare();
+        large::compare();
+        return pass::compare();
     }
+    match words[2].as_str() {
+        "pass" | "places" => pass::run(&words),
+        _ => run(&words),
+    }
+}
+
+/// One patch.
+fn run(words: &[String]) {
     let (shape, count): (_, usize) = (shape(&words[3]), words[4].parse().unwrap());
     let image = image(&shape, count, count, more(&words[3]));
     let middle = count as u32 / 2;

@@ -4,7 +4,7 @@ use Prim.Native.Nat.{ℕ, _+_, _-_, _*_, _/_, _%_, _^_, _≤_, _<_}
 use native.Mathlib.Nat.{mod-lt, mul-assoc, add-mul, add-assoc, mul-add-div-right, mul-add-mod-self-right}
 use native.Mathlib.Omega.{arith}
 use lib.Arith.{digits-lt}
-use lib.Pow.{pow-pos, pow-add, high, low, shr-shr, shr-lt, field, mod-mod-pow, mod-pow-add}
+use lib.Pow.{pow-pos, pow-add, high, low, split, shr-shr, shr-lt, field, mod-mod-pow, mod-pow-add}
 use Rattle.bits.specs.Fields.{fieldOf, withField}
 
 cut : (n at w v : ℕ) → withField n at w v ≡ (n / 2 ^ (w + at) * 2 ^ w + v % 2 ^ w) * 2 ^ at + n % 2 ^ at
@@ -69,6 +69,54 @@ with-lt n at w v k h b =
     let r : v % 2 ^ w * 2 ^ at + n % 2 ^ at < 2 ^ (w + at)
     = rw (pow-add 2 w at) (digits-lt (mod-lt v (pow-pos w)) (mod-lt n (pow-pos at))) in
     rw (← e, pow-add 2 (k - (w + at)) (w + at)) (digits-lt (shr-lt (k - (w + at)) (w + at) c) r)
+
+-- ---- two writes
+
+-- to one field
+pub with-with : (n at w u v : ℕ) → withField (withField n at w u) at w v ≡ withField n at w v
+with-with n at w u v = cut (withField n at w u) at w v ∙ rw (above n at w u, below n at w u) (sym (cut n at w v))
+
+-- past the field nothing changes
+with-past : (n at w u k : ℕ) → w + at ≤ k → withField n at w u / 2 ^ k ≡ n / 2 ^ k
+with-past n at w u k h =
+    let e : k ≡ w + at + (k - (w + at)) = omega arith in
+    ap (λ (x : ℕ). withField n at w u / 2 ^ x) e
+    ∙ rw (← shr-shr (withField n at w u) (w + at) (k - (w + at)), above n at w u, shr-shr n (w + at) (k - (w + at)), ← e)
+
+-- the low bits of the result hang only on the low bits
+with-mod : (n at w u k : ℕ) → w + at ≤ k → withField n at w u % 2 ^ k ≡ withField (n % 2 ^ k) at w u
+unfolding withField
+with-mod n at w u k h =
+    let e : k - (w + at) + (w + at) ≡ k = omega arith in
+    let f : k - at + at ≡ k = omega arith in
+    let r : u % 2 ^ w * 2 ^ at + n % 2 ^ at < 2 ^ (w + at)
+    = rw (pow-add 2 w at) (digits-lt (mod-lt u (pow-pos w)) (mod-lt n (pow-pos at))) in
+    let a : n % 2 ^ k / 2 ^ (w + at) ≡ n / 2 ^ (w + at) % 2 ^ (k - (w + at)) =
+    ap (λ (x : ℕ). n % 2 ^ x / 2 ^ (w + at)) (sym e) ∙ field n (k - (w + at)) (w + at) in
+    let b : n % 2 ^ k % 2 ^ at ≡ n % 2 ^ at = ap (λ (x : ℕ). n % 2 ^ x % 2 ^ at) (sym f) ∙ mod-mod-pow n (k - at) at in
+    rw (a, b)
+    (ap (λ (x : ℕ). withField n at w u % 2 ^ x) (sym e)
+    ∙ mod-pow-add (withField n at w u) (k - (w + at)) (w + at)
+    ∙ rw (high (n / 2 ^ (w + at)) (w + at) r, low (n / 2 ^ (w + at)) (w + at) r))
+
+-- to two, in either order
+pub with-comm : (n at w u at′ w′ v : ℕ) → w + at ≤ at′
+    → withField (withField n at w u) at′ w′ v ≡ withField (withField n at′ w′ v) at w u
+with-comm n at w u at′ w′ v h =
+    let a : ℕ = withField n at w u in
+    let b : ℕ = withField n at′ w′ v in
+    cut a at′ w′ v
+    ∙ rw (
+      with-past n at w u (w′ + at′) (omega arith),
+      with-mod n at w u at′ h,
+      ← below n at′ w′ v,
+      ← with-mod b at w u
+          at′ h,
+    )
+    (ap (λ (y : ℕ). y * 2 ^ at′ + withField b at w u % 2 ^ at′)
+    (sym (with-past b at w u at′ h
+    ∙ rw (cut n at′ w′ v) (high (n / 2 ^ (w′ + at′) * 2 ^ w′ + v % 2 ^ w′) at′ (mod-lt n (pow-pos at′)))))
+    ∙ split (withField b at w u) at′)
 
 -- ---- a number of two words: a field of it lies in one of them
 

@@ -12,9 +12,12 @@ module _ (p : ℕ → Bool) where
   unfolding allBelow
   pass-none = refl
 
+  pub pass-more : (i : ℕ) → p i ≡ true → allBelow i p ≡ true → allBelow (i + 1) p ≡ true
+  pass-more i t h = rw (all-next p i, t, h)
+
   -- after `if !test(i) { return false; }`
   pub pass-next : (i : ℕ) (r : Bool) → r ≡ p i → not r ≡ false → allBelow i p ≡ true → allBelow (i + 1) p ≡ true
-  pass-next i r e h a = rw (all-next p i, ← e, not-false r h, a)
+  pass-next i r e h a = pass-more i (sym e ∙ not-false r h) a
 
   -- in that branch
   pub pass-stop : (n i : ℕ) (r : Bool) → i < n → r ≡ p i → not r ≡ true → false ≡ allBelow n p

@@ -21,6 +21,10 @@ both-1 false b h = let z : _≡_ {A = ℕ} 0 1 = cc in absurd (omega arith)
 pub both-of : (a b : Bool) → a ≡ true → b ≡ true → both a b ≡ true
 both-of a b h k = rw (h, k)
 
+pub both-none : (a : Bool) → both a false ≡ false
+both-none true = refl
+both-none false = refl
+
 pub both-false : (a b : Bool) → both a b ≡ false → (a ≡ false) ⊎ (b ≡ false)
 both-false true b h = inr h
 both-false false b h = inl refl

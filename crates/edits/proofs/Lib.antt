@@ -1,7 +1,9 @@
 pub mod WriteLaws
+pub mod HitLaws
 pub mod TableLaws
 pub mod PackLaws
 pub mod SlotLaws
+pub mod OverLaws
 pub mod EditLaws
 pub mod ReadLaws
 pub mod BodyLaws
@@ -11,6 +13,8 @@ pub mod StringLaws
 pub mod SpacedLaws
 pub mod ModeLaws
 pub mod KeepLaws
+pub mod FrameLaws
+pub mod PutLaws
 pub mod ResizeLaws
 pub mod FitLaws
 pub mod InPlaceLaws

@@ -25,18 +25,18 @@ use Rattle.edits.proofs.RegionLaws.{length-region}
 -- ---- a rebuild hangs only on storage and on the places of its strings
 
 module _ (p q : ℕ → Place) where
-  overs-ext : (n : ℕ) → ((i : ℕ) → i < n → p i ≡ q i) → overs p n ≡ overs q n
+  pub overs-ext : (n : ℕ) → ((i : ℕ) → i < n → p i ≡ q i) → overs p n ≡ overs q n
   overs-ext zero h = overs-none p ∙ sym (overs-none q)
   overs-ext (suc n) h =
       rw (overs-next p n, overs-next q n, overs-ext n (λ i g. h i (omega arith)), ap (λ (x : Place). bit (isOver x)) (h n (omega arith)))
 
-  smalls-ext : (n : ℕ) → ((i : ℕ) → i < n → p i ≡ q i) → smalls p n ≡ smalls q n
+  pub smalls-ext : (n : ℕ) → ((i : ℕ) → i < n → p i ≡ q i) → smalls p n ≡ smalls q n
   unfolding smalls
   smalls-ext zero h = refl
   smalls-ext (suc n) h =
       rw (smalls-ext n (λ i g. h i (omega arith)), overs-ext n (λ i g. h i (omega arith)), h n (omega arith))
 
-  pairs-ext : (n : ℕ) → ((i : ℕ) → i < n → p i ≡ q i) → pairs p n ≡ pairs q n
+  pub pairs-ext : (n : ℕ) → ((i : ℕ) → i < n → p i ≡ q i) → pairs p n ≡ pairs q n
   unfolding pairs
   pairs-ext zero h = refl
   pairs-ext (suc n) h = rw (pairs-ext n (λ i g. h i (omega arith)), h n (omega arith))
@@ -51,7 +51,7 @@ module _ (l : Layout) (q r : Packed) (s : List ℕ) (places : (i : ℕ) → i < 
   tail-ext : newTail l q s ≡ newTail l r s
   tail-ext = rw region-ext
 
-  rebuild-ext : rebuild l q s ≡ rebuild l r s
+  pub rebuild-ext : rebuild l q s ≡ rebuild l r s
   unfolding rebuild
   rebuild-ext = rw (region-ext, overs-ext (q .place) (r .place) (stringsIn s) places, stores)
 

@@ -118,7 +118,7 @@ pub record SameRecords (l : Layout) (s t : List ℕ) : Type 0 where
   pub records : Agree s t (table.recordRow l .at) (kindsAt l s)
 
 module _ (l : Layout) (s t : List ℕ) (sm : SameRecords l s t) where
-  record-same : (i : ℕ) → i < functionsIn s → recordIn l t i ≡ recordIn l s i
+  pub record-same : (i : ℕ) → i < functionsIn s → recordIn l t i ≡ recordIn l s i
   unfolding recordIn
   record-same i h =
       number-agree s t (table.recordRow l .at) (kindsAt l s) (sm .records) (recordAt l i) (table.recordRow l .width) (omega arith)

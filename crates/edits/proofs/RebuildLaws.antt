@@ -103,7 +103,7 @@ rebuilding l ps s = record {
 }
 
 module _ (l : Layout) (ps : Packed) (s : List ℕ) (ad : Admitted l s) where
-  words-off : (p : ℕ) → (table.overflowCount .at ≤ p → table.storageSize .at + table.storageSize .width ≤ p)
+  pub words-off : (p : ℕ) → (table.overflowCount .at ≤ p → table.storageSize .at + table.storageSize .width ≤ p)
       → (table.placeIn l (table.debugRow l) ≤ p → table.placeIn l (table.debugRow l) + table.debugRow l .width ≤ p)
       → Outside p (rebuilding l ps s .words)
   words-off p h k = (

@@ -40,8 +40,9 @@ use Rattle.edits.specs.Packing.{storeOf}
 use Rattle.edits.specs.Packing as packing
 use Rattle.edits.specs.Rebuild.{smalls, pairOf, pairs, overs, region, padded, rebuild}
 use Rattle.string_overlap.specs.Overlap.{isApart, isAlone}
+use Rattle.string_edits.specs.Values.{only, inTurn}
 use Rattle.string_packing.specs.Strings.{asString, stringWith, stringsWith}
-use Rattle.string_in_place.specs.Patch.{fitsInPlace, inPlace, changed, newLength, patchFits}
+use Rattle.string_in_place.specs.Patch.{fitsInPlace, fitsAll, changed, newLength, patchFits}
 use Rattle.strings.specs.Patch.{byIdRefusal}
 
 -- what a definition gives, and what 01 says
@@ -73,7 +74,7 @@ abbrev pub toK : {A : Type 0} → (Mode → Layout → List ℕ → ℕ → List
 toK patch = patch Plain Modern ofJ 0 (0x61 ∷ 0x61 ∷ 0x61 ∷ 0x61 ∷ 0x61 ∷ [])
 
 abbrev pub ofK : List ℕ
-ofK = toK changed
+ofK = toK (λ m l s id value. changed m l s (only id value))
 
 unfoldable pub rows : List Row
 rows =
@@ -138,7 +139,7 @@ unfolding rows allMarked smallWord entry withField fieldOf pointer moved hashOf 
     minimal sealed lengthed footed digest digestBytes bigBytes kindsAt hashesAt smallAt overAt storageAt tailAt overBefore placeOf
     locate smallIn overIn placeAt stringOf function.small function.header function.recordIn function.funcOf isLarge splice
     writeAll groups putSmall pointed putHeader recordGroup headerGroup edit storeOf packing.startOf smalls pairOf pairs overs region padded
-    rebuild isApart isAlone asString stringWith stringsWith fitsInPlace inPlace changed ascii allBelow sumBelow judge kindIn covered
+    rebuild isApart isAlone inTurn asString stringWith stringsWith fitsInPlace fitsAll changed ascii allBelow sumBelow judge kindIn covered
     identified overflowsCounted overflowsNumbered stringsStored bytesNarrow stringsNarrow headersIn bodiesIn infosIn debugInTail
     headersApart bodiesApart checks fieldsFit utf8.isUtf8 utf8.readingOf utf8.nextByte utf8.opens newLength patchFits byIdRefusal
     builder.checks builder.endsAscend builder.endsWithin builder.allSmall utf8.utf16 utf8.unitsFrom utf8.unitsOfPoint

@@ -192,6 +192,13 @@ pub fn string_facts_from(image: &[u8], layout: Layout, id: usize, out: &mut [u64
         return Answer::Length(0);
     }
     let n = bits::least(out.len() / STRING_FACTS, p.strings - id);
-    put_strings(image, p, string_walk::string_from(image, p, id), n, out);
+    let first = string_walk::first_string();
+    put_strings(
+        image,
+        p,
+        string_walk::string_from(image, p, first, id),
+        n,
+        out,
+    );
     Answer::Length(n * STRING_FACTS)
 }

@@ -11,7 +11,8 @@ use Rattle.bits.specs.Choice.{pick, judge}
 use Rattle.bits.specs.Outcome.{Outcome, refused, made, written, answered, roomed}
 use Rattle.bits.proofs.OutcomeLaws.{one-outcome}
 use Rattle.bits.specs.declared.Answer.the-variants.{Length, Refused}
-use Rattle.bits.proofs.ByteLaws.{length-bytesAt}
+use Rattle.bits.proofs.ListLaws.{AllBelow}
+use Rattle.bits.proofs.ByteLaws.{length-bytesAt, bytesAt-below}
 use Rattle.bits.proofs.JudgeLaws.{judge-pass}
 use Rattle.format.specs.declared.Layout.{Layout}
 use Rattle.format.specs.declared.Mode.{Mode}
@@ -31,9 +32,11 @@ use Rattle.reader.specs.Reading.{idRefusal}
 use Rattle.reader.proofs.ReadingLaws.{read-is}
 use Rattle.facts.specs.Facts.{factsOf, imageFacts, factsOfString, stringFacts, stringsTold, stringFactsFrom}
 use Rattle.facts.proofs.PassLaws.{facts-length, told-most}
+use Rattle.string_edits.specs.Lists.{valueIn, editIn, isList}
 use Rattle.strings.specs.Patch.{byIdRefusal, patchById, byValueRefusal, patchByValue}
+use Rattle.strings.specs.Pass.{passRefusal, patchInPass, patchStrings}
 use Rattle.functions.specs.Patch.{bodyRefusal, patchBody}
-use Rattle.patches.specs.Patches.{Patch, byId, byValue, toBody, outcomeOf}
+use Rattle.patches.specs.Patches.{Patch, byId, byValue, inPass, toBody, outcomeOf}
 use Rattle.patches.specs.Lists.{InBytes}
 use Rattle.patches.proofs.StepLaws.{made-of, patch-promise}
 use Rattle.listing_pieces.specs.Listing.{listed, partRoom, listingPart}
@@ -118,14 +121,30 @@ short-built version text ends body =
 -- bytes are bytes
 module _ (l : Layout) (s : List ℕ) (bytes : (i : ℕ) → getD s i 0 < 256) where
   passed : (p : Patch) (t : List ℕ) → outcomeOf l s p ≡ made t → refusal l s ≡ 0
-  unfolding outcomeOf patchById byIdRefusal patchByValue byValueRefusal patchBody bodyRefusal
+  unfolding outcomeOf patchById byIdRefusal patchByValue byValueRefusal patchInPass passRefusal patchBody bodyRefusal
   passed (byId m id value) t e = judged-none l s _ (made-of _ _ _ e .0) .0
   passed (byValue m old new) t e = judged-none l s _ (made-of _ _ _ e .0) .0
+  passed (inPass m f k) t e = judged-none l s _ (made-of _ _ _ e .0) .0
   passed (toBody id body) t e = judged-none l s _ (made-of _ _ _ e .0) .0
 
   pub short-patch : (p : Patch) → InBytes p → Short (outcomeOf l s p)
   short-patch p b =
       short-made (outcomeOf l s p) (λ t e. patch-promise l s (admitted l s bytes (passed p t e)) p t b e .kept .admitted .most)
+
+  -- a pass over a list as it is lent
+  short-edits : (m : Mode) (ids text ends : List ℕ) → AllBelow 256 text
+      → Short (patchInPass m l s (editIn ids text ends) (length ids))
+  unfolding outcomeOf valueIn
+  short-edits m ids text ends b = short-patch (inPass m (editIn ids text ends) (length ids)) (λ j h. bytesAt-below text _ _ b)
+
+  pub short-strings : (m : Mode) (ids text ends : List ℕ) → AllBelow 256 text → Short (patchStrings m l s ids text ends)
+  unfolding patchStrings
+  short-strings m ids text ends b = go (isList ids text ends) (short-edits m ids text ends b)
+    where
+      go : (t : Bool) → Short (patchInPass m l s (editIn ids text ends) (length ids))
+          → Short (pick t (patchInPass m l s (editIn ids text ends) (length ids)) (refused 15))
+      go true h = h
+      go false h = tt
 
   pub short-string : (id : ℕ) → Short (stringReading l s id)
   unfolding stringReading stringOf

@@ -13,6 +13,7 @@ ghost use Rattle.bits.specs.Outcome.{made, roomed, Answers};
 ghost use Rattle.footer.specs.Finalize.{finalizeOf};
 ghost use Rattle.serialize.specs.Builder.{built};
 ghost use Rattle.strings.specs.Patch.{patchById, patchByValue};
+ghost use Rattle.strings.specs.Pass.{patchStrings};
 ghost use Rattle.functions.specs.Patch.{patchBody};
 ghost use Rattle.listing_pieces.specs.Listing.{partRoom, listingPart};
 ghost use Rattle.facts.specs.Facts.{imageFacts, stringFacts, stringFactsFrom};
@@ -141,6 +142,38 @@ pub extern "C" fn nepuladrim_patch_string_replace<'a>(
         mode_of(mode),
         old,
         new,
+        out,
+    ))
+}
+
+// The strings of a list of ids get values, which are one text and their ends, in one pass.
+#[no_mangle]
+pub extern "C" fn nepuladrim_patch_strings<'a>(
+    image: &'a [u8],
+    layout: u8,
+    mode: u8,
+    ids: &[u32],
+    text: &'a [u8],
+    ends: &[u32],
+    out: &mut [u8],
+) -> u64
+    ensures { λ r. ⌜ Codes (stated layout (λ l. chosen mode
+        (λ m. roomed (length (now (out .entry))) (patchStrings m l (now (image .entry)) (now (ids .entry)) (now (text .entry))
+        (now (ends .entry)))))) r (now (out .entry)) (now (out .exit)) ⌝ }
+{
+    if LAST_LAYOUT < layout {
+        return REFUSED_JOB;
+    }
+    if LAST_MODE < mode {
+        return REFUSED_JOB;
+    }
+    number(strings::patch_strings(
+        image,
+        input_records::layout_of(layout),
+        mode_of(mode),
+        ids,
+        text,
+        ends,
         out,
     ))
 }

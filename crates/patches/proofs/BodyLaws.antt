@@ -35,7 +35,7 @@ use Rattle.functions.proofs.WriteLaws.{size-held}
 use Rattle.patches.specs.Patches.{Target, aBody}
 use Rattle.patches.specs.Promise.{placeAfter, functionAfter, Unmoved, Kept, Promise}
 use Rattle.patches.proofs.CalmLaws.{final-calm, final-hash, final-sealed, kept-after}
-use Rattle.patches.proofs.StringLaws.{moved-still}
+use Rattle.patches.proofs.InPlaceLaws.{moved-still}
 
 -- a body patch of an admitted image that no check refuses
 pub record BodyPassed (l : Layout) (s : List ℕ) (id : ℕ) (body : List ℕ) : Type 0 where

@@ -55,6 +55,19 @@ pub record Calm (l : Layout) (s t : List ℕ) : Type 0 where
   pub debug : debugIn l t ≡ debugIn l s
   pub bytes : Agree s t (tailAt l s) (length s - footerLength)
 
+-- t has the functions and the tail of s, and so its bodies
+pub record SameTail (l : Layout) (s t : List ℕ) : Type 0 where
+  pub same : Same l s t
+  pub tail : Agree s t (tailAt l s) (length s - footerLength)
+
+pub same-body : (l : Layout) (s t : List ℕ) → Admitted l s → SameTail l s t → (i : ℕ) → i < functionsIn s
+    → bodyOf l t i ≡ bodyOf l s i
+unfolding bodyOf
+same-body l s t ad st i h =
+    let (x, y) = ad .body i h in
+    ap (λ (f : Func). bytesAt t (f .begin) (f .size)) (funcs-same l s t ad (st .same) i h)
+    ∙ bytes-agree s t (tailAt l s) (length s - footerLength) (st .tail) (funcOf l s i .begin) (funcOf l s i .size) x (omega arith)
+
 -- ---- an image that differs only in file length, hash slots and footer
 
 pub record Nearly (l : Layout) (s t : List ℕ) : Type 0 where
@@ -69,7 +82,7 @@ module _ (l : Layout) (s t : List ℕ) (nr : Nearly l s t) where
   ad : Admitted l s
   ad = nr .admitted
 
-  same : Same l s t
+  pub same : Same l s t
   same =
       let o = ordered l s in
       record {
@@ -98,12 +111,13 @@ module _ (l : Layout) (s t : List ℕ) (nr : Nearly l s t) where
       }
 
   pub calm : Calm l s t
-  unfolding bodyOf
   calm =
       let o = ordered l s in
       let counts = counts-of l s t (same .tabled .words) in
       let entries : SameEntries l s t
       = record { words = same .tabled .words; tables = same .tabled .tables; counted = ad .overflows } in
+      let tail : Agree s t (tailAt l s) (length s - footerLength)
+      = λ p h k. nr .rest p (omega (arith, o .over, o .storage, o .tail)) k in
       record {
         admitted = same-admitted l s t ad same;
         long = nr .long;
@@ -121,16 +135,12 @@ module _ (l : Layout) (s t : List ℕ) (nr : Nearly l s t) where
         string = λ i h.
             string-same l s t entries i h
             (λ p f k. nr .rest p (omega (arith, o .over, o .storage)) (omega (arith, string-in ad i h, ad .room)));
-        body = λ i h.
-            let (x, y) = ad .body i h in
-            ap (λ (f : Func). bytesAt t (f .begin) (f .size)) (funcs-same l s t ad same i h)
-            ∙ bytes-agree s t (smallAt l s) (length s - footerLength) (nr .rest) (funcOf l s i .begin) (funcOf l s i .size)
-            (omega (arith, o .over, o .storage, o .tail)) (omega arith);
+        body = same-body l s t ad (record { same = same; tail = tail });
         flag = identifier-same l s t counts (same .tabled .kinds);
         rank = rank-same l s t counts (same .tabled .kinds);
         function = funcs-same l s t ad same;
         debug = same .debug;
-        bytes = λ p h k. nr .rest p (omega (arith, o .over, o .storage, o .tail)) k;
+        bytes = tail;
       }
 
 -- the strings stand as they stood
@@ -178,23 +188,25 @@ module _ (l : Layout) (s : List ℕ) (ad : Admitted l s) where
   final-long : length t ≡ length s
   final-long = finalize-length s t done
 
-  keeps : (from to : ℕ) → to ≤ length s - footerLength
+  pub keeps : (from to : ℕ) → to ≤ length s - footerLength
       → (table.fileLength .at < to → table.fileLength .at + table.fileLength .width ≤ from) → Agree s t from to
   keeps from to h o p f k = finalize-keeps s t done p (omega arith) (λ q. omega (arith, o (omega arith)))
 
-  -- it reads as it did, and every hash slot stays
-  pub final-calm : Calm l s t
-  final-calm =
+  pub final-nearly : Nearly l s t
+  final-nearly =
       let o = ordered l s in
-      calm l s t
-      (record {
+      record {
         admitted = ad;
         long = final-long;
         bytes = finalize-below s t done (ad .bytes);
         front = keeps 0 32 (omega (arith, long)) (λ q. absurd (omega arith));
         head = keeps 36 (hashesAt l s) (omega (arith, o .small, o .over, o .storage, o .tail, ad .room)) (λ q. omega arith);
         rest = keeps (smallAt l s) (length s - footerLength) (omega arith) (λ q. omega (arith, o .kinds, o .hashes, o .small));
-      })
+      }
+
+  -- it reads as it did, and every hash slot stays
+  pub final-calm : Calm l s t
+  final-calm = calm l s t final-nearly
 
   pub final-hash : (r : ℕ) → r < identifiersIn s → hashIn l t r ≡ hashIn l s r
   final-hash r h =

@@ -1,5 +1,5 @@
 -- A step is accepted exactly where no fault is there, and refused with n exactly where fault n is there and none before it in 01's order.
-use mathlib.Core.Path.{_≡_, refl, sym, _∙_}
+use mathlib.Core.Path.{_≡_, refl, _∙_}
 use mathlib.Core.Bool.{Bool, true, false, not}
 use mathlib.Core.Logic.{_⊎_, inl, inr, _↔_}
 use mathlib.Core.List.{List, [], _∷_, _++_, append-assoc}
@@ -27,29 +27,41 @@ use Rattle.image.proofs.FaultLaws as faults
 use Rattle.admission.proofs.AnswerLaws.{judged-none}
 use Rattle.unicode.specs.Utf8.{isUtf8, utf16}
 use Rattle.string_find.specs.Find.{findId}
+use Rattle.string_edits.specs.Values.{Values, only, valuesOf}
+use Rattle.string_edits.specs.Lists.{allKnown, allDiffer, allUtf8}
 use Rattle.string_in_place.specs.Patch as string
 use Rattle.strings.specs.Patch as strings
+use Rattle.strings.specs.Pass as pass
 use Rattle.functions.specs.Patch as functions
-use Rattle.patches.specs.Patches.{Patch, byId, byValue, toBody, outcomeOf, Step, stepOf, targetOf}
+use Rattle.patches.specs.Patches.{Patch, byId, byValue, inPass, toBody, outcomeOf, Step, stepOf, toValues, targetOf}
+use Rattle.patches.specs.Promise.{placeAfter}
 use Rattle.patches.specs.Lists.{InBytes, Accepted, FirstFault, Judged}
 use Rattle.patches.specs.Faults.{orderOf, goesTo, PatchFault}
-use Rattle.patches.specs.Faults.PatchFault.{badValue, badOld, badNew, shares, within, infoInside, debugBelow, wasEmpty}
-use Rattle.patches.specs.Faults.PatchFault.{absent, overLimit, overField, overSize, noRoom, badImage, noString, noFunction}
+use Rattle.patches.specs.Faults.PatchFault.{badValue, badValueOf, badOld, badNew, shares, within, infoInside, debugBelow, wasEmpty}
+use Rattle.patches.specs.Faults.PatchFault.{absent, overLimit, overField, overSize, noRoom, badImage, noString, noStringOf}
+use Rattle.patches.specs.Faults.PatchFault.{noFunction, givenTwice}
 use Rattle.patches.proofs.StepLaws.{patch-promise}
 use Rattle.patches.proofs.OrderLaws.{inTurns, InOrder, not-zero, some, judged-in-order}
 use Rattle.patches.proofs.FindLaws.{find-least, find-none}
 use Rattle.patches.proofs.RefusalLaws.{size-wrong, size-failed, fields-wrong, fields-failed, alone-wrong, alone-failed}
-use Rattle.patches.proofs.RefusalLaws.{infos-decide, debug-decide, new-length, patch-wrong, patch-failed}
+use Rattle.patches.proofs.RefusalLaws.{infos-decide, debug-decide, known-decide, differ-decide, utf8-decide, new-length}
+use Rattle.patches.proofs.RefusalLaws.{Beyond, patch-wrong, patch-failed}
 
 -- ---- the checks of a step: those of the patch, and the room
 
 abbrev ownChecks : Layout → List ℕ → Patch → List Check
-ownChecks l s (byId m id value) = check 7 (leb (stringsIn s) id) ∷ check 8 (not (isUtf8 value)) ∷ string.resultChecks m l s id value
+ownChecks l s (byId m id value) =
+    check 7 (leb (stringsIn s) id) ∷ check 8 (not (isUtf8 value)) ∷ string.resultChecks m l s (only id value)
 ownChecks l s (byValue m old new) =
     check 8 (not (isUtf8 old))
     ∷ check 8 (not (isUtf8 new))
     ∷ check 14 (leb (stringsIn s) (findId l s (utf16 old)))
-    ∷ string.resultChecks m l s (findId l s (utf16 old)) new
+    ∷ string.resultChecks m l s (only (findId l s (utf16 old)) new)
+ownChecks l s (inPass m e k) =
+    check 7 (not (allKnown (λ j. e j .id) k (stringsIn s)))
+    ∷ check 17 (not (allDiffer (λ j. e j .id) k))
+    ∷ check 8 (not (allUtf8 (λ j. e j .value) k))
+    ∷ string.resultChecks m l s (valuesOf e k)
 ownChecks l s (toBody id body) =
     check 7 (leb (functionsIn s) id)
     ∷ check 9 (not (functions.bodyAlone l s id))
@@ -70,9 +82,14 @@ module _ (l : Layout) (s : List ℕ) (room : ℕ) where
 
   -- ---- a check that is met is a fault
 
-  limit-shown : (m : Mode) (id : ℕ) (value : List ℕ) (p : Patch) → goesTo l s p (length s) ≡ string.newLength m l s id value
-      → ltb 67_108_864 (string.newLength m l s id value) ≡ true → PatchFault l s room p 11
-  limit-shown m id value p e t = overLimit p (rw e (ltb-true 67_108_864 (string.newLength m l s id value) t))
+  -- those of the result, for any patch of strings
+  result-shows : (m : Mode) (v : Values) (p : Patch) → targetOf l s p ≡ toValues m v
+      → Shows (PatchFault l s room p) (string.resultChecks m l s v ++ roomCheck p)
+  result-shows m v p e =
+      (λ t. overLimit p (rw (e, ← new-length m l s v) (ltb-true 67_108_864 (string.newLength m l s v) t)))
+      also (λ t. let (j, h, u, w) = patch-wrong m l s v (not-true (string.patchFits m l s v) t) in overField p j h u (rw e w))
+      also (λ t. noRoom p (ltb-true room _ t))
+      also nothing
 
   share-shown : (id : ℕ) (body : List ℕ) → functions.bodyAlone l s id ≡ false → PatchFault l s room (toBody id body) 9
   share-shown id body e =
@@ -84,23 +101,19 @@ module _ (l : Layout) (s : List ℕ) (room : ℕ) where
   own-shows (byId m id value) =
       (λ t. noString m id value (leb-true (stringsIn s) id t))
       also (λ t. badValue m id value (not-true (isUtf8 value) t))
-      also (λ t. limit-shown m id value (byId m id value) (sym (new-length m l s id value)) t)
-      also (λ t. let (j, h, u, w) = patch-wrong m l s id value (not-true (string.patchFits m l s id value) t) in
-      overField (byId m id value) j h
-      u w)
-      also (λ t. noRoom (byId m id value) (ltb-true room _ t))
-      also nothing
+      also result-shows m (only id value) (byId m id value) refl
   own-shows (byValue m old new) =
       let id : ℕ = findId l s (utf16 old) in
       (λ t. badOld m old new (not-true (isUtf8 old) t))
       also (λ t. badNew m old new (not-true (isUtf8 new) t))
       also (λ t. absent m old new (λ i h. find-least l s (utf16 old) i (omega (arith, leb-true (stringsIn s) id t))))
-      also (λ t. limit-shown m id new (byValue m old new) (sym (new-length m l s id new)) t)
-      also (λ t. let (j, h, u, w) = patch-wrong m l s id new (not-true (string.patchFits m l s id new) t) in
-      overField (byValue m old new) j h u
-      w)
-      also (λ t. noRoom (byValue m old new) (ltb-true room _ t))
-      also nothing
+      also result-shows m (only id new) (byValue m old new) refl
+  own-shows (inPass m e k) =
+      (λ t. let (j, h, x) = known-decide e k (stringsIn s) .wrong (not-true (allKnown (λ j. e j .id) k (stringsIn s)) t) in
+      noStringOf m e k j h x)
+      also (λ t. let (j, h, (i, g, x)) = differ-decide e k .wrong (not-true (allDiffer (λ j. e j .id) k) t) in givenTwice m e k i j g h x)
+      also (λ t. let (j, h, x) = utf8-decide e k .wrong (not-true (allUtf8 (λ j. e j .value) k) t) in badValueOf m e k j h x)
+      also result-shows m (valuesOf e k) (inPass m e k) refl
   own-shows (toBody id body) =
       (λ t. noFunction id body (leb-true (functionsIn s) id t))
       also (λ t. share-shown id body (not-true (functions.bodyAlone l s id) t))
@@ -124,10 +137,22 @@ module _ (l : Layout) (s : List ℕ) (room : ℕ) where
 
   -- ---- and a fault's check is met
 
+  -- those of the result, for any patch of strings
+  limit-given : (m : Mode) (v : Values) (p : Patch) → 67_108_864 < placeAfter l s (toValues m v) (length s)
+      → given 11 (string.resultChecks m l s v ++ roomCheck p) ≡ true
+  limit-given m v p h = rw (lt-ltb 67_108_864 (string.newLength m l s v) (rw (new-length m l s v) h))
+
+  field-given : (m : Mode) (v : Values) (p : Patch) → Beyond l s (placeAfter l s (toValues m v))
+      → given 12 (string.resultChecks m l s v ++ roomCheck p) ≡ true
+  field-given m v p x = rw (patch-failed m l s v x)
+
   own-gives : (p : Patch) (n : ℕ) → PatchFault l s room p n → given n (allChecks p) ≡ true
   unfolding targetOf
   own-gives p n (badImage q m x) = given-first n (checks l s) (ownChecks l s p ++ roomCheck p) (faults.gives l s n x)
   own-gives p n (noString m id value h) = given-last n (checks l s) _ (rw (le-leb (stringsIn s) id h))
+  own-gives p n (noStringOf m e k j h x) = given-last n (checks l s) _ (rw (known-decide e k (stringsIn s) .failed (j, h, x)))
+  own-gives p n (givenTwice m e k i j g h x) = given-last n (checks l s) _ (rw (differ-decide e k .failed (j, h, (i, g, x))))
+  own-gives p n (badValueOf m e k j h x) = given-last n (checks l s) _ (rw (utf8-decide e k .failed (j, h, x)))
   own-gives p n (noFunction id body h) = given-last n (checks l s) _ (rw (le-leb (functionsIn s) id h))
   own-gives p n (badValue m id value h) = given-last n (checks l s) _ (rw h)
   own-gives p n (badOld m old new h) = given-last n (checks l s) _ (rw h)
@@ -138,18 +163,16 @@ module _ (l : Layout) (s : List ℕ) (room : ℕ) where
   own-gives p n (debugBelow id body x y) = given-last n (checks l s) _ (simp (debug-decide l s id .failed (x, y), either-true))
   own-gives p n (wasEmpty id body x y) = given-last n (checks l s) _ (rw (eq-eqb (funcOf l s id .size) 0 x, lt-ltb 0 (length body) y))
   own-gives p n (absent m old new h) = given-last n (checks l s) _ (rw (le-leb (stringsIn s) _ (find-none l s (utf16 old) h)))
-  own-gives p n (overLimit (byId m id value) h) =
-      given-last n (checks l s) _
-      (simp (lt-ltb 67_108_864 (string.newLength m l s id value) (rw (new-length m l s id value) h), either-true))
+  own-gives p n (overLimit (byId m id value) h) = given-last n (checks l s) _ (limit-given m (only id value) p h)
   own-gives p n (overLimit (byValue m old new) h) =
-      let id : ℕ = findId l s (utf16 old) in
-      given-last n (checks l s) _ (simp (lt-ltb 67_108_864 (string.newLength m l s id new) (rw (new-length m l s id new) h), either-true))
+      given-last n (checks l s) _ (limit-given m (only (findId l s (utf16 old)) new) p h)
+  own-gives p n (overLimit (inPass m e k) h) = given-last n (checks l s) _ (limit-given m (valuesOf e k) p h)
   own-gives p n (overLimit (toBody id body) h) =
       given-last n (checks l s) _ (simp (lt-ltb 67_108_864 (functions.movedPastBody l s id body (length s)) h, either-true))
-  own-gives p n (overField (byId m id value) j h u w) =
-      given-last n (checks l s) _ (simp (patch-failed m l s id value (j, h, u, w), either-true))
+  own-gives p n (overField (byId m id value) j h u w) = given-last n (checks l s) _ (field-given m (only id value) p (j, h, u, w))
   own-gives p n (overField (byValue m old new) j h u w) =
-      given-last n (checks l s) _ (simp (patch-failed m l s (findId l s (utf16 old)) new (j, h, u, w), either-true))
+      given-last n (checks l s) _ (field-given m (only (findId l s (utf16 old)) new) p (j, h, u, w))
+  own-gives p n (overField (inPass m e k) j h u w) = given-last n (checks l s) _ (field-given m (valuesOf e k) p (j, h, u, w))
   own-gives p n (overField (toBody id body) j h u w) =
       given-last n (checks l s) _ (simp (fields-failed l s (functions.movedPastBody l s id body) (j, h, u, w), either-true))
   own-gives p n (overSize id body t h) = given-last n (checks l s) _ (simp (size-failed l s id body t h, either-true))
@@ -163,6 +186,7 @@ module _ (l : Layout) (s : List ℕ) (room : ℕ) where
   unfolding checks turnIn
   rises (byId m id value) = refl
   rises (byValue m old new) = refl
+  rises (inPass m e k) = refl
   rises (toBody id body) = refl
 
   in-order : (p : Patch) → InOrder (orderOf p) (PatchFault l s room p) (allChecks p)
@@ -225,8 +249,9 @@ room-more l s p room more h f = roomed-more (outcomeOf l s p) room more h f
 
 -- what a patch makes where it is accepted
 abbrev resultOf : Layout → List ℕ → Patch → List ℕ
-resultOf l s (byId m id value) = string.patchedString m l s id value
-resultOf l s (byValue m old new) = string.patchedString m l s (findId l s (utf16 old)) new
+resultOf l s (byId m id value) = string.patchedStrings m l s (only id value)
+resultOf l s (byValue m old new) = string.patchedStrings m l s (only (findId l s (utf16 old)) new)
+resultOf l s (inPass m e k) = string.patchedStrings m l s (valuesOf e k)
 resultOf l s (toBody id body) = functions.patchedBody l s id body
 
 module _ (l : Layout) (s : List ℕ) (bytes : AllBelow 256 s) (p : Step) (in-bytes : InBytes (p .patch)) where
@@ -235,16 +260,18 @@ module _ (l : Layout) (s : List ℕ) (bytes : AllBelow 256 s) (p : Step) (in-byt
 
   outcome-is : (q : Patch) → outcomeOf l s q ≡ pick (eqb (judge (checks l s ++ ownChecks l s q)) 0) (made (resultOf l s q))
       (refused (judge (checks l s ++ ownChecks l s q)))
-  unfolding outcomeOf strings.patchById strings.byIdRefusal strings.patchByValue strings.byValueRefusal functions.patchBody
-      functions.bodyRefusal
+  unfolding outcomeOf strings.patchById strings.byIdRefusal strings.patchByValue strings.byValueRefusal pass.patchInPass
+      pass.passRefusal functions.patchBody functions.bodyRefusal
   outcome-is (byId m id value) = refl
   outcome-is (byValue m old new) = refl
+  outcome-is (inPass m e k) = refl
   outcome-is (toBody id body) = refl
 
   all-numbered : (q : Patch) → numbered (checks l s ++ ownChecks l s q) ≡ true
   unfolding checks
   all-numbered (byId m id value) = refl
   all-numbered (byValue m old new) = refl
+  all-numbered (inPass m e k) = refl
   all-numbered (toBody id body) = refl
 
   -- a list that is passed begins with a list that is passed

@@ -10,7 +10,8 @@ use lib.Dec.{ltb, eqb}
 use lib.ListN.{length}
 use Rattle.bits.specs.Choice.{pick, both, either, implies}
 use Rattle.bits.proofs.TestLaws.{below-or, both-0, both-1, either-0, either-1, either-or, either-true, imp-false, all-not, all-fails}
-use Rattle.bits.proofs.DecideLaws.{Decides, leb-decides, eqb-decides, not-decides, both-decides, implies-decides, all-decides}
+use Rattle.bits.proofs.DecideLaws.{Decides, leb-decides, eqb-decides, itself-decides, not-decides, both-decides, implies-decides}
+use Rattle.bits.proofs.DecideLaws.{all-decides}
 use Rattle.format.specs.declared.Layout.{Layout}
 use Rattle.format.specs.declared.Mode.{Mode}
 use Rattle.format.specs.declared.Layout.the-variants.{Modern, Legacy}
@@ -22,14 +23,17 @@ use Rattle.image.specs.Faults.{ShareByte}
 use Rattle.image.proofs.FaultLaws.{share}
 use Rattle.edits.proofs.SlotLaws.{small-fits, modern-info}
 use Rattle.functions.specs.Patch.{threshold, sharesWith, bodyAlone, infosOutside, debugPast, sizeFits}
-use Rattle.string_packing.specs.Strings.{asString, stringsWith}
+use Rattle.unicode.specs.Utf8.{isUtf8}
+use Rattle.string_edits.specs.Values.{Values, Edit}
+use Rattle.string_edits.specs.Lists.{allKnown, allDiffer, allUtf8}
+use Rattle.string_packing.specs.Strings.{stringsWith}
 use Rattle.edits.specs.Rebuild.{newTail}
-use Rattle.string_in_place.specs.Patch.{fitsInPlace, newLength, patchFits}
+use Rattle.string_in_place.specs.Patch.{fitsAll, newLength, patchFits}
 use Rattle.format.specs.Move.{moved}
 use Rattle.patches.specs.Faults.{sizeMost}
-use Rattle.patches.specs.Patches.{aString}
+use Rattle.patches.specs.Patches.{toValues}
 use Rattle.patches.specs.Promise.{placeAfter}
-use Rattle.patches.proofs.StringLaws.{moved-still}
+use Rattle.patches.proofs.InPlaceLaws.{moved-still}
 
 ltb-decides : (m n : ℕ) → Decides (ltb m n) (m < n) (n ≤ m)
 ltb-decides m n = record { holds = ltb-true m n; passed = lt-ltb m n; wrong = ltb-false m n; failed = le-ltb m n }
@@ -45,7 +49,7 @@ size-bits Modern = refl
 size-bits (Legacy big sources) = refl
 
 -- a small record holds its own places
-small-most : (l : Layout) (s : List ℕ) (j : ℕ) → funcOf l s j .large ≡ false → (funcOf l s j .begin ≤ 33_554_431)
+pub small-most : (l : Layout) (s : List ℕ) (j : ℕ) → funcOf l s j .large ≡ false → (funcOf l s j .begin ≤ 33_554_431)
     × (funcOf l s j .info ≤ 33_554_431)
 small-most Modern s j t = (omega (arith, small-fits Modern s j t .fields .begin), omega (arith, modern-info s j))
 small-most (Legacy big sources) s j t =
@@ -159,35 +163,50 @@ module _ (l : Layout) (s : List ℕ) (id : ℕ) where
   unfolding debugPast
   debug-decide = implies-decides (not-decides (eqb-decides (debugIn l s) 0)) (leb-decides (threshold f₀) (debugIn l s))
 
+-- ---- a list of edits: 7, 17 and 8
+
+module _ (e : ℕ → Edit) (k : ℕ) where
+  pub known-decide : (n : ℕ) → Decides (allKnown (λ j. e j .id) k n) ((j : ℕ) → j < k → e j .id < n)
+      ((j : ℕ) × (j < k) × (n ≤ e j .id))
+  known-decide n = all-decides (λ j. ltb-decides (e j .id) n) k
+
+  pub differ-decide : Decides (allDiffer (λ j. e j .id) k) ((j : ℕ) → j < k → (i : ℕ) → i < j → e i .id ≢ e j .id)
+      ((j : ℕ) × (j < k) × ((i : ℕ) × (i < j) × (e i .id ≡ e j .id)))
+  differ-decide = all-decides (λ j. all-decides (λ i. not-decides (eqb-decides (e i .id) (e j .id))) j) k
+
+  pub utf8-decide : Decides (allUtf8 (λ j. e j .value) k) ((j : ℕ) → j < k → isUtf8 (e j .value) ≡ true)
+      ((j : ℕ) × (j < k) × (isUtf8 (e j .value) ≡ false))
+  utf8-decide = all-decides (λ j. itself-decides (isUtf8 (e j .value))) k
+
 -- ---- strings: 11 and 12
 
-module _ (m : Mode) (l : Layout) (s : List ℕ) (id : ℕ) (value : List ℕ) where
+module _ (m : Mode) (l : Layout) (s : List ℕ) (v : Values) where
   abbrev goes : ℕ → ℕ
-  goes = placeAfter l s (aString m id value)
+  goes = placeAfter l s (toValues m v)
 
-  pub new-length : newLength m l s id value ≡ goes (length s)
+  pub new-length : newLength m l s v ≡ goes (length s)
   unfolding newLength
-  new-length = go (fitsInPlace l s id value)
+  new-length = go (fitsAll l s v)
     where
-      go : (b : Bool) → pick b (length s) (moved (tailAt l s) (newTail l (stringsWith m l s id (asString value)) s) (length s))
-          ≡ moved (tailAt l s) (pick b (tailAt l s) (newTail l (stringsWith m l s id (asString value)) s)) (length s)
+      go : (b : Bool) → pick b (length s) (moved (tailAt l s) (newTail l (stringsWith m l s v) s) (length s))
+          ≡ moved (tailAt l s) (pick b (tailAt l s) (newTail l (stringsWith m l s v) s)) (length s)
       go true = sym (moved-still (tailAt l s) (length s))
       go false = refl
 
-  pub patch-wrong : patchFits m l s id value ≡ false → Beyond l s goes
+  pub patch-wrong : patchFits m l s v ≡ false → Beyond l s goes
   unfolding patchFits
   patch-wrong e =
-      let mv : ℕ → ℕ = moved (tailAt l s) (newTail l (stringsWith m l s id (asString value)) s) in
-      let no : fitsInPlace l s id value ≡ false = either-0 (fitsInPlace l s id value) (fieldsFit l s mv) e in
-      rw no (fields-wrong l s mv (either-1 (fitsInPlace l s id value) (fieldsFit l s mv) e))
+      let mv : ℕ → ℕ = moved (tailAt l s) (newTail l (stringsWith m l s v) s) in
+      let no : fitsAll l s v ≡ false = either-0 (fitsAll l s v) (fieldsFit l s mv) e in
+      rw no (fields-wrong l s mv (either-1 (fitsAll l s v) (fieldsFit l s mv) e))
 
   -- what does not move fits already
-  pub patch-failed : Beyond l s goes → patchFits m l s id value ≡ false
+  pub patch-failed : Beyond l s goes → patchFits m l s v ≡ false
   unfolding patchFits
-  patch-failed x = go (fitsInPlace l s id value) x
+  patch-failed x = go (fitsAll l s v) x
     where
-      go : (b : Bool) → Beyond l s (moved (tailAt l s) (pick b (tailAt l s) (newTail l (stringsWith m l s id (asString value)) s)))
-          → either b (fieldsFit l s (moved (tailAt l s) (newTail l (stringsWith m l s id (asString value)) s))) ≡ false
+      go : (b : Bool) → Beyond l s (moved (tailAt l s) (pick b (tailAt l s) (newTail l (stringsWith m l s v) s)))
+          → either b (fieldsFit l s (moved (tailAt l s) (newTail l (stringsWith m l s v) s))) ≡ false
       go true (j, h, t, w) =
           let f : Func = funcOf l s j in
           let (a, b) = small-most l s j t in
@@ -196,7 +215,7 @@ module _ (m : Mode) (l : Layout) (s : List ℕ) (id : ℕ) (value : List ℕ) wh
             | inr g ↦ omega
                 (arith, moved-still (tailAt l s) (f .info))
           ])
-      go false x = fields-failed l s (moved (tailAt l s) (newTail l (stringsWith m l s id (asString value)) s)) x
+      go false x = fields-failed l s (moved (tailAt l s) (newTail l (stringsWith m l s v) s)) x
 
 -- ---- bodies: the new size
 

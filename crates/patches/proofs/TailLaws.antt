@@ -15,14 +15,14 @@ use Rattle.image.specs.Functions.{funcOf}
 use Rattle.image.specs.Admitted.{Disjoint, Admitted}
 use Rattle.image.proofs.PlaceLaws.{ordered}
 use Rattle.edits.proofs.RebuildLaws.{Large}
-use Rattle.patches.specs.Patches.{Patch, byId, byValue, toBody, Target, aString, aBody, targetOf}
+use Rattle.patches.specs.Patches.{Patch, byId, byValue, inPass, toBody, Target, toValues, aBody, targetOf}
 use Rattle.patches.specs.Promise.{movesFrom, movesTo, placeAfter, OutsideBody, OutsideHeaders, Kept}
 use Rattle.patches.specs.Faults.{PatchFault}
 use Rattle.patches.specs.Faults.PatchFault.{noFunction}
 
 -- the body that is set is there
 abbrev pub Known : Layout → List ℕ → Target → Type 0
-Known l s (aString m id value) = Unit {0}
+Known l s (toValues m v) = Unit {0}
 Known l s (aBody id body) = id < functionsIn s
 
 pub known : (l : Layout) (s : List ℕ) (room : ℕ) (p : Patch) → ((n : ℕ) → PatchFault l s room p n → ⊥)
@@ -30,6 +30,7 @@ pub known : (l : Layout) (s : List ℕ) (room : ℕ) (p : Patch) → ((n : ℕ) 
 unfolding targetOf
 known l s room (byId m id value) f = tt
 known l s room (byValue m old new) f = tt
+known l s room (inPass m e k) f = tt
 known l s room (toBody id body) f = elim (below-or id (functionsIn s)) [ inl h ↦ h | inr h ↦ absurd (f 7 (noFunction id body h)) ]
 
 -- z bytes from a are replaced by n: w bytes from x that share none with them do not come to share one with the byte p
@@ -69,16 +70,16 @@ pub zero-stays : (l : Layout) (s : List ℕ) (c : Target) → Stepped l s c → 
 zero-stays l s c st = moved-low (movesFrom l s c) (movesTo l s c) 0 (past c st)
   where
     past : (c : Target) → Stepped l s c → 0 < movesFrom l s c
-    past (aString m id value) st = let o = ordered l s in omega (arith, o .kinds, o .hashes, o .small, o .over, o .storage, o .tail)
+    past (toValues m v) st = let o = ordered l s in omega (arith, o .kinds, o .hashes, o .small, o .over, o .storage, o .tail)
     past (aBody id body) st =
         let o = ordered l s in
         omega (arith, o .kinds, o .hashes, o .small, o .over, o .storage, o .tail, st .admitted .body id (st .known) .0)
 
 header-clear : (l : Layout) (s : List ℕ) (c : Target) → Stepped l s c → (p : ℕ) → TailByte l s c p → (j : ℕ) → Large l s j
     → Disjoint (placeAfter l s c (funcOf l s j .ptr)) (table.largeRow l .width) (placeAfter l s c p) 1
-header-clear l s (aString m id value) st p tb j la =
+header-clear l s (toValues m v) st p tb j la =
     let from = tailAt l s in
-    let to = movesTo l s (aString m id value) in
+    let to = movesTo l s (toValues m v) in
     let x : ℕ = funcOf l s j .ptr in
     let h = st .admitted .header j (la .known) (la .large) .0 in
     let a = moved-high from to x h in

@@ -1,10 +1,11 @@
--- Values as strings: what may stand in an image, the list of strings with one replaced, and the hash of a value.
+-- Values as strings: what may stand in an image, the strings with the values that they get, and the hash of a value.
 use mathlib.Core.Path.{_≡_, refl}
 use mathlib.Core.Bool.{Bool, true, false}
+use mathlib.Core.Logic.{inl, inr}
+use mathlib.Core.Option.{some}
 use mathlib.Core.List.{List, [], _∷_}
 use Prim.Native.Nat.{ℕ, zero, suc, _/_, _^_, _<_}
 use native.Mathlib.Omega.{arith}
-use lib.Dec.{eqb}
 use Rattle.bits.specs.Choice.{pick}
 use Rattle.bits.specs.Bytes.{bytesOf, ascii}
 use Rattle.bits.specs.Word32.{xorN}
@@ -13,11 +14,12 @@ use Rattle.bits.proofs.ListLaws.{AllBelow, below-nil, below-append, below-bytes
 use Rattle.format.specs.declared.Layout.{Layout}
 use Rattle.format.specs.Hash.{mixed, hashStep, hashFrom, hashOf}
 use Rattle.image.specs.Sections.{stringsIn}
-use Rattle.image.specs.Strings.{Str, stringOf}
 use Rattle.image.specs.Admitted.{Admitted}
 use Rattle.edits.proofs.RebuildLaws.{Valid}
 use Rattle.edits.proofs.StringLaws.{old-valid}
 use Rattle.unicode.specs.Utf8.{utf16, unitBytes}
+use Rattle.string_edits.specs.Values.{Values}
+use Rattle.string_edits.proofs.TurnLaws.{some-or-none}
 use Rattle.string_packing.specs.Strings.{asString, stringWith}
 use Rattle.string_packing.proofs.ShapeLaws.{length-units}
 
@@ -29,7 +31,7 @@ units-below [] = below-nil 256 (omega arith)
 units-below (u ∷ us) = below-append 256 (omega arith) (bytesOf 2 u) (unitBytes us) (below-bytesOf 2 u) (units-below us)
 
 -- a value may stand in an image
-pub value-valid : (value : List ℕ) → AllBelow 256 value → Valid (asString value)
+value-valid : (value : List ℕ) → AllBelow 256 value → Valid (asString value)
 unfolding asString
 value-valid value b = go (ascii value) refl
   where
@@ -42,16 +44,16 @@ value-valid value b = go (ascii value) refl
       narrow = λ w. absurd (let z : _≡_ {A = ℕ} 0 1 = cc in omega arith);
     }
 
--- ---- the strings with one replaced
+-- ---- the strings with the values that they get
 
-pub with-valid : (l : Layout) (s : List ℕ) (id : ℕ) (t : Str) → Admitted l s → Valid t → (i : ℕ) → i < stringsIn s
-    → Valid (stringWith l s id t i)
+pub with-valid : (l : Layout) (s : List ℕ) (v : Values) → Admitted l s
+    → ((i : ℕ) → i < stringsIn s → (value : List ℕ) → v i ≡ some value → AllBelow 256 value)
+    → (i : ℕ) → i < stringsIn s → Valid (stringWith l s v i)
 unfolding stringWith
-with-valid l s id t ad v i h = go (eqb i id)
-  where
-    go : (b : Bool) → Valid (pick b t (stringOf l s i))
-    go true = v
-    go false = old-valid l s ad i h
+with-valid l s v ad bytes i h = elim (some-or-none (v i)) [
+  | inl q ↦ rw q (old-valid l s ad i h)
+  | inr (value, q) ↦ rw q (value-valid value (bytes i h value q))
+]
 
 -- ---- the hash of units is a word
 

@@ -8,7 +8,7 @@ use mathlib.Core.List.{List}
 use Prim.Native.Nat.{ℕ, _≤_, _<_}
 use lib.ListN.{length}
 use Rattle.refusals.specs.Numbers as refusals
-use Rattle.refusals.specs.Order.{ofStringById, ofStringByValue, ofBody, turnIn}
+use Rattle.refusals.specs.Order.{ofStringById, ofStringByValue, ofPass, ofBody, turnIn}
 use Rattle.format.specs.declared.Layout.{Layout}
 use Rattle.format.specs.declared.Layout.the-variants.{Modern, Legacy}
 use Rattle.format.specs.declared.Mode.{Mode}
@@ -17,14 +17,16 @@ use Rattle.image.specs.Strings.{stringOf, unitsOf}
 use Rattle.image.specs.Functions.{funcOf}
 use Rattle.image.specs.Faults.{ShareByte, Fault}
 use Rattle.unicode.specs.Utf8.{isUtf8, utf16}
+use Rattle.string_edits.specs.Values.{Edit}
 use Rattle.functions.specs.Patch.{threshold}
-use Rattle.patches.specs.Patches.{Patch, byId, byValue, toBody, targetOf}
+use Rattle.patches.specs.Patches.{Patch, byId, byValue, inPass, toBody, targetOf}
 use Rattle.patches.specs.Promise.{placeAfter}
 
 -- the order in which the numbers of a patch are due
 abbrev pub orderOf : Patch → List ℕ
 orderOf (byId m id value) = ofStringById
 orderOf (byValue m old new) = ofStringByValue
+orderOf (inPass m e k) = ofPass
 orderOf (toBody id body) = ofBody
 
 -- number k is due before number n
@@ -45,9 +47,16 @@ pub data PatchFault (l : Layout) (s : List ℕ) (room : ℕ) : Patch → ℕ →
   badImage : (p : Patch) (n : ℕ) → Fault l s n → PatchFault l s room p n
   -- 7 id: "no such string or function"
   noString : (m : Mode) (id : ℕ) (value : List ℕ) → stringsIn s ≤ id → PatchFault l s room (byId m id value) refusals.id
+  noStringOf : (m : Mode) (e : ℕ → Edit) (k j : ℕ) → j < k → stringsIn s ≤ e j .id
+      → PatchFault l s room (inPass m e k) refusals.id
   noFunction : (id : ℕ) (body : List ℕ) → functionsIn s ≤ id → PatchFault l s room (toBody id body) refusals.id
+  -- 17 twice: "an id given twice" (02, No. 4)
+  givenTwice : (m : Mode) (e : ℕ → Edit) (k i j : ℕ) → i < j → j < k → e i .id ≡ e j .id
+      → PatchFault l s room (inPass m e k) refusals.twice
   -- 8 value: "not valid UTF-8"
   badValue : (m : Mode) (id : ℕ) (value : List ℕ) → isUtf8 value ≡ false → PatchFault l s room (byId m id value) refusals.value
+  badValueOf : (m : Mode) (e : ℕ → Edit) (k j : ℕ) → j < k → isUtf8 (e j .value) ≡ false
+      → PatchFault l s room (inPass m e k) refusals.value
   badOld : (m : Mode) (old new : List ℕ) → isUtf8 old ≡ false → PatchFault l s room (byValue m old new) refusals.value
   badNew : (m : Mode) (old new : List ℕ) → isUtf8 new ≡ false → PatchFault l s room (byValue m old new) refusals.value
   -- 9 inside: "another body shares a byte with it"

@@ -22,37 +22,41 @@ use Rattle.image.specs.Functions.{Func, funcOf, bodyOf}
 use Rattle.image.specs.Admitted.{Disjoint, Admitted}
 use Rattle.unicode.specs.Utf8.{utf16}
 use Rattle.edits.specs.Packing.{placed, NoneOdd, Spaced}
-use Rattle.string_packing.specs.Strings.{asString, stringWith, stringsWith}
+use Rattle.string_edits.specs.Values.{inTurn}
+use Rattle.string_packing.specs.Strings.{newString, stringWith, stringsWith}
 use Rattle.edits.specs.Rebuild.{newTail}
-use Rattle.string_in_place.specs.Patch.{fitsInPlace}
+use Rattle.string_in_place.specs.Patch.{fitsAll}
 use Rattle.functions.specs.Patch.{threshold}
-use Rattle.patches.specs.Patches.{Target, aString, aBody}
+use Rattle.patches.specs.Patches.{Target, toValues, aBody}
 
 -- ---- what is set
 
--- string i: the value, narrow if ASCII, else UTF-16
+-- string i: the value that it gets, if it gets one, narrow if ASCII, else UTF-16
 abbrev pub stringAfter : ℕ → Target → Str → Str
-stringAfter i (aString m id value) old = pick (eqb i id) (asString value) old
+stringAfter i (toValues m v) old = newString (v i) old
 stringAfter i (aBody id body) old = old
 
 -- body i
 abbrev pub bodyAfter : ℕ → Target → List ℕ → List ℕ
-bodyAfter i (aString m id value) old = old
+bodyAfter i (toValues m v) old = old
 bodyAfter i (aBody id body) old = pick (eqb i id) body old
 
--- hash slot r: the hash of the value, where the string is an identifier of this rank
+-- hash slot r: the hash of the value that string i gets, where this is an identifier of that rank
+abbrev pub hashOver : Layout → ℕ → List ℕ → ℕ → List ℕ → ℕ → ℕ
+hashOver l r s i value old = pick (both (isIdentifier l s i) (eqb r (rankOf l s i))) (hashOf (utf16 value)) old
+
 abbrev pub hashAfter : Layout → ℕ → List ℕ → Target → ℕ → ℕ
-hashAfter l r s (aString m id value) old = pick (both (isIdentifier l s id) (eqb r (rankOf l s id))) (hashOf (utf16 value)) old
+hashAfter l r s (toValues m v) old = inTurn v (hashOver l r s) (stringsIn s) old
 hashAfter l r s (aBody id body) old = old
 
 -- ---- what moves: "a place at or past the tail (rebuild) or threshold (body) moves by delta, any other and 0 stay"
 
 abbrev pub movesFrom : Layout → List ℕ → Target → ℕ
-movesFrom l s (aString m id value) = tailAt l s
+movesFrom l s (toValues m v) = tailAt l s
 movesFrom l s (aBody id body) = threshold (funcOf l s id)
 
 abbrev pub movesTo : Layout → List ℕ → Target → ℕ
-movesTo l s (aString m id value) = pick (fitsInPlace l s id value) (tailAt l s) (newTail l (stringsWith m l s id (asString value)) s)
+movesTo l s (toValues m v) = pick (fitsAll l s v) (tailAt l s) (newTail l (stringsWith m l s v) s)
 movesTo l s (aBody id body) = funcOf l s id .begin + length body
 
 abbrev pub placeAfter : Layout → List ℕ → Target → ℕ → ℕ
@@ -60,7 +64,7 @@ placeAfter l s c = moved (movesFrom l s c) (movesTo l s c)
 
 -- the size of body i
 abbrev pub sizeAfter : ℕ → Target → ℕ → ℕ
-sizeAfter i (aString m id value) old = old
+sizeAfter i (toValues m v) old = old
 sizeAfter i (aBody id body) old = pick (eqb i id) (length body) old
 
 -- function i: its places move, and a patched body has its new size
@@ -75,7 +79,7 @@ functionAfter l s c i f = record {
 
 -- "every tail byte outside patched bodies, large-header words and footer"
 abbrev pub OutsideBody : Layout → List ℕ → Target → ℕ → Type 0
-OutsideBody l s (aString m id value) p = Unit {0}
+OutsideBody l s (toValues m v) p = Unit {0}
 OutsideBody l s (aBody id body) p = p < threshold (funcOf l s id) → p < funcOf l s id .begin
 
 abbrev pub OutsideHeaders : Layout → List ℕ → ℕ → Type 0
@@ -90,14 +94,12 @@ Unmoved l s t = (i : ℕ) → i < stringsIn s → placeAt l t i ≡ placeAt l s 
 
 -- after a rebuild as its mode packs them; "In-place patches never move a string"; and no body patch does
 abbrev pub StringPlaces : Layout → List ℕ → List ℕ → Target → Type 0
-StringPlaces l s t (aString m id value) =
-    (fitsInPlace l s id value ≡ false → Spaced m l t) × (fitsInPlace l s id value ≡ true → Unmoved l s t)
+StringPlaces l s t (toValues m v) = (fitsAll l s v ≡ false → Spaced m l t) × (fitsAll l s v ≡ true → Unmoved l s t)
 StringPlaces l s t (aBody id body) = Unmoved l s t
 
 -- the mode does not matter: nothing moves, or no wide string comes to an odd place where each stands where the one before it ends
 abbrev pub Modeless : Layout → List ℕ → Target → Type 0
-Modeless l s (aString m id value) =
-    (fitsInPlace l s id value ≡ true) ⊎ NoneOdd (stringsIn s) (placed Plain (stringWith l s id (asString value)))
+Modeless l s (toValues m v) = (fitsAll l s v ≡ true) ⊎ NoneOdd (stringsIn s) (placed Plain (stringWith l s v))
 Modeless l s (aBody id body) = Unit {0}
 
 -- ---- what t promises, made from s by a patch that sets c

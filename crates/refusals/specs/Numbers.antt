@@ -58,6 +58,10 @@ room = 13
 abbrev pub absent : ℕ
 absent = 14
 
--- malformed input of a program or of the builder
+-- malformed input of a program or of the builder; edits that are no list (02, No. 4)
 abbrev pub job : ℕ
 job = 15
+
+-- 02, No. 4: an id given twice
+abbrev pub twice : ℕ
+twice = 17

@@ -22,6 +22,10 @@ ofResult = refusals.limit ∷ refusals.field ∷ refusals.room ∷ []
 abbrev pub ofStringById : List ℕ
 ofStringById = ofImage ++ (refusals.id ∷ refusals.value ∷ ofResult)
 
+-- 02, No. 4: "17, an id given twice, after 7 and before 8"
+abbrev pub ofPass : List ℕ
+ofPass = ofImage ++ (refusals.id ∷ refusals.twice ∷ refusals.value ∷ ofResult)
+
 -- "by value 8 (old, new), 14"
 abbrev pub ofStringByValue : List ℕ
 ofStringByValue = ofImage ++ (refusals.value ∷ refusals.absent ∷ ofResult)

@@ -30,3 +30,5 @@ pub const ROOM: u8 = 13;
 pub const ABSENT: u8 = 14;
 
 pub const JOB: u8 = 15;
+
+pub const TWICE: u8 = 17;

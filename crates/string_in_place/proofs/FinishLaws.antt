@@ -16,20 +16,21 @@ use Rattle.bits.specs.declared.Answer.the-variants.{Refused}
 use Rattle.bits.proofs.OutcomeLaws.{roomed-short, roomed-fits, lent-front}
 use Rattle.format.specs.declared.Layout.{Layout}
 use Rattle.format.specs.Hash.{hashOf}
-use Rattle.footer.specs.Finalize.{leastLength, sizeLimit, lengthed, sealed, finalizeOf}
+use Rattle.footer.specs.Finalize.{leastLength, lengthed, sealed, finalizeOf}
 use Rattle.footer.proofs.FinalizeLaws.{finalize-within, length-finalized}
 use Rattle.unicode.specs.Utf8.{utf16}
-use Rattle.image.specs.Sections.{hashesAt}
+use Rattle.image.specs.Sections.{stringsIn, hashesAt}
 use Rattle.image.specs.Kinds.{isIdentifier, rankOf}
 use Rattle.sections.specs.declared.Places.{Places}
 use Rattle.sections.specs.Places.{Laid}
-use Rattle.sections.proofs.SectionLaws.{Sectioned, sectioned}
 use Rattle.string_walk.specs.declared.Rank.{Rank}
 use Rattle.string_walk.specs.declared.Rank.the-variants.{At, Plain}
 use Rattle.string_walk.specs.Records.{rankIn}
 use Rattle.string_walk.proofs.RankLaws.{is-ranked, is-plain, hashes-from, slot-in, rank-slot}
-use Rattle.string_in_place.specs.Known.{hashed, finishedWith, Finishable}
-use Rattle.string_in_place.specs.Patch.{rehashed, finished}
+use Rattle.string_edits.specs.Values.{Values}
+use Rattle.string_edits.proofs.TurnLaws.{turn-keeps}
+use Rattle.string_in_place.specs.Known.{slotted, SlotFits, Finishable}
+use Rattle.string_in_place.specs.Patch.{hashed, rehashed, finished}
 
 -- ---- the hash slot
 
@@ -38,44 +39,41 @@ pub record Slotted (p : Places) (s : List ℕ) (id : ℕ) (rank : Rank) (n : ℕ
   pub laid : Laid p s
   pub known : id < p .strings
   pub ranked : rank ≡ rankIn (p .layout) s id
-  pub holds : p .«small_at» ≤ n
-  pub limit : n ≤ sizeLimit
+  pub fits : Finishable p n
 
 module _ (p : Places) (s : List ℕ) (id : ℕ) (rank : Rank) (n : ℕ) (h : Slotted p s id rank n) where
-  pub finishable : Finishable (p .«hashes_at») rank n
-  finishable =
-      let z : Sectioned p s = sectioned p s (h .laid .placed) in
-      record {
-        slot = λ k e.
-            let b : k < p .identifiers = rank-slot p s (h .laid) id (h .known) rank (h .ranked) k e in
-            omega (arith, slot-in p s (h .laid .placed) k b, h .holds);
-        least = omega (arith, h .holds);
-        limit = h .limit;
-      }
+  pub slot-fits : SlotFits (p .«hashes_at») rank n
+  slot-fits = record {
+    slot = λ k e.
+        let b : k < p .identifiers = rank-slot p s (h .laid) id (h .known) rank (h .ranked) k e in
+        omega (arith, slot-in p s (h .laid .placed) k b, h .fits .slots);
+    limit = h .fits .limit;
+  }
 
   -- the slot of that rank is the one that 01 names
-  hashed-is : (units out : List ℕ) → hashed (p .«hashes_at») rank units out ≡ rehashed (p .layout) s id units out
-  unfolding rehashed
-  hashed-is units out = go rank (h .ranked)
+  pub slotted-is : (value out : List ℕ) → slotted (p .«hashes_at») rank (utf16 value) out ≡ hashed (p .layout) s id value out
+  unfolding hashed
+  slotted-is value out = go rank (h .ranked)
     where
-      go : (r : Rank) → r ≡ rankIn (p .layout) s id → hashed (p .«hashes_at») r units out ≡ pick (isIdentifier (p .layout) s id)
-          (sets out (hashesAt (p .layout) s + rankOf (p .layout) s id * 4) (bytesOf 4 (hashOf units))) out
+      go : (r : Rank) → r ≡ rankIn (p .layout) s id
+          → slotted (p .«hashes_at») r (utf16 value) out ≡ pick (isIdentifier (p .layout) s id)
+          (sets out (hashesAt (p .layout) s + rankOf (p .layout) s id * 4) (bytesOf 4 (hashOf (utf16 value)))) out
       go (At k) e =
           let (t, g) = is-ranked (p .layout) s id (At k) e k refl in
           rw (t, g, hashes-from p s (h .laid .placed))
       go Plain e = rw (is-plain (p .layout) s id Plain e refl)
 
-  pub finished-is : (value out : List ℕ) → finishedWith (p .«hashes_at») rank value out ≡ finished (p .layout) s id value out
-  unfolding finished
-  finished-is value out = ap (λ (o : List ℕ). sealed (lengthed o)) (hashed-is (utf16 value) out)
-
-length-rehashed : (l : Layout) (s : List ℕ) (id : ℕ) (units out : List ℕ) → length (rehashed l s id units out) ≡ length out
-unfolding rehashed
-length-rehashed l s id units out = go (isIdentifier l s id)
+length-hashed : (l : Layout) (s : List ℕ) (id : ℕ) (value out : List ℕ) → length (hashed l s id value out) ≡ length out
+unfolding hashed
+length-hashed l s id value out = go (isIdentifier l s id)
   where
-    go : (b : Bool) → length (pick b (sets out (hashesAt l s + rankOf l s id * 4) (bytesOf 4 (hashOf units))) out) ≡ length out
-    go true = length-sets out (hashesAt l s + rankOf l s id * 4) (bytesOf 4 (hashOf units))
+    go : (b : Bool) → length (pick b (sets out (hashesAt l s + rankOf l s id * 4) (bytesOf 4 (hashOf (utf16 value)))) out) ≡ length out
+    go true = length-sets out (hashesAt l s + rankOf l s id * 4) (bytesOf 4 (hashOf (utf16 value)))
     go false = refl
+
+length-rehashed : (l : Layout) (s : List ℕ) (v : Values) (out : List ℕ) → length (rehashed l s v out) ≡ length out
+unfolding rehashed
+length-rehashed l s v out = turn-keeps v (hashed l s) out length (stringsIn s) (λ i value b. length-hashed l s i value b)
 
 -- ---- the whole
 
@@ -87,23 +85,18 @@ answers-over new a b c r e f h =
     let y : drop (length new) b ≡ [] = drop-of-length-le b {i = length new} (omega arith) in
     (h .0, rw y (rw x at (h .1)))
 
-pub length-finished : (l : Layout) (s value out : List ℕ) (id : ℕ) → leastLength ≤ length out
-    → length (finished l s id value out) ≡ length out
+pub length-finished : (l : Layout) (s : List ℕ) (v : Values) (out : List ℕ) → leastLength ≤ length out
+    → length (finished l s v out) ≡ length out
 unfolding finished
-length-finished l s value out id least =
-    length-finalized (rehashed l s id (utf16 value) out) (rw (length-rehashed l s id (utf16 value) out) least)
-    ∙ length-rehashed l s id (utf16 value) out
+length-finished l s v out least =
+    length-finalized (rehashed l s v out) (rw (length-rehashed l s v out) least) ∙ length-rehashed l s v out
 
-length-hashed : (slots : ℕ) (rank : Rank) (units out : List ℕ) → length (hashed slots rank units out) ≡ length out
-length-hashed slots (At k) units out = length-sets out (slots + k * 4) (bytesOf 4 (hashOf units))
-length-hashed slots Plain units out = refl
-
-pub finish-is : (slots : ℕ) (rank : Rank) (value out : List ℕ) → Finishable slots rank (length out)
-    → (o₁ o₂ : List ℕ) (r : Answer)
-    → o₁ ≡ hashed slots rank (utf16 value) out → Answers (finalizeOf o₁) r o₁ o₂
-    → Answers (made (finishedWith slots rank value out)) r out o₂
-finish-is slots rank value out h o₁ o₂ r e a =
-    let n : length o₁ ≡ length out = ap length e ∙ length-hashed slots rank (utf16 value) out in
+pub finish-is : (l : Layout) (s : List ℕ) (v : Values) (p : Places) (out : List ℕ) → Finishable p (length out)
+    → (o₁ o₂ : List ℕ) (r : Answer) → o₁ ≡ rehashed l s v out → Answers (finalizeOf o₁) r o₁ o₂
+    → Answers (made (finished l s v out)) r out o₂
+unfolding finished
+finish-is l s v p out h o₁ o₂ r e a =
+    let n : length o₁ ≡ length out = ap length e ∙ length-rehashed l s v out in
     let f : finalizeOf o₁ ≡ made (sealed (lengthed o₁))
     = finalize-within o₁ (omega (arith, h .least)) (omega (arith, h .limit)) in
     let k : length (sealed (lengthed o₁)) ≡ length o₁ = length-finalized o₁ (omega (arith, h .least)) in

@@ -1,2 +1,3 @@
+pub mod EditedLaws
 pub mod FinishLaws
 pub mod InPlaceLaws

@@ -1,4 +1,4 @@
--- What becomes of an image when one of its strings gets another value. 01, Strings; 02, No. 2: the mode of a rebuild.
+-- What becomes of an image when strings of it get other values. 01, Strings; 02, No. 2: the mode of a rebuild; No. 4: many strings.
 -- docs/FORMAT.md: String patches.
 use mathlib.Core.Bool.{Bool, not}
 use mathlib.Core.List.{List, [], _∷_}
@@ -17,13 +17,14 @@ use Rattle.format.specs.Hash.{hashOf}
 use Rattle.format.specs.Move.{moved}
 use Rattle.footer.specs.Finalize.{sizeLimit, lengthed, sealed}
 use Rattle.unicode.specs.Utf8.{utf16}
-use Rattle.image.specs.Sections.{hashesAt, storageAt, tailAt}
+use Rattle.image.specs.Sections.{stringsIn, hashesAt, storageAt, tailAt}
 use Rattle.image.specs.Strings.{sizeOf, placeAt}
 use Rattle.image.specs.Kinds.{isIdentifier, rankOf}
 use Rattle.edits.specs.Rebuild.{newTail, rebuild}
 use Rattle.edits.specs.Fit.{fieldsFit}
 use Rattle.string_overlap.specs.Overlap.{isAlone}
-use Rattle.string_packing.specs.Strings.{asString, stringsWith}
+use Rattle.string_edits.specs.Values.{Values, inTurn, allEdited}
+use Rattle.string_packing.specs.Strings.{stringsWith}
 
 -- ---- in place: "entry narrow, value ASCII, byte lengths equal, and no other entry overlaps"
 
@@ -31,53 +32,63 @@ unfoldable pub fitsInPlace : Layout → List ℕ → ℕ → List ℕ → Bool
 fitsInPlace l s id value =
     both (not (placeAt l s id .wide)) (both (ascii value) (both (eqb (length value) (sizeOf (placeAt l s id))) (isAlone l s id)))
 
--- the value over the old bytes
-unfoldable pub inPlace : Layout → List ℕ → ℕ → List ℕ → List ℕ
-inPlace l s id value = sets s (storageAt l s + placeAt l s id .at) value
+-- "in place if every edit could be in place on the image as given" (02, No. 4)
+unfoldable pub fitsAll : Layout → List ℕ → Values → Bool
+fitsAll l s v = allEdited v (fitsInPlace l s) (stringsIn s)
 
--- ---- the hash slot: "If the string is an identifier, its hash slot (its rank among identifiers) becomes the hash"
+-- a value over the old bytes
+unfoldable pub overOld : Layout → List ℕ → ℕ → List ℕ → List ℕ → List ℕ
+overOld l s id value out = sets out (storageAt l s + placeAt l s id .at) value
 
-unfoldable pub rehashed : Layout → List ℕ → ℕ → List ℕ → List ℕ → List ℕ
-rehashed l s id units out =
+unfoldable pub inPlace : Layout → List ℕ → Values → List ℕ → List ℕ
+inPlace l s v out = inTurn v (overOld l s) (stringsIn s) out
+
+-- ---- the hash slots: "If the string is an identifier, its hash slot (its rank among identifiers) becomes the hash"
+
+unfoldable pub hashed : Layout → List ℕ → ℕ → List ℕ → List ℕ → List ℕ
+hashed l s id value out =
     pick (isIdentifier l s id)
-    (sets out (hashesAt l s + rankOf l s id * table.hashEntry .width) (bytesOf (table.hashEntry .width) (hashOf units))) out
+    (sets out (hashesAt l s + rankOf l s id * table.hashEntry .width) (bytesOf (table.hashEntry .width) (hashOf (utf16 value)))) out
 
--- ---- the patched image: in place, or rebuilt with the list of new strings; "Every accepted patch ends so": the file length and the footer
+unfoldable pub rehashed : Layout → List ℕ → Values → List ℕ → List ℕ
+rehashed l s v out = inTurn v (hashed l s) (stringsIn s) out
 
--- the bytes but for hash slot, file length and footer
-unfoldable pub changed : Mode → Layout → List ℕ → ℕ → List ℕ → List ℕ
-changed m l s id value = pick (fitsInPlace l s id value) (inPlace l s id value) (rebuild l (stringsWith m l s id (asString value)) s)
+-- ---- the patched image: in place, or rebuilt with the new strings; "Every accepted patch ends so": the file length and the footer
 
--- an image with its hash slot, file length and footer
-unfoldable pub finished : Layout → List ℕ → ℕ → List ℕ → List ℕ → List ℕ
-finished l s id value out = sealed (lengthed (rehashed l s id (utf16 value) out))
+-- the bytes but for hash slots, file length and footer
+unfoldable pub changed : Mode → Layout → List ℕ → Values → List ℕ
+changed m l s v = pick (fitsAll l s v) (inPlace l s v s) (rebuild l (stringsWith m l s v) s)
+
+-- an image with its hash slots, file length and footer
+unfoldable pub finished : Layout → List ℕ → Values → List ℕ → List ℕ
+finished l s v out = sealed (lengthed (rehashed l s v out))
 
 -- in place: "In-place patches never move a string, so they are the same in each mode" (02, No. 2)
-unfoldable pub patchedInPlace : Layout → List ℕ → ℕ → List ℕ → List ℕ
-patchedInPlace l s id value = finished l s id value (inPlace l s id value)
+unfoldable pub patchedInPlace : Layout → List ℕ → Values → List ℕ
+patchedInPlace l s v = finished l s v (inPlace l s v s)
 
-unfoldable pub patchedString : Mode → Layout → List ℕ → ℕ → List ℕ → List ℕ
-patchedString m l s id value = finished l s id value (changed m l s id value)
+unfoldable pub patchedStrings : Mode → Layout → List ℕ → Values → List ℕ
+patchedStrings m l s v = finished l s v (changed m l s v)
 
 -- ---- refusals 11 and 12
 
 -- where what lay in the tail goes
-abbrev pub movedWithTail : Mode → Layout → List ℕ → ℕ → List ℕ → ℕ → ℕ
-movedWithTail m l s id value = moved (tailAt l s) (newTail l (stringsWith m l s id (asString value)) s)
+abbrev pub movedWithTail : Mode → Layout → List ℕ → Values → ℕ → ℕ
+movedWithTail m l s v = moved (tailAt l s) (newTail l (stringsWith m l s v) s)
 
 -- the length of the result
-unfoldable pub newLength : Mode → Layout → List ℕ → ℕ → List ℕ → ℕ
-newLength m l s id value = pick (fitsInPlace l s id value) (length s) (movedWithTail m l s id value (length s))
+unfoldable pub newLength : Mode → Layout → List ℕ → Values → ℕ
+newLength m l s v = pick (fitsAll l s v) (length s) (movedWithTail m l s v (length s))
 
 -- 12: a place that moves fits its record
-unfoldable pub patchFits : Mode → Layout → List ℕ → ℕ → List ℕ → Bool
-patchFits m l s id value = either (fitsInPlace l s id value) (fieldsFit l s (movedWithTail m l s id value))
+unfoldable pub patchFits : Mode → Layout → List ℕ → Values → Bool
+patchFits m l s v = either (fitsAll l s v) (fieldsFit l s (movedWithTail m l s v))
 
--- what is judged of the result
-abbrev pub resultChecks : Mode → Layout → List ℕ → ℕ → List ℕ → List Check
-resultChecks m l s id value =
-    check refusals.limit (ltb sizeLimit (newLength m l s id value)) ∷ check refusals.field (not (patchFits m l s id value)) ∷ []
+-- what is judged of the result: "11 to 13 judged on the end image only" (02, No. 4)
+abbrev pub resultChecks : Mode → Layout → List ℕ → Values → List Check
+resultChecks m l s v =
+    check refusals.limit (ltb sizeLimit (newLength m l s v)) ∷ check refusals.field (not (patchFits m l s v)) ∷ []
 
--- a string of an admitted image with another value
-unfoldable pub patchKnown : Mode → Layout → List ℕ → ℕ → List ℕ → Outcome
-patchKnown m l s id value = outcomeFor (judge (resultChecks m l s id value)) (patchedString m l s id value)
+-- strings of an admitted image with other values
+unfoldable pub patchKnown : Mode → Layout → List ℕ → Values → Outcome
+patchKnown m l s v = outcomeFor (judge (resultChecks m l s v)) (patchedStrings m l s v)

@@ -1,24 +1,46 @@
-// A string of an admitted image gets another value: what becomes of the image is defined here, and the
-// case in which the value goes over the string's own bytes.
+// Strings of an admitted image get other values: what becomes of the image is defined here, and the
+// case in which every value goes over its string's own bytes.
 use bits::Answer;
 use sections::Places;
+use string_tables::Place;
+use string_walk::Cursor;
 use string_walk::Rank;
 use string_walk::StringRecord;
 ghost use mathlib.Core.Path.{_≡_};
-ghost use lib.ListN.{length};
+ghost use mathlib.Core.Bool.{true};
+ghost use Prim.Native.Nat.{ℕ, _<_};
+ghost use lib.ListN.{length, getD};
 ghost use Rattle.bits.specs.Outcome.{Answers, made, roomed};
 ghost use Rattle.unicode.specs.Utf8.{utf16};
+ghost use Rattle.image.specs.Sections.{stringsIn};
 ghost use Rattle.sections.specs.Places.{Laid};
+ghost use Rattle.string_tables.specs.Strings.{asPlace};
 ghost use Rattle.string_walk.specs.Places.{Stands};
-ghost use Rattle.string_in_place.specs.Known.{Overwritten, hashed, finishedWith, Finishable};
-ghost use Rattle.string_in_place.specs.Patch.{fitsInPlace, patchedInPlace};
+ghost use Rattle.string_edits.specs.Values.{allEdited};
+ghost use Rattle.string_edits.specs.Lists.{valuesIn};
+ghost use Rattle.string_in_place.specs.Known.{FirstOf, Given, sizedAt, tested, Overwritten, slotted, SlotFits, Finishable};
+ghost use Rattle.string_in_place.specs.Patch.{fitsAll, inPlace, rehashed, finished, patchedInPlace};
+
+// Where a pass over the edited strings starts: at the first of them.
+pub fn first_edited(image: &[u8], p: Places, ids: &[u32]) -> Cursor
+    requires { ⌜ Laid p (now image) ⌝ }
+    requires { ⌜ ((j : ℕ) → j < length (now ids) → getD (now ids) j 0 < p .strings) ⌝ }
+    ensures { λ r. ⌜ FirstOf p (now (image .entry)) (now (ids .entry)) r ⌝ }
+{
+    let next = string_edits::next_edit(ids, 0);
+    let first = string_walk::first_string();
+    if next.id < string_edits::NONE {
+        return string_walk::string_from(image, p, first, next.id);
+    }
+    first
+}
 
 // ---- the end of every patch
 
 // The hash of a value in the slot of a rank; a plain string has none.
 fn put_hash(out: &mut [u8], slots: usize, rank: Rank, value: &[u8])
-    requires { ⌜ Finishable slots rank (length (now out)) ⌝ }
-    ensures { λ _. ⌜ now (out .exit) ≡ hashed slots rank (utf16 (now (value .entry))) (now (out .entry)) ⌝ }
+    requires { ⌜ SlotFits slots rank (length (now out)) ⌝ }
+    ensures { λ _. ⌜ now (out .exit) ≡ slotted slots rank (utf16 (now (value .entry))) (now (out .entry)) ⌝ }
 {
     let Rank::At(k) = rank else {
         return;
@@ -27,53 +49,201 @@ fn put_hash(out: &mut [u8], slots: usize, rank: Rank, value: &[u8])
     bits::put_word(out, slot, unicode::hash_value(value) as u64);
 }
 
-// The hash slot, the file length and the footer.
-pub fn finish(out: &mut [u8], slots: usize, rank: Rank, value: &[u8]) -> Answer
-    requires { ⌜ Finishable slots rank (length (now out)) ⌝ }
-    ensures { λ r. ⌜ Answers (made (finishedWith slots rank (now (value .entry)) (now (out .entry)))) r (now (out .entry))
+// The hash of each new value in its slot.
+fn put_hashes(
+    out: &mut [u8],
+    image: &[u8],
+    p: Places,
+    from: Cursor,
+    ids: &[u32],
+    text: &[u8],
+    ends: &[u32],
+)
+    requires { ⌜ Given p (now image) (now ids) (now text) (now ends) from × Finishable p (length (now out)) ⌝ }
+    ensures { λ _. ⌜ now (out .exit) ≡ rehashed (p .layout) (now (image .entry))
+        (valuesIn (now (ids .entry)) (now (text .entry)) (now (ends .entry))) (now (out .entry)) ⌝ }
+{
+    let mut c = from;
+    let mut due = string_edits::next_edit(ids, c.id);
+    while due.id < string_edits::NONE {
+        let at = string_walk::string_from(image, p, c, due.id);
+        let step = string_walk::string_at(image, p, at);
+        let own = step.string;
+        let rank = own.rank;
+        put_hash(
+            out,
+            p.hashes_at,
+            rank,
+            string_edits::value_of(text, ends, due),
+        );
+        c = step.next;
+        due = string_edits::next_edit(ids, c.id);
+    }
+}
+
+// The hash slots, the file length and the footer.
+pub fn finish(
+    out: &mut [u8],
+    image: &[u8],
+    p: Places,
+    from: Cursor,
+    ids: &[u32],
+    text: &[u8],
+    ends: &[u32],
+) -> Answer
+    requires { ⌜ Given p (now image) (now ids) (now text) (now ends) from × Finishable p (length (now out)) ⌝ }
+    ensures { λ r. ⌜ Answers (made (finished (p .layout) (now (image .entry))
+        (valuesIn (now (ids .entry)) (now (text .entry)) (now (ends .entry))) (now (out .entry)))) r (now (out .entry))
         (now (out .exit)) ⌝ }
 {
-    put_hash(out, slots, rank, value);
+    put_hashes(out, image, p, from, ids, text, ends);
     footer::finalize_raw_image(out)
 }
 
 // ---- in place
 
-// Whether the value goes over the bytes of string `id`, whose record is `own`.
-pub fn fits_in_place(image: &[u8], p: Places, id: usize, own: StringRecord, value: &[u8]) -> bool
-    requires { ⌜ Laid p (now image) ⌝ }
-    requires { ⌜ Stands p (now image) id own ⌝ }
-    ensures { λ r. ⌜ r ≡ fitsInPlace (p .layout) (now (image .entry)) id (now (value .entry)) ⌝ }
+// Whether a value may go over a string's bytes, if these are its own.
+fn is_sized(place: Place, value: &[u8]) -> bool
+    requires { ⌜ place .count < 4294967296 ⌝ }
+    ensures { λ r. ⌜ r ≡ sizedAt (asPlace place) (now (value .entry)) ⌝ }
 {
-    if own.place.wide {
+    if place.wide {
         return false;
     }
     if !bits::ascii(value) {
         return false;
     }
-    if value.len() != string_tables::size_of(own.place) {
-        return false;
-    }
-    string_overlap::is_alone(image, p, id, own)
+    value.len() == string_tables::size_of(place)
 }
 
-// The image with the value over those bytes, in a buffer of its length.
-fn put_in_place(
-    out: &mut [u8],
+// Whether an edit of string `id`, whose record is `own`, passes a test: that of its size or, for
+// `overlaps`, whether the string has its bytes for itself, which looks at all strings.
+fn passes(
     image: &[u8],
     p: Places,
     id: usize,
     own: StringRecord,
     value: &[u8],
+    overlaps: bool,
+) -> bool
+    requires { ⌜ Laid p (now image) ⌝ }
+    requires { ⌜ Stands p (now image) id own ⌝ }
+    ensures { λ r. ⌜ r ≡ tested overlaps (p .layout) (now (image .entry)) id (now (value .entry)) ⌝ }
+{
+    if overlaps {
+        return string_overlap::is_alone(image, p, id, own);
+    }
+    is_sized(own.place, value)
+}
+
+// Whether each edit passes that test.
+fn all_pass(
+    image: &[u8],
+    p: Places,
+    from: Cursor,
+    ids: &[u32],
+    text: &[u8],
+    ends: &[u32],
+    overlaps: bool,
+) -> bool
+    requires { ⌜ Given p (now image) (now ids) (now text) (now ends) from ⌝ }
+    ensures { λ r. ⌜ r ≡ allEdited (valuesIn (now (ids .entry)) (now (text .entry)) (now (ends .entry)))
+        (tested overlaps (p .layout) (now (image .entry))) (stringsIn (now (image .entry))) ⌝ }
+{
+    let mut c = from;
+    let mut next = string_edits::next_edit(ids, c.id);
+    while next.id < string_edits::NONE {
+        let at = string_walk::string_from(image, p, c, next.id);
+        let step = string_walk::string_at(image, p, at);
+        let own = step.string;
+        let value = string_edits::value_of(text, ends, next);
+        if !passes(image, p, next.id, own, value, overlaps) {
+            return false;
+        }
+        c = step.next;
+        next = string_edits::next_edit(ids, c.id);
+    }
+    true
+}
+
+// Whether no edited string overlaps another: one pass tells it of all strings that stand in a row; else
+// each is held to all others. For one edit the first pass would spare nothing.
+fn are_alone(image: &[u8], p: Places, from: Cursor, ids: &[u32], text: &[u8], ends: &[u32]) -> bool
+    requires { ⌜ Given p (now image) (now ids) (now text) (now ends) from ⌝ }
+    ensures { λ r. ⌜ r ≡ allEdited (valuesIn (now (ids .entry)) (now (text .entry)) (now (ends .entry)))
+        (tested true (p .layout) (now (image .entry))) (stringsIn (now (image .entry))) ⌝ }
+{
+    if ids.len() > 1 {
+        if string_overlap::are_in_row(image, p) {
+            return true;
+        }
+    }
+    all_pass(image, p, from, ids, text, ends, true)
+}
+
+// Whether every edit could be in place on the image as given. The sizes of all come first: one edit
+// that does not fit by its size spares the overlaps of all.
+pub fn fits_all(
+    image: &[u8],
+    p: Places,
+    from: Cursor,
+    ids: &[u32],
+    text: &[u8],
+    ends: &[u32],
+) -> bool
+    requires { ⌜ Given p (now image) (now ids) (now text) (now ends) from ⌝ }
+    ensures { λ r. ⌜ r ≡ fitsAll (p .layout) (now (image .entry))
+        (valuesIn (now (ids .entry)) (now (text .entry)) (now (ends .entry))) ⌝ }
+{
+    if !all_pass(image, p, from, ids, text, ends, false) {
+        return false;
+    }
+    are_alone(image, p, from, ids, text, ends)
+}
+
+// The values over the old bytes, in a buffer of the image's length.
+fn put_values(
+    out: &mut [u8],
+    image: &[u8],
+    p: Places,
+    from: Cursor,
+    ids: &[u32],
+    text: &[u8],
+    ends: &[u32],
+)
+    requires { ⌜ Overwritten p (now image) (now ids) (now text) (now ends) from × (length (now out) ≡ length (now image)) ⌝ }
+    ensures { λ _. ⌜ now (out .exit) ≡ inPlace (p .layout) (now (image .entry))
+        (valuesIn (now (ids .entry)) (now (text .entry)) (now (ends .entry))) (now (out .entry)) ⌝ }
+{
+    let mut c = from;
+    let mut next = string_edits::next_edit(ids, c.id);
+    while next.id < string_edits::NONE {
+        let at = string_walk::string_from(image, p, c, next.id);
+        let step = string_walk::string_at(image, p, at);
+        let own = step.string;
+        bits::put_bytes(out, own.start, string_edits::value_of(text, ends, next));
+        c = step.next;
+        next = string_edits::next_edit(ids, c.id);
+    }
+}
+
+// The image with the values over the old bytes, in a buffer of its length.
+fn put_in_place(
+    out: &mut [u8],
+    image: &[u8],
+    p: Places,
+    from: Cursor,
+    ids: &[u32],
+    text: &[u8],
+    ends: &[u32],
 ) -> Answer
-    requires { ⌜ Overwritten p (now image) (now value) id own × (length (now out) ≡ length (now image)) ⌝ }
-    ensures { λ r. ⌜ Answers (made (patchedInPlace (p .layout) (now (image .entry)) id (now (value .entry)))) r (now (out .entry))
-        (now (out .exit)) ⌝ }
+    requires { ⌜ Overwritten p (now image) (now ids) (now text) (now ends) from × (length (now out) ≡ length (now image)) ⌝ }
+    ensures { λ r. ⌜ Answers (made (patchedInPlace (p .layout) (now (image .entry))
+        (valuesIn (now (ids .entry)) (now (text .entry)) (now (ends .entry))))) r (now (out .entry)) (now (out .exit)) ⌝ }
 {
     bits::put_bytes(out, 0, image);
-    bits::put_bytes(out, own.start, value);
-    let rank = own.rank;
-    finish(out, p.hashes_at, rank, value)
+    put_values(out, image, p, from, ids, text, ends);
+    finish(out, image, p, from, ids, text, ends)
 }
 
 // The same in a buffer of any length. 11 and 12 never come up, and the mode does not matter: nothing
@@ -82,18 +252,18 @@ pub fn patch_in_place(
     out: &mut [u8],
     image: &[u8],
     p: Places,
-    id: usize,
-    own: StringRecord,
-    value: &[u8],
+    from: Cursor,
+    ids: &[u32],
+    text: &[u8],
+    ends: &[u32],
 ) -> Answer
-    requires { ⌜ Overwritten p (now image) (now value) id own ⌝ }
-    ensures { λ r. ⌜ Answers
-        (roomed (length (now (out .entry))) (made (patchedInPlace (p .layout) (now (image .entry)) id (now (value .entry))))) r
-        (now (out .entry)) (now (out .exit)) ⌝ }
+    requires { ⌜ Overwritten p (now image) (now ids) (now text) (now ends) from ⌝ }
+    ensures { λ r. ⌜ Answers (roomed (length (now (out .entry))) (made (patchedInPlace (p .layout) (now (image .entry))
+        (valuesIn (now (ids .entry)) (now (text .entry)) (now (ends .entry)))))) r (now (out .entry)) (now (out .exit)) ⌝ }
 {
     let n = image.len();
     if out.len() < n {
         return Answer::Refused(refusals::ROOM);
     }
-    put_in_place(&mut out[0..n], image, p, id, own, value)
+    put_in_place(&mut out[0..n], image, p, from, ids, text, ends)
 }

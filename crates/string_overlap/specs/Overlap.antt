@@ -2,8 +2,8 @@
 -- docs/FORMAT.md: String patches.
 use mathlib.Core.Bool.{Bool, not}
 use mathlib.Core.List.{List}
-use Prim.Native.Nat.{ℕ, _+_, _<_}
-use lib.Dec.{ltb, eqb}
+use Prim.Native.Nat.{ℕ, zero, suc, _+_, _<_}
+use lib.Dec.{leb, ltb, eqb}
 use Rattle.bits.specs.Choice.{both, implies, allBelow}
 use Rattle.format.specs.declared.Layout.{Layout}
 use Rattle.format.specs.Entry.{Place}
@@ -26,3 +26,16 @@ isApart l s id j = implies (not (eqb j id)) (not (overlap (placeAt l s id) (plac
 -- "no other entry overlaps"
 unfoldable pub isAlone : Layout → List ℕ → ℕ → Bool
 isAlone l s id = allBelow (stringsIn s) (isApart l s id)
+
+-- ---- strings in a row: each starts where the one before it ends, or behind that
+
+-- where the strings before string i end
+abbrev pub endBefore : Layout → List ℕ → ℕ → ℕ
+endBefore l s zero = 0
+endBefore l s (suc i) = placeAt l s i .at + sizeOf (placeAt l s i)
+
+abbrev pub startsBehind : Layout → List ℕ → ℕ → Bool
+startsBehind l s i = leb (endBefore l s i) (placeAt l s i .at)
+
+unfoldable pub areInRow : Layout → List ℕ → Bool
+areInRow l s = allBelow (stringsIn s) (startsBehind l s)

@@ -9,7 +9,7 @@ ghost use Rattle.bits.specs.Choice.{implies};
 ghost use Rattle.sections.specs.Places.{Laid};
 ghost use Rattle.string_tables.specs.Strings.{asPlace};
 ghost use Rattle.string_walk.specs.Places.{Stands};
-ghost use Rattle.string_overlap.specs.Overlap.{Low, overlap, isAlone};
+ghost use Rattle.string_overlap.specs.Overlap.{Low, overlap, isAlone, areInRow};
 
 // Whether two strings overlap. An empty one overlaps what it stands within.
 fn do_overlap(a: Place, b: Place) -> bool
@@ -47,6 +47,26 @@ pub fn is_alone(image: &[u8], p: Places, id: usize, own: StringRecord) -> bool
         if !is_apart(c.id, id, own.place, other.place) {
             return false;
         }
+        c = step.next;
+    }
+    true
+}
+
+// Whether each string starts where the one before it ends, or behind that: then none overlaps another,
+// which one pass tells of all of them.
+pub fn are_in_row(image: &[u8], p: Places) -> bool
+    requires { ⌜ Laid p (now image) ⌝ }
+    ensures { λ r. ⌜ r ≡ areInRow (p .layout) (now (image .entry)) ⌝ }
+{
+    let mut end = 0;
+    let mut c = string_walk::first_string();
+    while c.id < p.strings {
+        let step = string_walk::string_at(image, p, c);
+        let place = step.string.place;
+        if place.at < end {
+            return false;
+        }
+        end = place.at + string_tables::size_of(place);
         c = step.next;
     }
     true

@@ -1,12 +1,12 @@
 -- A string as the code holds it: its width and its count of units.
-use mathlib.Core.Path.{_≡_, refl, ap, sym, _∙_}
+use mathlib.Core.Path.{_≡_, refl, ap, sym, _∙_, subst}
 use mathlib.Core.Bool.{Bool, true, false}
 use mathlib.Core.List.{List, [], _∷_}
 use Prim.Native.Nat.{ℕ, _+_, _*_, _/_, _%_, _≤_, _<_}
 use native.Mathlib.Numerals.{add-one}
 use native.Mathlib.Omega.{arith}
 use borrow.Author.Tests.{le-leb, lt-leb}
-use lib.Dec.{leb, eqb}
+use lib.Dec.{leb}
 use lib.ListN.{length, length-append}
 use Rattle.bits.specs.Choice.{pick}
 use Rattle.bits.specs.Bytes.{ascii, bytesOf}
@@ -17,13 +17,14 @@ use Rattle.format.specs.declared.Mode.the-variants.{Even}
 use Rattle.format.specs.Table.{ifSet}
 use Rattle.format.specs.Entry.{Place, bit, isOver}
 use Rattle.unicode.specs.Utf8.{utf16, unitBytes}
+use Rattle.unicode.proofs.LengthLaws.{units-most}
 use Rattle.image.specs.Sections.{storageAt}
 use Rattle.image.specs.Strings.{Str, unitSize, sizeOf, placeAt, stringOf}
 use Rattle.edits.specs.Packing.{countOf, gapOf, standing, placed, storeOf}
 use Rattle.edits.proofs.TableLaws.{overs-none, overs-next}
 use Rattle.edits.proofs.PackLaws.{size-next, start-is, store-none}
 use Rattle.string_packing.specs.declared.Shape.{Shape}
-use Rattle.string_packing.specs.Strings.{asString, stringWith, Shaped, placeWith, Sums}
+use Rattle.string_packing.specs.Strings.{asString, Shaped, placeWith, Held, Sums}
 
 -- ---- a value
 
@@ -55,11 +56,21 @@ count-units : (b : Bool) (c : ℕ) → c * unitSize b / unitSize b ≡ c
 count-units true c = omega arith
 count-units false c = omega arith
 
-shaped-count : (x : Shape) (t : Str) → Shaped x t → countOf t ≡ x .count
+pub shaped-count : (x : Shape) (t : Str) → Shaped x t → countOf t ≡ x .count
 shaped-count x t h =
     ap (λ (b : Bool). length (t .bytes) / unitSize b) (h .0)
     ∙ ap (λ (n : ℕ). n / unitSize (x .wide)) (h .1)
     ∙ count-units (x .wide) (x .count)
+
+-- a value has no more units than bytes
+pub value-count : (value : List ℕ) → countOf (asString value) ≤ length value
+unfolding asString
+value-count value = go (ascii value)
+  where
+    go : (b : Bool) → countOf (pick b (record { wide = false; bytes = value }) (record { wide = true; bytes = unitBytes (utf16 value) }))
+        ≤ length value
+    go true = omega arith
+    go false = rw (length-units (utf16 value)) (omega (arith, units-most value))
 
 -- a string of the image has the shape of its place
 old-shaped : (l : Layout) (s : List ℕ) (i : ℕ)
@@ -67,33 +78,34 @@ old-shaped : (l : Layout) (s : List ℕ) (i : ℕ)
 unfolding stringOf
 old-shaped l s i = (refl, length-bytesAt s (storageAt l s + placeAt l s i .at) (sizeOf (placeAt l s i)))
 
-module _ (m : Mode) (l : Layout) (s : List ℕ) (id i at : ℕ) (x : Shape) (t : Str) (h : Shaped x t) where
-  -- the place that the code gives string i is that of its packing
-  pub place-is : (p : Place) → p ≡ placeAt l s i
-      → placeWith m (eqb i id) x p at ≡ standing (at + gapOf m (stringWith l s id t i .wide) at) (stringWith l s id t i)
-  unfolding stringWith
-  place-is p e = ap (λ (q : Place). placeWith m (eqb i id) x q at) e ∙ go (eqb i id)
+module _ (m : Mode) (l : Layout) (s : List ℕ) (f : ℕ → Str) (i at : ℕ) (new : Bool) (x : Shape) (h : Held l s f i new x) where
+  -- the shape that the code has of string i
+  abbrev had : Shape
+  had = record { wide = pick new (x .wide) (placeAt l s i .wide); count = pick new (x .count) (placeAt l s i .count) }
+
+  had-shaped : Shaped had (f i)
+  had-shaped = go new (h .0) (h .1)
     where
-      go : (b : Bool) → placeWith m b x (placeAt l s i) at
-          ≡ standing (at + gapOf m (pick b t (stringOf l s i) .wide) at) (pick b t (stringOf l s i))
-      go true = λ j. record { wide = sym (h .0) j; at = at + gapOf m (sym (h .0) j) at; count = sym (shaped-count x t h) j }
-      go false =
-          let o : Shaped (record { wide = placeAt l s i .wide; count = placeAt l s i .count }) (stringOf l s i) = old-shaped l s i in
-          λ j. record {
-            wide = sym (o .0) j;
-            at = at + gapOf m (sym (o .0) j) at;
-            count = sym
-                (shaped-count (record { wide = placeAt l s i .wide; count = placeAt l s i .count }) (stringOf l s i) o) j;
-          }
+      go : (b : Bool) → (b ≡ true → Shaped x (f i)) → (b ≡ false → f i ≡ stringOf l s i)
+          → Shaped (record { wide = pick b (x .wide) (placeAt l s i .wide); count = pick b (x .count) (placeAt l s i .count) }) (f i)
+      go true u v = u refl
+      go false u v =
+          subst (λ (t : Str). Shaped (record { wide = placeAt l s i .wide; count = placeAt l s i .count }) t) (sym (v refl))
+          (old-shaped l s i)
+
+  -- the place that the code gives it is that of its packing
+  pub place-is : (p : Place) → p ≡ placeAt l s i → placeWith m new x p at ≡ standing (at + gapOf m (f i .wide) at) (f i)
+  place-is p e =
+      ap (λ (q : Place). placeWith m new x q at) e
+      ∙ (λ j. record {
+        wide = sym (had-shaped .0) j;
+        at = at + gapOf m (sym (had-shaped .0) j) at;
+        count = sym (shaped-count had (f i) had-shaped) j;
+      })
 
   -- and has its bytes
-  pub size-is : (p : Place) → p ≡ placeAt l s i → sizeOf (placeWith m (eqb i id) x p at) ≡ length (stringWith l s id t i .bytes)
-  unfolding stringWith
-  size-is p e = ap (λ (q : Place). sizeOf (placeWith m (eqb i id) x q at)) e ∙ go (eqb i id)
-    where
-      go : (b : Bool) → sizeOf (placeWith m b x (placeAt l s i) at) ≡ length (pick b t (stringOf l s i) .bytes)
-      go true = sym (h .1)
-      go false = sym (old-shaped l s i .1)
+  pub size-is : (p : Place) → p ≡ placeAt l s i → sizeOf (placeWith m new x p at) ≡ length (f i .bytes)
+  size-is p e = ap (λ (q : Place). sizeOf (placeWith m new x q at)) e ∙ sym (had-shaped .1)
 
 -- ---- the gap, and the place behind it, as the code makes them
 
@@ -125,21 +137,31 @@ place-next m f i at e =
 
 -- ---- the sums
 
-pub sums-none : (m : Mode) (l : Layout) (s : List ℕ) (id : ℕ) (x : Shape) → Sums m l s id x 0 0 0
-sums-none m l s id x t h = (rw (store-none m (stringWith l s id t)), sym (overs-none (placed m (stringWith l s id t))))
+pub sums-none : (m : Mode) (f : ℕ → Str) → Sums m f 0 0 0
+sums-none m f = (rw (store-none m f), sym (overs-none (placed m f)))
 
--- one string more, at a place that the code found
-pub sums-next : (m : Mode) (l : Layout) (s : List ℕ) (id i storage overflows : ℕ) (x : Shape) (p q : Place)
-    → Sums m l s id x i storage overflows
-    → p ≡ placeAt l s i → q ≡ placeWith m (eqb i id) x p storage
-    → Sums m l s id x (i + 1) (q .at + sizeOf q) (overflows + bit (isOver q))
-sums-next m l s id i storage overflows x p q h pe qe t sh =
-    let g = h t sh in
-    let f : ℕ → Str = stringWith l s id t in
-    let r : q ≡ placed m f i = qe ∙ place-is m l s id i storage x t sh p pe ∙ place-next m f i storage (g .0) in
-    let a : q .at ≡ placed m f i .at = ap (λ (y : Place). y .at) r in
-    let e : sizeOf q ≡ length (f i .bytes) = ap sizeOf qe ∙ size-is m l s id i storage x t sh p pe in
-    let o : bit (isOver q) ≡ bit (isOver (placed m f i)) = ap (λ (y : Place). bit (isOver y)) r in (
-      rw (add-one, size-next m f i, ← e, a),
+-- one string more, that stands at a place with a size
+pub sums-more : (m : Mode) (f : ℕ → Str) (i storage overflows : ℕ) → Sums m f i storage overflows
+    → Sums m f (i + 1) (storage + gapOf m (f i .wide) storage + length (f i .bytes))
+    (overflows + bit (isOver (standing (storage + gapOf m (f i .wide) storage) (f i))))
+sums-more m f i storage overflows g =
+    let r : standing (storage + gapOf m (f i .wide) storage) (f i) ≡ placed m f i = place-next m f i storage (g .0) in
+    let a : storage + gapOf m (f i .wide) storage ≡ placed m f i .at = ap (λ (y : Place). y .at) r in
+    let o : bit (isOver (standing (storage + gapOf m (f i .wide) storage) (f i))) ≡ bit (isOver (placed m f i))
+    = ap (λ (y : Place). bit (isOver y)) r in (
+      rw (add-one, size-next m f i) (omega (arith, a)),
       rw (add-one, overs-next (placed m f) i, ← g .1, ← o),
     )
+
+-- the next one, at a place that the code found
+pub sums-next : (m : Mode) (l : Layout) (s : List ℕ) (f : ℕ → Str) (i storage overflows : ℕ) (new : Bool) (x : Shape) (p q : Place)
+    → Sums m f i storage overflows → Held l s f i new x → p ≡ placeAt l s i → q ≡ placeWith m new x p storage
+    → Sums m f (i + 1) (q .at + sizeOf q) (overflows + bit (isOver q))
+sums-next m l s f i storage overflows new x p q g h pe qe =
+    let r : q ≡ standing (storage + gapOf m (f i .wide) storage) (f i) = qe ∙ place-is m l s f i storage new x h p pe in
+    let e : sizeOf q ≡ length (f i .bytes) = ap sizeOf qe ∙ size-is m l s f i storage new x h p pe in
+    let a : q .at ≡ storage + gapOf m (f i .wide) storage = ap (λ (y : Place). y .at) r in
+    let o : bit (isOver q) ≡ bit (isOver (standing (storage + gapOf m (f i .wide) storage) (f i)))
+    = ap (λ (y : Place). bit (isOver y)) r in
+    let more = sums-more m f i storage overflows g in
+    (omega (arith, e, a, more .0), omega (arith, o, more .1))

@@ -1,10 +1,10 @@
--- The strings of an image with another one at one id. 01, Strings; 02, No. 2.
+-- The strings of an image, some of them with other values. 01, Strings; 02, Nos. 2 and 4.
 -- docs/FORMAT.md: String patches, Packing.
 use mathlib.Core.Path.{_≡_}
 use mathlib.Core.Bool.{Bool, true, false}
+use mathlib.Core.Option.{Option, none, some}
 use mathlib.Core.List.{List}
 use Prim.Native.Nat.{ℕ, _+_, _*_}
-use lib.Dec.{eqb}
 use lib.ListN.{length}
 use Rattle.bits.specs.Choice.{pick}
 use Rattle.bits.specs.Bytes.{ascii}
@@ -14,24 +14,27 @@ use Rattle.format.specs.Entry.{Place}
 use Rattle.unicode.specs.Utf8.{utf16, unitBytes}
 use Rattle.image.specs.Sections.{stringsIn}
 use Rattle.image.specs.Strings.{Str, unitSize, stringOf}
-use Rattle.edits.specs.Packing.{Packed, gapOf, packed}
+use Rattle.edits.specs.Packing.{Packed, gapOf, placed, storeOf, packed}
 use Rattle.edits.specs.Rebuild.{overs}
+use Rattle.string_edits.specs.Values.{Values}
 use Rattle.string_packing.specs.declared.Shape.{Shape}
 
 -- a value as a string: "the value is narrow if ASCII, else UTF-16"
 unfoldable pub asString : List ℕ → Str
 asString value = pick (ascii value) (record { wide = false; bytes = value }) (record { wide = true; bytes = unitBytes (utf16 value) })
 
--- string i, where t is the one at id
-unfoldable pub stringWith : Layout → List ℕ → ℕ → Str → ℕ → Str
-stringWith l s id t i = pick (eqb i id) t (stringOf l s i)
+-- a string with the value that it gets, if it gets one
+abbrev pub newString : Option (List ℕ) → Str → Str
+newString none old = old
+newString (some value) old = asString value
 
--- the first n of them packed, and all
-abbrev pub firsts : Mode → Layout → List ℕ → ℕ → Str → ℕ → Packed
-firsts m l s id t n = packed m (stringWith l s id t) n
+-- string i after edits
+unfoldable pub stringWith : Layout → List ℕ → Values → ℕ → Str
+stringWith l s v i = newString (v i) (stringOf l s i)
 
-unfoldable pub stringsWith : Mode → Layout → List ℕ → ℕ → Str → Packed
-stringsWith m l s id t = firsts m l s id t (stringsIn s)
+-- all of them, packed
+unfoldable pub stringsWith : Mode → Layout → List ℕ → Values → Packed
+stringsWith m l s v = packed m (stringWith l s v) (stringsIn s)
 
 -- ---- how much room they take
 
@@ -48,8 +51,10 @@ placeWith m new x p at = record {
   count = pick new (x .count) (p .count);
 }
 
--- bytes and overflow entries of the first i strings, whatever the bytes of the new one are
-abbrev pub Sums : Mode → Layout → List ℕ → ℕ → Shape → ℕ → ℕ → ℕ → Type 0
-Sums m l s id x i storage overflows =
-    (t : Str) → Shaped x t
-    → (storage ≡ length (firsts m l s id t i .store)) × (overflows ≡ overs (firsts m l s id t i .place) i)
+-- string i of f is what the code holds of it: one of a shape, if it is the new one, else the image's own
+abbrev pub Held : Layout → List ℕ → (ℕ → Str) → ℕ → Bool → Shape → Type 0
+Held l s f i new x = (new ≡ true → Shaped x (f i)) × (new ≡ false → f i ≡ stringOf l s i)
+
+-- bytes and overflow entries of the first i strings of f
+abbrev pub Sums : Mode → (ℕ → Str) → ℕ → ℕ → ℕ → Type 0
+Sums m f i storage overflows = (storage ≡ length (storeOf m f i)) × (overflows ≡ overs (placed m f) i)

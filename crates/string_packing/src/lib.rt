@@ -1,6 +1,7 @@
-// The strings of an image with another one at one id: what each is, and how much room they take.
+// The strings of an image, some of them with other values: what each is, and how much room they take.
 use format::Mode;
 use sections::Places;
+use string_edits::Next;
 use string_tables::Place;
 use string_walk::Cursor;
 use string_walk::StringRecord;
@@ -13,13 +14,15 @@ ghost use Rattle.format.specs.Table.{overflowEntry};
 ghost use Rattle.format.specs.Number.{entryAt};
 ghost use Rattle.format.specs.Entry.{isOver};
 ghost use Rattle.footer.specs.Finalize.{sizeLimit};
+ghost use Rattle.image.specs.Strings.{Str};
 ghost use Rattle.edits.specs.Packing.{gapOf};
 ghost use Rattle.sections.specs.declared.Places.{Places};
 ghost use Rattle.sections.specs.Places.{Placed, Laid};
 ghost use Rattle.string_tables.specs.Strings.{asPlace};
 ghost use Rattle.string_packing.specs.declared.Shape.{Shape};
-ghost use Rattle.string_packing.specs.Strings.{asString, Shaped, placeWith};
-ghost use Rattle.string_packing.specs.Pass.{Reached, InTurn, Turned, Measured};
+ghost use Rattle.string_edits.specs.Lists.{valuesIn, comingIn, Listed, Within};
+ghost use Rattle.string_packing.specs.Strings.{asString, stringWith, Shaped, placeWith};
+ghost use Rattle.string_packing.specs.Pass.{stringMost, Reached, InTurn, Turned, StretchOf, Measured};
 
 // What is known of a string without its bytes. The count is of bytes for a narrow string, of 16-bit
 // units for a wide one.
@@ -42,6 +45,14 @@ pub struct Turn {
     pub old: StringRecord,
     pub new: Place,
     pub next: Packer,
+}
+
+// Strings in a row, up to `end`, of which one at most gets a value: the edit that comes next, and the
+// shape of its value.
+pub struct Stretch {
+    pub next: Next,
+    pub new: Shape,
+    pub end: usize,
 }
 
 // The bytes of all strings, and how many of them go to the overflow table.
@@ -108,7 +119,7 @@ fn new_place(old: Place, new: Shape, is_new: bool, mode: Mode, at: usize) -> Pla
 
 // Before the first string is packed.
 pub fn nothing_packed() -> Packer
-    ensures { λ r. ⌜ ((m : Mode) (p : Places) (s : List ℕ) → Placed p s → (id : ℕ) (x : Shape) → Reached m p s id x r)
+    ensures { λ r. ⌜ ((m : Mode) (p : Places) (s : List ℕ) → Placed p s → (f : ℕ → Str) → Reached m p s f r)
         × (r .old .id ≡ 0) ⌝ }
 {
     Packer {
@@ -120,7 +131,7 @@ pub fn nothing_packed() -> Packer
 
 // The turn of the string at the cursor; the string at `id` is the new one.
 pub fn take_turn(image: &[u8], p: Places, mode: Mode, id: usize, new: Shape, c: Packer) -> Turn
-    requires { ⌜ InTurn mode p (now image) id new c ⌝ }
+    requires { ⌜ InTurn p (now image) new c ⌝ }
     ensures { λ r. ⌜ Turned mode p (now (image .entry)) id new c r ⌝ }
 {
     let from = c.old;
@@ -142,16 +153,66 @@ pub fn take_turn(image: &[u8], p: Places, mode: Mode, id: usize, new: Shape, c: 
     }
 }
 
-// How much room the strings take with the new one at `id`: one pass, exact sums.
-pub fn measure(image: &[u8], p: Places, mode: Mode, id: usize, new: Shape) -> Sizes
+// The strings from `from` on up to the next that gets a value, that one too, or to the last.
+pub fn next_stretch(ids: &[u32], text: &[u8], ends: &[u32], from: usize, strings: usize) -> Stretch
+    requires { ⌜ Listed (now ids) (now text) (now ends) ⌝ }
+    requires { ⌜ (from < strings) × (strings ≤ sizeLimit) ⌝ }
+    ensures { λ r. ⌜ StretchOf (valuesIn (now (ids .entry)) (now (text .entry)) (now (ends .entry)))
+        (comingIn (now (text .entry)) (now (ends .entry)) (r .next)) from strings r ⌝ }
+    ensures { λ r. ⌜ (r .next .id < 4294967296 → Within (now (text .entry)) (now (ends .entry)) (r .next .edit)) ⌝ }
+{
+    let next = string_edits::next_edit(ids, from);
+    let new = shape_of(string_edits::value_of(text, ends, next));
+    if next.id < strings {
+        return Stretch {
+            next,
+            new,
+            end: next.id + 1,
+        };
+    }
+    Stretch {
+        next,
+        new,
+        end: strings,
+    }
+}
+
+// The turns of the strings from the cursor on up to the next that gets a value, that one too.
+fn measure_stretch(
+    image: &[u8],
+    p: Places,
+    mode: Mode,
+    ids: &[u32],
+    text: &[u8],
+    ends: &[u32],
+    from: Packer,
+) -> Packer
+    requires { ⌜ Laid p (now image) × Listed (now ids) (now text) (now ends) × (from .old .id < p .strings) ⌝ }
+    requires { ⌜ Reached mode p (now image) (stringWith (p .layout) (now image) (valuesIn (now ids) (now text) (now ends))) from ⌝ }
+    ensures { λ r. ⌜ Reached mode p (now (image .entry)) (stringWith (p .layout) (now (image .entry))
+        (valuesIn (now (ids .entry)) (now (text .entry)) (now (ends .entry)))) r ⌝ }
+    ensures { λ r. ⌜ (from .old .id < r .old .id) × (r .old .id ≤ p .strings) ⌝ }
+{
+    let s = next_stretch(ids, text, ends, from.old.id, p.strings);
+    let next = s.next;
+    let new = s.new;
+    let mut c = from;
+    while c.old.id < s.end {
+        c = take_turn(image, p, mode, next.id, new, c).next;
+    }
+    c
+}
+
+// How much room the strings take with their new values: one pass, exact sums.
+pub fn measure(image: &[u8], p: Places, mode: Mode, ids: &[u32], text: &[u8], ends: &[u32]) -> Sizes
     requires { ⌜ Laid p (now image) ⌝ }
-    requires { ⌜ new .count ≤ sizeLimit ⌝ }
-    ensures { λ r. ⌜ Measured mode p (now (image .entry)) id new r ⌝ }
+    requires { ⌜ Listed (now ids) (now text) (now ends) ⌝ }
+    ensures { λ r. ⌜ Measured mode p (stringWith (p .layout) (now (image .entry))
+        (valuesIn (now (ids .entry)) (now (text .entry)) (now (ends .entry)))) r ⌝ }
 {
     let mut c = nothing_packed();
     while c.old.id < p.strings {
-        let t = take_turn(image, p, mode, id, new, c);
-        c = t.next;
+        c = measure_stretch(image, p, mode, ids, text, ends, c);
     }
     Sizes {
         storage: c.at,
@@ -162,7 +223,7 @@ pub fn measure(image: &[u8], p: Places, mode: Mode, id: usize, new: Shape) -> Si
 // Where the tail starts behind tables and storage of these sizes; the small table stays as it is.
 pub fn new_tail(p: Places, sizes: Sizes) -> usize
     requires { ⌜ (p .«over_at» ≤ sizeLimit) × (sizes .overflows ≤ sizeLimit)
-        × (sizes .storage ≤ sizeLimit * (sizeLimit * 2 + 1)) ⌝ }
+        × (sizes .storage ≤ sizeLimit * stringMost) ⌝ }
     ensures { λ r. ⌜ r ≡ up4 (entryAt (p .«over_at») overflowEntry (sizes .overflows) + sizes .storage) ⌝ }
 {
     let storage_at = sections::entry_at(p.over_at, sizes.overflows, format::OVERFLOW_ENTRY);

@@ -1,6 +1,7 @@
 -- A string in its turn, as the code writes it.
 use mathlib.Core.Path.{_≡_, refl, ap, sym, _∙_, subst⁻¹}
 use mathlib.Core.Bool.{Bool, true, false}
+use mathlib.Core.Option.{none, some}
 use mathlib.Core.List.{List}
 use Prim.Native.Nat.{ℕ, _+_, _-_, _*_, _≤_, _<_}
 use native.Mathlib.Numerals.{add-one}
@@ -13,6 +14,7 @@ use Rattle.bits.specs.Bytes.{bytesAt, ascii}
 use Rattle.bits.proofs.WriteLaws.{sets-append}
 use Rattle.format.specs.declared.Mode.{Mode}
 use Rattle.format.specs.Entry as entry
+use Rattle.footer.specs.Finalize.{sizeLimit}
 use Rattle.unicode.specs.Utf8.{utf16, unitBytes}
 use Rattle.image.specs.Sections.{stringsIn}
 use Rattle.image.specs.Strings.{Str, sizeOf, stringOf}
@@ -27,15 +29,17 @@ use Rattle.string_tables.specs.Strings.{asPlace}
 use Rattle.string_packing.specs.declared.Shape.{Shape}
 use Rattle.string_packing.specs.declared.Packer.{Packer}
 use Rattle.string_packing.specs.declared.Turn.{Turn}
-use Rattle.string_packing.specs.Strings.{asString, stringWith, stringsWith, Shaped}
+use Rattle.string_edits.specs.Values.{Values, only}
+use Rattle.string_edits.specs.Lists.{valuesIn}
+use Rattle.string_packing.specs.Strings.{asString, newString, stringWith, stringsWith, Shaped, Held}
 use Rattle.string_packing.specs.declared.Sizes.{Sizes}
 use Rattle.string_walk.proofs.RecordLaws.{record-small, record-inside, record-string}
-use Rattle.string_packing.specs.Pass.{InTurn, Turned}
-use Rattle.string_packing.proofs.ShapeLaws.{place-is, place-next}
+use Rattle.string_packing.specs.Pass.{Reached, InTurn, Turned}
+use Rattle.string_packing.proofs.ShapeLaws.{place-is, size-is, place-next, sums-more}
 use Rattle.string_packing.proofs.PassLaws.{storage-is, overflows-are}
 use Rattle.string_packing_write.specs.declared.RegionPlaces.{RegionPlaces}
-use Rattle.string_packing_write.specs.Region.{putEntry, putString, regionPut, EntryFits, Roomy, sourceOf, storedBytes}
-use Rattle.string_packing_write.specs.Written.{Sized}
+use Rattle.string_packing_write.specs.Region.{putEntry, putString, regionPut, EntryFits, StringFits, Roomy, sourceOf, storedBytes}
+use Rattle.string_packing_write.specs.Written.{Behind, Writable, Sized}
 use Rattle.string_packing_write.proofs.RegionLaws.{laid-next, Joined, Filled, region-padded}
 
 -- the bytes of a value, by its width
@@ -51,7 +55,7 @@ value-bytes value b e = ap (λ (c : Bool). pick c (unitBytes (utf16 value)) valu
     go false = refl
 
 -- where a string stood lies in the image
-module _ (m : Mode) (p : Places) (s : List ℕ) (id : ℕ) (x : Shape) (c : Packer) (it : InTurn m p s id x c) (r : Turn)
+module _ (m : Mode) (p : Places) (s : List ℕ) (id : ℕ) (x : Shape) (c : Packer) (it : InTurn p s x c) (r : Turn)
     (tu : Turned m p s id x c r) where
   pub old-in : r .old .start + sizeOf (asPlace (r .old .place)) ≤ length s
   old-in = record-inside p s (it .laid .placed) (c .old .id) (r .old) (tu .old)
@@ -59,11 +63,11 @@ module _ (m : Mode) (p : Places) (s : List ℕ) (id : ℕ) (x : Shape) (c : Pack
   pub old-few : r .old .place .count < 4294967296
   old-few = record-small p s (it .laid .placed) (c .old .id) (r .old) (tu .old) .0
 
--- a string is in its turn, one of them gets a value of a shape, and a buffer of n bytes has room for all
+-- a string is in its turn, one of them gets a value of a shape, and a buffer of n bytes has room for the one in its turn
 pub record Due (m : Mode) (p : Places) (s value : List ℕ) (id : ℕ) (x : Shape) (c : Packer) (to : RegionPlaces) (n : ℕ) : Type 0 where
-  pub turn : InTurn m p s id x c
+  pub turn : InTurn p s x c
   pub shaped : Shaped x (asString value)
-  pub roomy : Roomy to (p .strings) (stringsWith m (p .layout) s id (asString value)) n
+  pub fits : StringFits m to (c .old .id) (c .over) (c .at) (stringWith (p .layout) s (only id value) (c .old .id)) n
 
 -- the entry of a string is written, then the zeros before it, then its bytes; n is the size that it had
 pub record Wrote (p : Places) (s value : List ℕ) (id : ℕ) (x : Shape) (c : Packer) (to : RegionPlaces) (r : Turn) (n : ℕ)
@@ -77,10 +81,7 @@ pub record Wrote (p : Places) (s value : List ℕ) (id : ℕ) (x : Shape) (c : P
 module _ (m : Mode) (p : Places) (s value : List ℕ) (id : ℕ) (x : Shape) (c : Packer) (to : RegionPlaces) (room : ℕ)
     (d : Due m p s value id x c to room) where
   abbrev strings : ℕ → Str
-  strings = stringWith (p .layout) s id (asString value)
-
-  abbrev all : Packed
-  all = stringsWith m (p .layout) s id (asString value)
+  strings = stringWith (p .layout) s (only id value)
 
   -- the string in its turn: its gap, and where it starts
   abbrev gap : ℕ
@@ -89,33 +90,16 @@ module _ (m : Mode) (p : Places) (s value : List ℕ) (id : ℕ) (x : Shape) (c 
   abbrev start : ℕ
   start = c .at + gap
 
-  known : c .old .id < stringsIn s
-  known = omega (arith, d .turn .known, sectioned p s (d .turn .laid .placed) .strings)
-
-  at-is : c .at ≡ length (storeOf m strings (c .old .id))
-  at-is = d .turn .reached .sums (asString value) (d .shaped) .0
-
-  over-is : c .over ≡ overs (placed m strings) (c .old .id)
-  over-is = d .turn .reached .sums (asString value) (d .shaped) .1
-
-  new-place : standing start (strings (c .old .id)) ≡ placed m strings (c .old .id)
-  new-place = place-next m strings (c .old .id) (c .at) at-is
-
-  over-fits : c .over + entry.bit (entry.isOver (standing start (strings (c .old .id)))) ≤ overs (all .place) (p .strings)
-  unfolding stringsWith
-  over-fits =
-      subst⁻¹ (λ (q : entry.Place). c .over + entry.bit (entry.isOver q) ≤ overs (placed m strings) (p .strings)) new-place
-      (rw over-is (overs-room (placed m strings) (c .old .id) (p .strings) (d .turn .known)))
-
-  size-fits : start + length (strings (c .old .id) .bytes) ≤ length (all .store)
-  unfolding stringsWith
-  size-fits = rw (at-is, ← start-is m strings (c .old .id)) (size-room m strings (c .old .id) (stringsIn s) known)
+  held : Held (p .layout) s strings (c .old .id) (eqb (c .old .id) id) x
+  unfolding stringWith
+  held = ((λ t. rw t (d .shaped)), (λ t. rw t))
 
   module _ (r : Turn) (tu : Turned m p s id x c r) where
     new-is : asPlace (r .new) ≡ standing start (strings (c .old .id))
     new-is =
         tu .new
-        ∙ place-is m (p .layout) s id (c .old .id) (c .at) x (asString value) (d .shaped) (asPlace (r .old .place)) (tu .old .place .is)
+        ∙ place-is m (p .layout) s strings (c .old .id) (c .at) (eqb (c .old .id) id) x held (asPlace (r .old .place))
+        (tu .old .place .is)
 
     pub new-at : r .new .at ≡ start
     new-at = ap (λ (q : entry.Place). q .at) new-is
@@ -131,36 +115,41 @@ module _ (m : Mode) (p : Places) (s value : List ℕ) (id : ℕ) (x : Shape) (c 
         go : (n : Bool)
             → pick (both n (x .wide)) (unitBytes (utf16 value))
             (pick n value (bytesAt s (r .old .start) (sizeOf (asPlace (r .old .place)))))
-            ≡ pick n (asString value) (stringOf (p .layout) s (c .old .id)) .bytes
+            ≡ newString (pick n (some value) none) (stringOf (p .layout) s (c .old .id)) .bytes
         go true = value-bytes value (x .wide) (d .shaped .0)
         go false = old-bytes
 
     -- ---- what the calls ask for
 
     pub entry-fits : EntryFits to (c .old .id) (c .over) (asPlace (r .new)) room
-    entry-fits =
-        let z : Sectioned p s = sectioned p s (d .turn .laid .placed) in
-        let ro : Roomy to (p .strings) all room = d .roomy in
-        let o : c .over + entry.bit (entry.isOver (asPlace (r .new))) ≤ overs (all .place) (p .strings)
-        = subst⁻¹ (λ (q : entry.Place). c .over + entry.bit (entry.isOver q) ≤ overs (all .place) (p .strings)) new-is over-fits in
-        record {
-          small = omega (arith, ro .smalls, ro .pairs, ro .store, d .turn .known);
-          pair = omega (arith, ro .pairs, ro .store);
-          smallLow = omega (arith, ro .smalls, ro .pairs, ro .limit);
-          overLow = omega (arith, ro .pairs, ro .limit);
-          few = omega (arith, d .turn .known);
-          fewOver = omega (arith, d .turn .known, d .turn .reached .few);
-        }
+    entry-fits = subst⁻¹ (λ (q : entry.Place). EntryFits to (c .old .id) (c .over) q room) new-is (d .fits .entry)
 
-    pub place-low : to .«storage_at» + r .new .at ≤ room
-    place-low = omega (arith, d .roomy .store, size-fits, new-at)
+    pub place-low : to .«storage_at» + r .new .at ≤ sizeLimit
+    place-low = omega (arith, d .fits .limit, new-at)
 
     pub gap-room : to .«storage_at» + c .at + (r .new .at - c .at) ≤ room
-    gap-room = omega (arith, d .roomy .store, size-fits, new-at)
+    gap-room = omega (arith, d .fits .store, new-at)
 
     pub bytes-room : to .«storage_at» + r .new .at + length
         (storedBytes (eqb (c .old .id) id) (x .wide) s value (r .old .start) (sizeOf (asPlace (r .old .place)))) ≤ room
-    bytes-room = rw bytes-is (omega (arith, d .roomy .store, size-fits, new-at))
+    bytes-room = rw bytes-is (omega (arith, d .fits .store, new-at))
+
+    -- the pass stands behind it
+    pub behind : Behind m p s c (strings (c .old .id)) (r .next)
+    behind = record {
+      going = tu .going;
+      string = tu .string;
+      over = tu .over ∙ ap (λ (q : entry.Place). c .over + entry.bit (entry.isOver q)) new-is;
+      at =
+          omega (
+            arith,
+            tu .at,
+            new-at,
+            ap sizeOf (tu .new)
+                ∙ size-is m (p .layout) s strings (c .old .id) (c .at) (eqb (c .old .id) id) x held (asPlace (r .old .place))
+                (tu .old .place .is),
+          );
+    }
 
     -- ---- what they leave
 
@@ -176,47 +165,103 @@ module _ (m : Mode) (p : Places) (s value : List ℕ) (id : ℕ) (x : Shape) (c 
         = w .entered ∙ ap (λ (q : entry.Place). putEntry to (c .old .id) (c .over) q out) new-is in
         w .stored ∙ rw (b, a, w .zeros, g, o, sets-append (replicate gap 0) (strings (c .old .id) .bytes), length-replicate)
 
-  -- one string further
-  pub laid-further : (out o1 o2 : List ℕ) → o1 ≡ regionPut to (c .old .id) (packed m strings (c .old .id)) out
-      → o2 ≡ putString m to (c .old .id) (c .over) (c .at) (strings (c .old .id)) o1
-      → o2 ≡ regionPut to (c .old .id + 1) (packed m strings (c .old .id + 1)) out
-  unfolding stringsWith
-  laid-further out o1 o2 f g =
+-- ---- the strings f, one after the other
+
+-- the first strings of f are packed, another one is next, and a buffer of n bytes has room for all
+pub record Filling (m : Mode) (p : Places) (s : List ℕ) (f : ℕ → Str) (c : Packer) (to : RegionPlaces) (n : ℕ) : Type 0 where
+  pub placed : Placed p s
+  pub known : c .old .id < p .strings
+  pub reached : Reached m p s f c
+  pub roomy : Roomy to (p .strings) (packed m f (stringsIn s)) n
+
+pub filling : (m : Mode) (p : Places) (s ids text ends : List ℕ) (to : RegionPlaces) (n : ℕ) → Writable m p s ids text ends to n
+    → (c : Packer) → c .old .id < p .strings → Reached m p s (stringWith (p .layout) s (valuesIn ids text ends)) c
+    → Filling m p s (stringWith (p .layout) s (valuesIn ids text ends)) c to n
+unfolding stringsWith
+filling m p s ids text ends to n w c h r = record { placed = w .laid .placed; known = h; reached = r; roomy = w .roomy }
+
+module _ (m : Mode) (p : Places) (s : List ℕ) (f : ℕ → Str) (c : Packer) (to : RegionPlaces) (n : ℕ)
+    (q : Filling m p s f c to n) where
+  abbrev from : ℕ
+  from = c .at + gapOf m (f (c .old .id) .wide) (c .at)
+
+  here : standing from (f (c .old .id)) ≡ placed m f (c .old .id)
+  here = place-next m f (c .old .id) (c .at) (q .reached .sums .0)
+
+  over-fits : c .over + entry.bit (entry.isOver (standing from (f (c .old .id)))) ≤ overs (placed m f) (p .strings)
+  over-fits =
+      subst⁻¹ (λ (y : entry.Place). c .over + entry.bit (entry.isOver y) ≤ overs (placed m f) (p .strings)) here
+      (rw (q .reached .sums .1) (overs-room (placed m f) (c .old .id) (p .strings) (q .known)))
+
+  size-fits : from + length (f (c .old .id) .bytes) ≤ length (storeOf m f (stringsIn s))
+  size-fits =
+      let known : c .old .id < stringsIn s = omega (arith, q .known, sectioned p s (q .placed) .strings) in
+      rw (q .reached .sums .0, ← start-is m f (c .old .id)) (size-room m f (c .old .id) (stringsIn s) known)
+
+  -- there is room for the next one
+  pub next-fits : StringFits m to (c .old .id) (c .over) (c .at) (f (c .old .id)) n
+  next-fits =
+      let z : Sectioned p s = sectioned p s (q .placed) in
+      let ro = q .roomy in
+      record {
+        entry = record {
+          small = omega (arith, ro .smalls, ro .pairs, ro .store, q .known);
+          pair = omega (arith, ro .pairs, ro .store, over-fits);
+          smallLow = omega (arith, ro .smalls, ro .pairs, ro .limit);
+          overLow = omega (arith, ro .pairs, ro .limit);
+          few = omega (arith, q .known);
+          fewOver = omega (arith, q .known, q .reached .going .few);
+        };
+        store = omega (arith, ro .store, size-fits);
+        limit = omega (arith, ro .limit, size-fits);
+      }
+
+  -- and one string further
+  pub next-reached : (r : Packer) → Behind m p s c (f (c .old .id)) r → Reached m p s f r
+  next-reached r b = record {
+    going = b .going;
+    sums = rw (b .string, b .at, b .over) (sums-more m f (c .old .id) (c .at) (c .over) (q .reached .sums));
+  }
+
+  pub laid-further : (i : ℕ) (out o1 o2 : List ℕ) → i ≡ c .old .id + 1
+      → o1 ≡ regionPut to (c .old .id) (packed m f (c .old .id)) out
+      → o2 ≡ putString m to (c .old .id) (c .over) (c .at) (f (c .old .id)) o1 → o2 ≡ regionPut to i (packed m f i) out
+  laid-further i out o1 o2 e h g =
       let next
       =
-      laid-next m to strings (c .old .id) out (omega (arith, d .roomy .smalls, d .turn .known))
+      laid-next m to f (c .old .id) out (omega (arith, q .roomy .smalls, q .known))
       (omega (
         arith,
-        d .roomy .pairs,
-        overs-room (placed m strings) (c .old .id) (p .strings) (d .turn .known),
-        overs-next (placed m strings)
+        q .roomy .pairs,
+        overs-room (placed m f) (c .old .id) (p .strings) (q .known),
+        overs-next (placed m f)
             (c .old .id),
       )) in
-      rw (add-one, next, ← over-is, ← at-is, ← f) g
+      rw (e, add-one, next, ← q .reached .sums .1, ← q .reached .sums .0, ← h) g
 
 -- behind the last string
-pub all-strings : (m : Mode) (p : Places) (s : List ℕ) → Placed p s → (id : ℕ) (t : Str) (i : ℕ) → i ≡ p .strings
+pub all-strings : (m : Mode) (p : Places) (s : List ℕ) → Placed p s → (v : Values) (i : ℕ) → i ≡ p .strings
     → (to : RegionPlaces) (out o1 : List ℕ)
-    → o1 ≡ regionPut to i (packed m (stringWith (p .layout) s id t) i) out
-    → o1 ≡ regionPut to (p .strings) (stringsWith m (p .layout) s id t) out
+    → o1 ≡ regionPut to i (packed m (stringWith (p .layout) s v) i) out
+    → o1 ≡ regionPut to (p .strings) (stringsWith m (p .layout) s v) out
 unfolding stringsWith
-all-strings m p s pl id t i e to out o1 h = rw (← sectioned p s pl .strings) (rw e at h)
+all-strings m p s pl v i e to out o1 h = rw (← sectioned p s pl .strings) (rw e at h)
 
 -- the region of strings that were measured
-module _ (m : Mode) (p : Places) (s value : List ℕ) (id : ℕ) (x : Shape) (z : Sizes) (n : ℕ) (q : Sized m p s value id x z n)
+module _ (m : Mode) (p : Places) (s ids text ends : List ℕ) (z : Sizes) (n : ℕ) (q : Sized m p s ids text ends z n)
     (storage : ℕ) (e : storage ≡ p .«over_at» + z .overflows * 8) where
   abbrev target : RegionPlaces
   target = record { «small_at» = p .«small_at»; «over_at» = p .«over_at»; «storage_at» = storage }
 
   abbrev every : Packed
-  every = stringsWith m (p .layout) s id (asString value)
+  every = stringsWith m (p .layout) s (valuesIn ids text ends)
 
   store-is : z .storage ≡ length (every .store)
-  store-is = storage-is m p s (q .laid .placed) id x z (q .measured) (asString value) (q .shaped)
+  store-is = storage-is m p s (q .laid .placed) (valuesIn ids text ends) z (q .measured)
 
   pairs-are : z .overflows ≡ overs (every .place) (p .strings)
   pairs-are =
-      overflows-are m p s (q .laid .placed) id x z (q .measured) (asString value) (q .shaped)
+      overflows-are m p s (q .laid .placed) (valuesIn ids text ends) z (q .measured)
       ∙ ap (overs (every .place)) (sym (sectioned p s (q .laid .placed) .strings))
 
   pub roomy : Roomy target (p .strings) every n

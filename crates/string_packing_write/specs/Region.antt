@@ -53,6 +53,12 @@ pub record EntryFits (to : RegionPlaces) (i k : ℕ) (p : Place) (n : ℕ) : Typ
   pub few : i < 4294967296
   pub fewOver : k < 4294967296
 
+-- string i, where those before it take `at` bytes of storage and k overflow entries: a buffer of n bytes holds it
+pub record StringFits (m : Mode) (to : RegionPlaces) (i k at : ℕ) (t : Str) (n : ℕ) : Type 0 where
+  pub entry : EntryFits to i k (standing (at + gapOf m (t .wide) at) t) n
+  pub store : to .«storage_at» + (at + gapOf m (t .wide) at) + length (t .bytes) ≤ n
+  pub limit : to .«storage_at» + (at + gapOf m (t .wide) at) + length (t .bytes) ≤ sizeLimit
+
 -- ---- the bytes of a string
 
 -- a part of one of two inputs: the value for the new string, else n bytes of the image

@@ -1,5 +1,5 @@
 // The tables and the storage of an image's strings, written anew: one pass over the old image, with
-// the new string at its id.
+// the new values at their ids.
 use format::Mode;
 use sections::Places;
 use string_packing::Packer;
@@ -7,16 +7,18 @@ use string_packing::Shape;
 use string_packing::Sizes;
 use string_tables::Place;
 ghost use mathlib.Core.Path.{_≡_};
-ghost use Prim.Native.Nat.{_+_, _≤_};
+ghost use Prim.Native.Nat.{_+_, _≤_, _<_};
 ghost use lib.ListN.{length};
 ghost use lib.Seq.{sets};
 ghost use Rattle.bits.specs.Choice.{both};
 ghost use Rattle.string_tables.specs.Strings.{asPlace};
 ghost use Rattle.edits.specs.Rebuild.{region, padded};
+ghost use Rattle.string_edits.specs.Values.{only};
+ghost use Rattle.string_edits.specs.Lists.{valuesIn};
 ghost use Rattle.string_packing.specs.Strings.{asString, stringWith, stringsWith, Shaped};
 ghost use Rattle.string_packing.specs.Pass.{Reached, InTurn};
-ghost use Rattle.string_packing_write.specs.Region.{putEntry, putString, regionPut, EntryFits, Roomy, sourceOf, storedBytes};
-ghost use Rattle.string_packing_write.specs.Written.{Writable, Sized};
+ghost use Rattle.string_packing_write.specs.Region.{putEntry, putString, regionPut, EntryFits, StringFits, sourceOf, storedBytes};
+ghost use Rattle.string_packing_write.specs.Written.{Behind, LaidOn, Writable, Sized};
 
 // Where the new tables and the new storage start.
 pub struct RegionPlaces {
@@ -102,11 +104,13 @@ fn put_string<'a>(
     new: Shape,
     c: Packer,
 ) -> Packer
-    requires { ⌜ InTurn mode p (now image) id new c × Shaped new (asString (now value)) ⌝ }
-    requires { ⌜ Roomy to (p .strings) (stringsWith mode (p .layout) (now image) id (asString (now value))) (length (now out)) ⌝ }
-    ensures { λ r. ⌜ (r .old .id ≡ c .old .id + 1) × Reached mode p (now (image .entry)) id new r ⌝ }
+    requires { ⌜ InTurn p (now image) new c × Shaped new (asString (now value)) ⌝ }
+    requires { ⌜ StringFits mode to (c .old .id) (c .over) (c .at)
+        (stringWith (p .layout) (now image) (only id (now value)) (c .old .id)) (length (now out)) ⌝ }
+    ensures { λ r. ⌜ Behind mode p (now (image .entry)) c
+        (stringWith (p .layout) (now (image .entry)) (only id (now (value .entry))) (c .old .id)) r ⌝ }
     ensures { λ _. ⌜ now (out .exit) ≡ putString mode to (c .old .id) (c .over) (c .at)
-        (stringWith (p .layout) (now (image .entry)) id (asString (now (value .entry))) (c .old .id)) (now (out .entry)) ⌝ }
+        (stringWith (p .layout) (now (image .entry)) (only id (now (value .entry))) (c .old .id)) (now (out .entry)) ⌝ }
 {
     let i = c.old.id;
     let t = string_packing::take_turn(image, p, mode, id, new, c);
@@ -128,24 +132,56 @@ fn put_string<'a>(
     t.next
 }
 
+// The strings from the cursor on up to the next that gets a value, that one too.
+fn put_stretch<'a>(
+    out: &mut [u8],
+    image: &'a [u8],
+    p: Places,
+    mode: Mode,
+    to: RegionPlaces,
+    ids: &[u32],
+    text: &'a [u8],
+    ends: &[u32],
+    from: Packer,
+) -> Packer
+    requires { ⌜ Writable mode p (now image) (now ids) (now text) (now ends) to (length (now out)) × (from .old .id < p .strings) ⌝ }
+    requires { ⌜ Reached mode p (now image) (stringWith (p .layout) (now image) (valuesIn (now ids) (now text) (now ends))) from ⌝ }
+    ensures { λ r. ⌜ Reached mode p (now (image .entry)) (stringWith (p .layout) (now (image .entry))
+        (valuesIn (now (ids .entry)) (now (text .entry)) (now (ends .entry)))) r ⌝ }
+    ensures { λ r. ⌜ (from .old .id < r .old .id) × (r .old .id ≤ p .strings) ⌝ }
+    ensures { λ r. ⌜ LaidOn mode to (stringWith (p .layout) (now (image .entry))
+        (valuesIn (now (ids .entry)) (now (text .entry)) (now (ends .entry)))) (from .old .id) (r .old .id) (now (out .entry))
+        (now (out .exit)) ⌝ }
+{
+    let s = string_packing::next_stretch(ids, text, ends, from.old.id, p.strings);
+    let next = s.next;
+    let new = s.new;
+    let value = string_edits::value_of(text, ends, next);
+    let mut c = from;
+    while c.old.id < s.end {
+        c = put_string(out, image, value, p, mode, to, next.id, new, c);
+    }
+    c
+}
+
 // All strings in order: one pass, with a place that goes on in each of the three parts.
 fn put_strings<'a>(
     out: &mut [u8],
     image: &'a [u8],
-    value: &'a [u8],
     p: Places,
     mode: Mode,
     to: RegionPlaces,
-    id: usize,
-    new: Shape,
+    ids: &[u32],
+    text: &'a [u8],
+    ends: &[u32],
 )
-    requires { ⌜ Writable mode p (now image) (now value) id new to (length (now out)) ⌝ }
-    ensures { λ _. ⌜ now (out .exit) ≡ regionPut to (p .strings)
-        (stringsWith mode (p .layout) (now (image .entry)) id (asString (now (value .entry)))) (now (out .entry)) ⌝ }
+    requires { ⌜ Writable mode p (now image) (now ids) (now text) (now ends) to (length (now out)) ⌝ }
+    ensures { λ _. ⌜ now (out .exit) ≡ regionPut to (p .strings) (stringsWith mode (p .layout) (now (image .entry))
+        (valuesIn (now (ids .entry)) (now (text .entry)) (now (ends .entry)))) (now (out .entry)) ⌝ }
 {
     let mut c = string_packing::nothing_packed();
     while c.old.id < p.strings {
-        c = put_string(out, image, value, p, mode, to, id, new, c);
+        c = put_stretch(out, image, p, mode, to, ids, text, ends, c);
     }
 }
 
@@ -154,16 +190,17 @@ fn put_strings<'a>(
 pub fn put_region<'a>(
     out: &mut [u8],
     image: &'a [u8],
-    value: &'a [u8],
     p: Places,
     mode: Mode,
-    id: usize,
-    new: Shape,
+    ids: &[u32],
+    text: &'a [u8],
+    ends: &[u32],
     sizes: Sizes,
 )
-    requires { ⌜ Sized mode p (now image) (now value) id new sizes (length (now out)) ⌝ }
+    requires { ⌜ Sized mode p (now image) (now ids) (now text) (now ends) sizes (length (now out)) ⌝ }
     ensures { λ _. ⌜ now (out .exit) ≡ sets (now (out .entry)) (p .«small_at») (padded (p .«small_at»)
-        (region (p .strings) (stringsWith mode (p .layout) (now (image .entry)) id (asString (now (value .entry)))))) ⌝ }
+        (region (p .strings) (stringsWith mode (p .layout) (now (image .entry))
+        (valuesIn (now (ids .entry)) (now (text .entry)) (now (ends .entry)))))) ⌝ }
 {
     let storage_at = sections::entry_at(p.over_at, sizes.overflows, format::OVERFLOW_ENTRY);
     let to = RegionPlaces {
@@ -171,7 +208,7 @@ pub fn put_region<'a>(
         over_at: p.over_at,
         storage_at,
     };
-    put_strings(out, image, value, p, mode, to, id, new);
+    put_strings(out, image, p, mode, to, ids, text, ends);
     let end = storage_at + sizes.storage;
     bits::put_zeros(out, end, bits::up4(end) - end);
 }

@@ -18,51 +18,58 @@ use Rattle.edits.specs.Fit.{fieldsFit}
 use Rattle.edits.specs.Packing.{Packed}
 use Rattle.edits.specs.Rebuild.{region, padded, newTail, rebuild}
 use Rattle.sections.specs.declared.Places.{Places}
+use Rattle.sections.specs.Places.{Laid}
 use Rattle.sections.proofs.SectionLaws.{Sectioned, sectioned}
 use Rattle.relocate.specs.declared.Move.{Move}
 use Rattle.relocate.specs.declared.Cause.the-variants.{Strings}
 use Rattle.relocate.specs.Relocate.{movedPlace, Copied, countWords, relocated, around, Movable}
 use Rattle.relocate.proofs.EditLaws.{spliced-is, rebuilding, rebuild-is}
 use Rattle.relocate.proofs.MovableLaws.{rebuild-movable}
-use Rattle.string_packing.specs.declared.Shape.{Shape}
+use Rattle.string_walk.specs.declared.Cursor.{Cursor}
+use Rattle.string_edits.specs.Values.{Values}
+use Rattle.string_edits.specs.Lists.{valuesIn}
 use Rattle.string_packing.specs.declared.Sizes.{Sizes}
-use Rattle.string_packing.specs.Strings.{asString, stringsWith}
+use Rattle.string_packing.specs.Strings.{stringsWith}
 use Rattle.string_packing.proofs.PassLaws.{storage-is, overflows-are, tail-is}
-use Rattle.string_walk.specs.declared.StringRecord.{StringRecord}
-use Rattle.string_walk.specs.Places.{Stands}
-use Rattle.string_in_place.specs.Known.{finishedWith}
-use Rattle.string_in_place.specs.Patch.{changed, finished, patchedString}
-use Rattle.string_in_place.proofs.FinishLaws.{Slotted, finished-is, answers-over, length-finished}
+use Rattle.string_in_place.specs.Known.{Finishable}
+use Rattle.string_in_place.specs.Patch.{changed, finished, patchedStrings}
+use Rattle.string_in_place.proofs.FinishLaws.{answers-over, length-finished}
 use Rattle.string_rebuild.specs.Ready.{Ready}
 
 -- the strings of the new image, packed
-abbrev pub newStrings : Mode → Places → List ℕ → List ℕ → ℕ → Packed
-newStrings m p s value id = stringsWith m (p .layout) s id (asString value)
+abbrev pub newStrings : Mode → Places → List ℕ → Values → Packed
+newStrings m p s v = stringsWith m (p .layout) s v
 
 -- the tail moves, for the strings' sake
 abbrev moveTail : Places → ℕ → Move
 moveTail p to = record { from = p .tail; to = to; cause = Strings }
 
 -- in a buffer of so much room: what stands around the strings, the strings, the two counts and what moves, one after the other
-pub record Rewritten (m : Mode) (p : Places) (s value : List ℕ) (id : ℕ) (z : Sizes) (to room : ℕ)
+pub record Rewritten (m : Mode) (p : Places) (s : List ℕ) (v : Values) (z : Sizes) (to room : ℕ)
     (out o₁ o₂ o₃ o₄ : List ℕ) : Type 0 where
   pub fits : length out ≡ room
   pub around : o₁ ≡ around (p .«small_at») (p .tail) to s out
-  pub strings : o₂ ≡ sets o₁ (p .«small_at») (padded (p .«small_at») (region (p .strings) (newStrings m p s value id)))
+  pub strings : o₂ ≡ sets o₁ (p .«small_at») (padded (p .«small_at») (region (p .strings) (newStrings m p s v)))
   pub counts : o₃ ≡ writeAll (countWords (z .overflows) (z .storage)) o₂
   pub places : o₄ ≡ relocated (p .layout) s (moveTail p to) o₃
   pub long : length o₄ ≡ length out
 
-module _ (m : Mode) (p : Places) (s value : List ℕ) (id : ℕ) (x : Shape) (z : Sizes) (to room : ℕ)
-    (rd : Ready m p s value id x z to room) where
+module _ (m : Mode) (p : Places) (s ids text ends : List ℕ) (c : Cursor) (z : Sizes) (to room : ℕ)
+    (rd : Ready m p s ids text ends c z to room) where
+  abbrev gets : Values
+  gets = valuesIn ids text ends
+
+  laid : Laid p s
+  laid = rd .asked .given .laid
+
   sc : Sectioned p s
-  sc = sectioned p s (rd .asked .laid .placed)
+  sc = sectioned p s (laid .placed)
 
   abbrev ts : Packed
-  ts = newStrings m p s value id
+  ts = newStrings m p s gets
 
   to-is : to ≡ newTail (p .layout) ts s
-  to-is = rd .tail ∙ tail-is m p s (rd .asked .laid .placed) id x z (rd .measured) (asString value) (rd .shaped)
+  to-is = rd .tail ∙ tail-is m p s (laid .placed) gets z (rd .measured)
 
   -- ---- what the calls ask for
 
@@ -81,15 +88,8 @@ module _ (m : Mode) (p : Places) (s value : List ℕ) (id : ℕ) (x : Shape) (z 
   pub header-room : table.headerLength ≤ room
   header-room = omega (arith, sc, rd .tail, rd .long)
 
-  pub slotted : (own : StringRecord) → Stands p s id own → Slotted p s id (own .rank) room
-  slotted own st =
-      record {
-        laid = rd .asked .laid;
-        known = rd .asked .known;
-        ranked = st .rank;
-        holds = around-room .frontRoom;
-        limit = rd .limit;
-      }
+  pub ends-room : Finishable p room
+  ends-room = record { slots = around-room .frontRoom; least = omega (arith, header-room); limit = rd .limit }
 
   move-is : moveTail p to ≡ rebuilding (p .layout) ts s
   move-is = λ j. record { from = sc .tailFrom j; to = to-is j; cause = Strings }
@@ -99,7 +99,7 @@ module _ (m : Mode) (p : Places) (s value : List ℕ) (id : ℕ) (x : Shape) (z 
       subst⁻¹ (λ (v : Move). Movable (p .layout) s v room) move-is
       (rebuild-movable (p .layout) s room ts
       (record {
-        admitted = rd .asked .laid .admitted;
+        admitted = laid .admitted;
         limit = rd .limit;
         fields = subst (λ (m : Move). fieldsFit (p .layout) s (movedPlace m) ≡ true) move-is (rd .fields);
       })
@@ -107,7 +107,7 @@ module _ (m : Mode) (p : Places) (s value : List ℕ) (id : ℕ) (x : Shape) (z 
 
   -- ---- what they leave
 
-  module _ {out o₁ o₂ o₃ o₄ : List ℕ} (w : Rewritten m p s value id z to room out o₁ o₂ o₃ o₄) where
+  module _ {out o₁ o₂ o₃ o₄ : List ℕ} (w : Rewritten m p s gets z to room out o₁ o₂ o₃ o₄) where
     spliced : o₂ ≡ splice (smallAt (p .layout) s) (tailAt (p .layout) s) (padded (smallAt (p .layout) s) (region (stringsIn s) ts)) s
     spliced =
         let a : ℕ = smallAt (p .layout) s in
@@ -128,20 +128,17 @@ module _ (m : Mode) (p : Places) (s value : List ℕ) (id : ℕ) (x : Shape) (z 
         ∙ ap (relocated (p .layout) s (rebuilding (p .layout) ts s))
         (w .counts
         ∙ rw (
-          overflows-are m p s (rd .asked .laid .placed) id x z (rd .measured) (asString value) (rd .shaped),
-          storage-is m p s
-              (rd .asked .laid .placed) id x z (rd .measured) (asString value) (rd .shaped),
+          overflows-are m p s (laid .placed) gets z (rd .measured),
+          storage-is m p s (laid .placed) gets z (rd .measured),
           spliced,
         ))
         ∙ rebuild-is (p .layout) ts s
 
-    pub patch-put : (own : StringRecord) → Stands p s id own → (o₅ : List ℕ) (r : Answer)
-        → Answers (made (finishedWith (p .«hashes_at») (own .rank) value o₄)) r o₄ o₅
-        → Answers (made (patchedString m (p .layout) s id value)) r out o₅
-    unfolding patchedString changed
-    patch-put own st o₅ r a =
-        let k : length (finished (p .layout) s id value o₄) ≡ length o₄
-        = length-finished (p .layout) s value o₄ id (omega (arith, header-room, w .long, w .fits)) in
+    pub patch-put : (o₅ : List ℕ) (r : Answer) → Answers (made (finished (p .layout) s gets o₄)) r o₄ o₅
+        → Answers (made (patchedStrings m (p .layout) s gets)) r out o₅
+    unfolding patchedStrings changed
+    patch-put o₅ r a =
+        let k : length (finished (p .layout) s gets o₄) ≡ length o₄
+        = length-finished (p .layout) s gets o₄ (omega (arith, header-room, w .long, w .fits)) in
         rw (rd .asked .moves, ← rebuilt)
-        (answers-over (finished (p .layout) s id value o₄) o₄ out o₅ r (sym k) (sym (w .long) ∙ sym k)
-        (rw (finished-is p s id (own .rank) room (slotted own st) value o₄) at a))
+        (answers-over (finished (p .layout) s gets o₄) o₄ out o₅ r (sym k) (sym (w .long) ∙ sym k) a)

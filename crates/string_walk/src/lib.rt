@@ -106,13 +106,13 @@ fn visit(image: &[u8], p: Places, before: Counts) -> Step
     }
 }
 
-// What is visited before string `id`.
-fn walk_to(image: &[u8], p: Places, id: usize) -> Counts
+// What is visited before string `id`, by a walk that has come to one at or before it.
+fn walk_to(image: &[u8], p: Places, from: Counts, id: usize) -> Counts
     requires { ⌜ Laid p (now image) ⌝ }
-    requires { ⌜ id < p .strings ⌝ }
+    requires { ⌜ Walked (p .layout) (now image) from × (from .small ≤ id) × (id < p .strings) ⌝ }
     ensures { λ r. ⌜ Walked (p .layout) (now (image .entry)) r × (r .small ≡ id) ⌝ }
 {
-    let mut counts = Counts { small: 0, over: 0 };
+    let mut counts = from;
     while counts.small < id {
         counts = visit(image, p, counts).counts;
     }
@@ -244,16 +244,17 @@ pub fn first_string() -> Cursor
     }
 }
 
-// Where a pass goes on that has come to string `id`.
-pub fn string_from(image: &[u8], p: Places, id: usize) -> Cursor
+// Where a pass goes on that stood at a string at or before `id` and has come to that one.
+pub fn string_from(image: &[u8], p: Places, from: Cursor, id: usize) -> Cursor
     requires { ⌜ Laid p (now image) ⌝ }
-    requires { ⌜ id < p .strings ⌝ }
+    requires { ⌜ CursorOf p (now image) from × (from .id ≤ id) × (id < p .strings) ⌝ }
     ensures { λ r. ⌜ CursorOf p (now (image .entry)) r × (r .id ≡ id) ⌝ }
 {
+    let run = from.run;
     Cursor {
         id,
-        over: walk_to(image, p, id).over,
-        run: run_of(image, p, first_run(), id),
+        over: walk_to(image, p, counts_of(from), id).over,
+        run: run_of(image, p, run, id),
     }
 }
 
@@ -300,7 +301,7 @@ pub fn locate(image: &[u8], p: Places, id: usize) -> Location
     if p.strings <= id {
         return Location::Refused(refusals::ID);
     }
-    let from = string_from(image, p, id);
+    let from = string_from(image, p, first_string(), id);
     let found = string_at(image, p, from);
     let string = found.string;
     Location::At(id, string, counts_of(found.next))

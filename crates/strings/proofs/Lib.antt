@@ -1,1 +1,3 @@
+pub mod LongLaws
 pub mod PatchLaws
+pub mod PassLaws

@@ -2,7 +2,7 @@
 use mathlib.Core.Path.{_≡_, refl, ap, _∙_}
 use mathlib.Core.Bool.{Bool, true, false, not}
 use mathlib.Core.List.{List, _∷_, _++_}
-use Prim.Native.Nat.{ℕ, _<_}
+use Prim.Native.Nat.{ℕ, _≤_, _<_}
 use native.Mathlib.Omega.{arith}
 use borrow.Author.Tests.{le-leb, lt-leb, ne-eqb, not-true, not-false}
 use lib.Dec.{leb, eqb}
@@ -31,12 +31,13 @@ use Rattle.admission.specs.declared.Admission.the-variants as answer
 use Rattle.admission.specs.Admission.{admission, numberOf}
 use Rattle.admission.proofs.AnswerLaws.{refused-is, refused-then, laid-is, laid-then, laid-layout}
 use Rattle.string_find.specs.Find.{findId}
-use Rattle.string_in_place.specs.Patch.{resultChecks, patchedString, patchKnown}
+use Rattle.string_edits.specs.Values.{only}
+use Rattle.string_in_place.specs.Patch.{resultChecks, patchedStrings, patchKnown}
 use Rattle.strings.specs.Patch.{byIdRefusal, patchById, byValueRefusal, patchByValue}
 
 module _ (l : Layout) (s : List ℕ) (r : Admission) (e : r ≡ admission l s) where
   -- not admitted: what comes behind does not count
-  refused-all : (ds : List Check) (new out : List ℕ) (k n : ℕ) → r ≡ answer.Refused k → n ≡ numberOf r
+  pub refused-all : (ds : List Check) (new out : List ℕ) (k n : ℕ) → r ≡ answer.Refused k → n ≡ numberOf r
       → Answers (roomed (length out) (outcomeFor (judge (checks l s ++ ds)) new)) (Refused n) out out
   unfolding roomed
   refused-all ds new out k n f g =
@@ -47,12 +48,12 @@ module _ (l : Layout) (s : List ℕ) (r : Admission) (e : r ≡ admission l s) w
   pub id-refused : (m : Mode) (id : ℕ) (value out : List ℕ) (k n : ℕ) → r ≡ answer.Refused k → n ≡ numberOf r
       → Answers (roomed (length out) (patchById m l s id value)) (Refused n) out out
   unfolding patchById byIdRefusal
-  id-refused m id value out k n f g = refused-all _ (patchedString m l s id value) out k n f g
+  id-refused m id value out k n f g = refused-all _ (patchedStrings m l s (only id value)) out k n f g
 
   pub value-refused : (m : Mode) (old new out : List ℕ) (k n : ℕ) → r ≡ answer.Refused k → n ≡ numberOf r
       → Answers (roomed (length out) (patchByValue m l s old new)) (Refused n) out out
   unfolding patchByValue byValueRefusal
-  value-refused m old new out k n f g = refused-all _ (patchedString m l s (findId l s (utf16 old)) new) out k n f g
+  value-refused m old new out k n f g = refused-all _ (patchedStrings m l s (only (findId l s (utf16 old)) new)) out k n f g
 
 -- ---- admitted: what comes behind decides
 
@@ -62,19 +63,14 @@ pub record Admits (l : Layout) (s : List ℕ) (r : Admission) (p : Places) : Typ
   pub laid : r ≡ answer.Laid p
 
 module _ (l : Layout) (s : List ℕ) (r : Admission) (p : Places) (h : Admits l s r p) where
-  strings-is : p .strings ≡ stringsIn s
+  pub strings-is : p .strings ≡ stringsIn s
   unfolding placesOf
   strings-is = ap (λ (q : Places). q .strings) (laid-is l s r (h .is) p (h .laid) .1)
 
-  layout-is : p .layout ≡ l
+  pub layout-is : p .layout ≡ l
   layout-is = laid-layout l s r (h .is) p (h .laid)
 
 -- ---- by id
-
--- string id was located
-pub record Located (l : Layout) (s : List ℕ) (r : Admission) (p : Places) (id : ℕ) (loc : Location) : Type 0 where
-  pub admits : Admits l s r p
-  pub location : Locates p s id refusals.id loc
 
 -- string id is there, and its new value was tested
 pub record ValueTested (l : Layout) (s : List ℕ) (r : Admission) (p : Places) (id : ℕ) (value : List ℕ) (b : Bool) : Type 0 where
@@ -85,19 +81,14 @@ pub record ValueTested (l : Layout) (s : List ℕ) (r : Admission) (p : Places) 
 module _ (m : Mode) (l : Layout) (s : List ℕ) (r : Admission) (p : Places) (id : ℕ) (value out : List ℕ) where
   behind : Admits l s r p
       → patchById m l s id value ≡ outcomeFor
-      (judge (check 7 (leb (stringsIn s) id) ∷ check 8 (not (isUtf8 value)) ∷ resultChecks m l s id value))
-      (patchedString m l s id value)
+      (judge (check 7 (leb (stringsIn s) id) ∷ check 8 (not (isUtf8 value)) ∷ resultChecks m l s (only id value)))
+      (patchedStrings m l s (only id value))
   unfolding patchById byIdRefusal
-  behind h = ap (λ (n : ℕ). outcomeFor n (patchedString m l s id value)) (laid-then l s r (h .is) p (h .laid) _)
+  behind h = ap (λ (n : ℕ). outcomeFor n (patchedStrings m l s (only id value))) (laid-then l s r (h .is) p (h .laid) _)
 
-  pub id-absent : (loc : Location) → Located l s r p id loc → (k : ℕ) → loc ≡ location.Refused k → (n : ℕ)
-      → n ≡ location-number loc
-      → Answers (roomed (length out) (patchById m l s id value)) (Refused n) out out
+  pub id-absent : Admits l s r p → p .strings ≤ id → Answers (roomed (length out) (patchById m l s id value)) (Refused 7) out out
   unfolding judge roomed
-  id-absent loc h k u n v =
-      let (w, b) = located-none p s id refusals.id loc (h .location) k u in
-      let x : n ≡ 7 = v ∙ ap location-number u ∙ w in
-      rw (behind (h .admits), ← strings-is l s r p (h .admits), le-leb (p .strings) id b, x) (refl, refl)
+  id-absent h k = rw (behind h, ← strings-is l s r p h, le-leb (p .strings) id k) (refl, refl)
 
   module _ (b : Bool) (h : ValueTested l s r p id value b) where
     pub id-value : not b ≡ true → Answers (roomed (length out) (patchById m l s id value)) (Refused 8) out out
@@ -106,14 +97,14 @@ module _ (m : Mode) (l : Layout) (s : List ℕ) (r : Admission) (p : Places) (id
         rw (behind (h .admits), ← strings-is l s r p (h .admits), lt-leb (p .strings) id (h .known), ← h .tested, not-true b t)
         (refl, refl)
 
-    known-is : not b ≡ false → patchById m l s id value ≡ patchKnown m l s id value
+    known-is : not b ≡ false → patchById m l s id value ≡ patchKnown m l s (only id value)
     unfolding patchKnown judge
     known-is t =
         behind (h .admits)
         ∙ rw (← strings-is l s r p (h .admits), lt-leb (p .strings) id (h .known), ← h .tested, not-false b t)
 
     pub id-known : not b ≡ false → (a : Answer) (o : List ℕ)
-        → Answers (roomed (length out) (patchKnown m (p .layout) s id value)) a out o
+        → Answers (roomed (length out) (patchKnown m (p .layout) s (only id value))) a out o
         → Answers (roomed (length out) (patchById m l s id value)) a out o
     id-known t a o k = rw (known-is t) (rw (layout-is l s r p (h .admits)) at k)
 
@@ -144,9 +135,9 @@ module _ (m : Mode) (l : Layout) (s : List ℕ) (r : Admission) (p : Places) (ol
   after : Admits l s r p
       → patchByValue m l s old new
       ≡ outcomeFor (judge (check 8 (not (isUtf8 old)) ∷ check 8 (not (isUtf8 new)) ∷ check 14 (leb (stringsIn s) at)
-      ∷ resultChecks m l s at new)) (patchedString m l s at new)
+      ∷ resultChecks m l s (only at new))) (patchedStrings m l s (only at new))
   unfolding patchByValue byValueRefusal
-  after h = ap (λ (n : ℕ). outcomeFor n (patchedString m l s at new)) (laid-then l s r (h .is) p (h .laid) _)
+  after h = ap (λ (n : ℕ). outcomeFor n (patchedStrings m l s (only at new))) (laid-then l s r (h .is) p (h .laid) _)
 
   pub old-value : (b : Bool) → OldTested l s r p old b → not b ≡ true
       → Answers (roomed (length out) (patchByValue m l s old new)) (Refused 8) out out
@@ -165,7 +156,7 @@ module _ (m : Mode) (l : Layout) (s : List ℕ) (r : Admission) (p : Places) (ol
 
     -- both values are UTF-8: whether there is such a string decides
     sought : patchByValue m l s old new
-        ≡ outcomeFor (judge (check 14 (leb (stringsIn s) at) ∷ resultChecks m l s at new)) (patchedString m l s at new)
+        ≡ outcomeFor (judge (check 14 (leb (stringsIn s) at) ∷ resultChecks m l s (only at new))) (patchedStrings m l s (only at new))
     unfolding judge
     sought =
         after admits ∙ rw (← h .before .before .tested, not-false b (h .before .valid), ← h .before .tested, not-false c (h .valid))
@@ -188,10 +179,10 @@ module _ (m : Mode) (l : Layout) (s : List ℕ) (r : Admission) (p : Places) (ol
       id-in : id < p .strings
       id-in = located-self p s _ refusals.absent loc (h .location) id q n v .0
 
-      found-is : patchByValue m l s old new ≡ patchKnown m l s id new
+      found-is : patchByValue m l s old new ≡ patchKnown m l s (only id new)
       unfolding patchKnown judge
       found-is = sought ∙ rw (← id-is, ← strings-is l s r p admits, lt-leb (p .strings) id id-in)
 
-      pub value-known : (a : Answer) (o : List ℕ) → Answers (roomed (length out) (patchKnown m (p .layout) s id new)) a out o
+      pub value-known : (a : Answer) (o : List ℕ) → Answers (roomed (length out) (patchKnown m (p .layout) s (only id new))) a out o
           → Answers (roomed (length out) (patchByValue m l s old new)) a out o
       value-known a o k = rw found-is (rw (layout-is l s r p admits) at k)

@@ -13,17 +13,18 @@ use Rattle.unicode.specs.Utf8.{isUtf8, utf16}
 use Rattle.image.specs.Sections.{stringsIn}
 use Rattle.image.specs.Admission.{checks}
 use Rattle.string_find.specs.Find.{findId}
-use Rattle.string_in_place.specs.Patch.{resultChecks, patchedString}
+use Rattle.string_edits.specs.Values.{only}
+use Rattle.string_in_place.specs.Patch.{resultChecks, patchedStrings}
 
 -- "1 to 6 as numbered; by id 7, 8; .. then 11, 12"
 unfoldable pub byIdRefusal : Mode → Layout → List ℕ → ℕ → List ℕ → ℕ
 byIdRefusal m l s id value =
     judge (checks l s ++ (check refusals.id (leb (stringsIn s) id) ∷ check refusals.value (not (isUtf8 value))
-    ∷ resultChecks m l s id value))
+    ∷ resultChecks m l s (only id value)))
 
 -- what `patch_string_by_id` makes; the room comes in by `roomed`
 unfoldable pub patchById : Mode → Layout → List ℕ → ℕ → List ℕ → Outcome
-patchById m l s id value = outcomeFor (byIdRefusal m l s id value) (patchedString m l s id value)
+patchById m l s id value = outcomeFor (byIdRefusal m l s id value) (patchedStrings m l s (only id value))
 
 -- by value: "no string has the old value's UTF-16 units; else the lowest such id is patched"; "by value 8 (old, new), 14; .. then 11, 12"
 unfoldable pub byValueRefusal : Mode → Layout → List ℕ → List ℕ → List ℕ → ℕ
@@ -33,8 +34,8 @@ byValueRefusal m l s old new =
     ++ (check refusals.value (not (isUtf8 old))
     ∷ check refusals.value (not (isUtf8 new))
     ∷ check refusals.absent (leb (stringsIn s) (findId l s (utf16 old)))
-    ∷ resultChecks m l s (findId l s (utf16 old)) new))
+    ∷ resultChecks m l s (only (findId l s (utf16 old)) new)))
 
 -- what `patch_string_replace` makes
 unfoldable pub patchByValue : Mode → Layout → List ℕ → List ℕ → List ℕ → Outcome
-patchByValue m l s old new = outcomeFor (byValueRefusal m l s old new) (patchedString m l s (findId l s (utf16 old)) new)
+patchByValue m l s old new = outcomeFor (byValueRefusal m l s old new) (patchedStrings m l s (only (findId l s (utf16 old)) new))

@@ -1,40 +1,69 @@
-// String patches: the label that is read gets another value, by its id or by what it was.
+// String patches: a label that is read gets another value, by its id or by what it was; or many of
+// them, by their ids, in one pass.
 use admission::Admission;
 use bits::Answer;
 use format::Layout;
 use format::Mode;
 use sections::Places;
 use string_walk::Location;
-use string_walk::StringRecord;
-ghost use Prim.Native.Nat.{_<_};
-ghost use lib.ListN.{length};
+ghost use mathlib.Core.Path.{_≡_};
+ghost use mathlib.Core.Bool.{true};
+ghost use Prim.Native.Nat.{ℕ, _<_};
+ghost use lib.ListN.{length, getD};
 ghost use Rattle.bits.specs.Outcome.{Answers, roomed};
 ghost use Rattle.sections.specs.Places.{Laid};
-ghost use Rattle.string_walk.specs.Places.{Stands};
+ghost use Rattle.string_edits.specs.Values.{only};
+ghost use Rattle.string_edits.specs.Lists.{valuesIn, Listed};
+ghost use Rattle.unicode.specs.Utf8.{isUtf8};
 ghost use Rattle.string_in_place.specs.Patch.{patchKnown};
 ghost use Rattle.strings.specs.Patch.{patchById, patchByValue};
+ghost use Rattle.strings.specs.Pass.{patchStrings};
 
-// A string of an admitted image, whose record is `own`, gets a value: in place where it fits there,
-// else by a rebuild.
+// A value of more bytes is longer than any image, as a string too.
+const LONGEST: usize = 4294967295;
+
+// Strings of an admitted image get values: in place where each fits there, else by one rebuild.
 fn patch_known<'a>(
+    out: &mut [u8],
+    image: &'a [u8],
+    p: Places,
+    mode: Mode,
+    ids: &[u32],
+    text: &'a [u8],
+    ends: &[u32],
+) -> Answer
+    requires { ⌜ Laid p (now image) × Listed (now ids) (now text) (now ends) ⌝ }
+    requires { ⌜ ((j : ℕ) → j < length (now ids) → getD (now ids) j 0 < p .strings) ⌝ }
+    ensures { λ r. ⌜ Answers (roomed (length (now (out .entry))) (patchKnown mode (p .layout) (now (image .entry))
+        (valuesIn (now (ids .entry)) (now (text .entry)) (now (ends .entry))))) r (now (out .entry)) (now (out .exit)) ⌝ }
+{
+    let from = string_in_place::first_edited(image, p, ids);
+    if string_in_place::fits_all(image, p, from, ids, text, ends) {
+        return string_in_place::patch_in_place(out, image, p, from, ids, text, ends);
+    }
+    string_rebuild::rebuild(out, image, p, mode, from, ids, text, ends)
+}
+
+// One string gets a value: the list of one.
+fn patch_one<'a>(
     out: &mut [u8],
     image: &'a [u8],
     value: &'a [u8],
     p: Places,
     mode: Mode,
     id: usize,
-    own: StringRecord,
 ) -> Answer
-    requires { ⌜ Laid p (now image) × (id < p .strings) ⌝ }
-    requires { ⌜ Stands p (now image) id own ⌝ }
+    requires { ⌜ Laid p (now image) × (id < p .strings) × (isUtf8 (now value) ≡ true) ⌝ }
     ensures { λ r. ⌜ Answers
-        (roomed (length (now (out .entry))) (patchKnown mode (p .layout) (now (image .entry)) id (now (value .entry)))) r
+        (roomed (length (now (out .entry))) (patchKnown mode (p .layout) (now (image .entry)) (only id (now (value .entry))))) r
         (now (out .entry)) (now (out .exit)) ⌝ }
 {
-    if string_in_place::fits_in_place(image, p, id, own, value) {
-        return string_in_place::patch_in_place(out, image, p, id, own, value);
+    if LONGEST < value.len() {
+        return Answer::Refused(refusals::LIMIT);
     }
-    string_rebuild::rebuild(out, image, value, p, mode, id, own)
+    let ids = [id as u32; 1];
+    let ends = [value.len() as u32; 1];
+    patch_known(out, image, p, mode, &ids, value, &ends)
 }
 
 // String `id` gets a value. Answers the new length; the image is at the front of `out`. Refused with
@@ -56,14 +85,13 @@ pub fn patch_string_by_id<'a>(
     let Admission::Laid(p) = admitted else {
         return Answer::Refused(admission::number_of(admitted));
     };
-    let location = string_walk::locate(image, p, id);
-    let Location::At(_, own, _) = location else {
-        return Answer::Refused(string_walk::number_of(location));
-    };
+    if p.strings <= id {
+        return Answer::Refused(refusals::ID);
+    }
     if !unicode::is_utf8(value) {
         return Answer::Refused(refusals::VALUE);
     }
-    patch_known(out, image, value, p, mode, id, own)
+    patch_one(out, image, value, p, mode, id)
 }
 
 // The lowest string that has the units of `old` gets the value `new`. Refused as by id, but for 8
@@ -91,8 +119,43 @@ pub fn patch_string_replace<'a>(
         return Answer::Refused(refusals::VALUE);
     }
     let location = string_find::find(image, p, old);
-    let Location::At(id, own, _) = location else {
+    let Location::At(id, _, _) = location else {
         return Answer::Refused(string_walk::number_of(location));
     };
-    patch_known(out, image, new, p, mode, id, own)
+    patch_one(out, image, new, p, mode, id)
+}
+
+// The strings of a list of ids get values, which are one text and their end places, in one pass: in
+// place where each could be on the image as given, else by one rebuild; with no ids the image is only
+// finalized. Refused with 15 where the three are no list; then as by id, each number for any edit of
+// the list, and 17 where an id is given twice, after 7 and before 8. 11 to 13 are of the end image.
+pub fn patch_strings<'a>(
+    image: &'a [u8],
+    layout: Layout,
+    mode: Mode,
+    ids: &[u32],
+    text: &'a [u8],
+    ends: &[u32],
+    out: &mut [u8],
+) -> Answer
+    ensures { λ r. ⌜ Answers (roomed (length (now (out .entry))) (patchStrings mode layout (now (image .entry))
+        (now (ids .entry)) (now (text .entry)) (now (ends .entry)))) r (now (out .entry)) (now (out .exit)) ⌝ }
+{
+    if !string_edits::is_list(ids, text, ends) {
+        return Answer::Refused(refusals::JOB);
+    }
+    let admitted = admission::admit(image, layout);
+    let Admission::Laid(p) = admitted else {
+        return Answer::Refused(admission::number_of(admitted));
+    };
+    if !string_edits::are_known(ids, p.strings) {
+        return Answer::Refused(refusals::ID);
+    }
+    if !string_edits::are_different(ids) {
+        return Answer::Refused(refusals::TWICE);
+    }
+    if !string_edits::are_utf8(text, ends) {
+        return Answer::Refused(refusals::VALUE);
+    }
+    patch_known(out, image, p, mode, ids, text, ends)
 }

@@ -4,15 +4,11 @@ use test_frames::Answer;
 use test_frames::HEAD;
 use test_frames::Status;
 use test_frames::word;
-ghost use mathlib.Core.Path.{_≡_};
 ghost use Prim.Native.Nat.{_+_, _*_, _≤_};
 ghost use lib.ListN.{length};
 
 // The longest buffer that a call may have.
 pub const LONGEST: usize = 65536;
-
-// The most strings that a call of the builder may have.
-const MOST_ENDS: usize = 1024;
 
 // The answer of a call. Its buffer is left as the function that it names leaves it.
 pub fn answer_call(head: &[u8; HEAD], buffer: &mut [u8]) -> Answer
@@ -52,20 +48,6 @@ fn lengthed(answer: Length) -> Answer {
     }
 }
 
-// The `count` words from `at` on, and zeros.
-fn read_ends(bytes: &[u8], at: usize, count: usize) -> [u32; MOST_ENDS]
-    requires { ⌜ (at + count * 4 ≤ length (now bytes)) × (count ≤ 1024) ⌝ }
-    ensures { λ r. ⌜ 1024 ≡ length r ⌝ }
-{
-    let mut ends = [0u32; MOST_ENDS];
-    let mut i = 0;
-    while i < count {
-        ends[i] = bits::word(bytes, at + i * 4) as u32;
-        i += 1;
-    }
-    ends
-}
-
 // The builder on a text, ends and a body that stand one after the other, up to `end`.
 fn built_from(
     version: u32,
@@ -77,7 +59,7 @@ fn built_from(
 ) -> Answer
     requires { ⌜ (text + count * 4 ≤ end) × (end ≤ length (now inputs)) × (count ≤ 1024) ⌝ }
 {
-    let ends = read_ends(inputs, text, count);
+    let ends = test_frames::list(inputs, text, count);
     let body = text + count * 4;
     lengthed(serialize::build_minimal_modern(
         version,
@@ -96,7 +78,7 @@ fn built(head: &[u8; HEAD], buffer: &mut [u8]) -> Answer
     let text = word(head, 1) as usize;
     let count = word(head, 2) as usize;
     let out_at = text + count * 4 + word(head, 3) as usize;
-    if count > MOST_ENDS {
+    if count > test_frames::LIST {
         return test_frames::bare(Status::Unknown);
     }
     if out_at > buffer.len() {

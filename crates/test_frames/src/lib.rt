@@ -5,7 +5,8 @@
 // grow with the stream and each program decides how long a buffer it takes.
 use libc::STDIN_FILENO;
 use libc::STDOUT_FILENO;
-ghost use Prim.Native.Nat.{_+_, _<_, _≤_};
+ghost use mathlib.Core.Path.{_≡_};
+ghost use Prim.Native.Nat.{_+_, _*_, _<_, _≤_};
 ghost use lib.ListN.{length};
 
 // The bytes of a call before its buffer: its number, the buffer's length, 32 argument words.
@@ -18,6 +19,9 @@ const ARGUMENTS: usize = 8;
 const RESULTS: usize = 10;
 
 const ANSWER: usize = 44;
+
+// The most words that a list within a buffer may have.
+pub const LIST: usize = 1024;
 
 pub enum Status {
     Done,
@@ -101,6 +105,20 @@ pub fn hash(head: &[u8; HEAD], i: usize) -> [u8; 20]
     requires { ⌜ i < 28 ⌝ }
 {
     hash_at(head, ARGUMENTS + 4 * i)
+}
+
+// The `count` words of a buffer from `at` on, and zeros.
+pub fn list(bytes: &[u8], at: usize, count: usize) -> [u32; LIST]
+    requires { ⌜ (at + count * 4 ≤ length (now bytes)) × (count ≤ 1024) ⌝ }
+    ensures { λ r. ⌜ 1024 ≡ length r ⌝ }
+{
+    let mut words = [0u32; LIST];
+    let mut i = 0;
+    while i < count {
+        words[i] = bits::word(bytes, at + i * 4) as u32;
+        i += 1;
+    }
+    words
 }
 
 // The answer of a call that gives results.

@@ -1,12 +1,14 @@
 // The calls by their numbers, with arguments in the order of the judge's table, oracle/src/patches.
 use bits::Answer as Length;
+use format::Layout;
 use format::Mode;
 use test_frames::Answer;
 use test_frames::HEAD;
 use test_frames::Status;
 use test_frames::word;
 
-// A call's buffer before its output: the old value, the new one (or the body), the image.
+// A call's buffer before its output: the old value (or the lists of a pass), the new one (or the body,
+// or the text of a pass), the image.
 pub fn inputs_length(head: &[u8; HEAD]) -> usize {
     word(head, 2) as usize + word(head, 3) as usize + word(head, 4) as usize
 }
@@ -55,8 +57,43 @@ pub fn answer_call(head: &[u8; HEAD], inputs: &[u8], out: &mut [u8]) -> Answer {
             lengthed(strings::patch_string_replace(image, layout, mode, old, new, out))
         }
         34 => lengthed(functions::patch_function_bytes(image, layout, id, new, out)),
+        36 => passed(image, layout, mode, &inputs[0..old_end], id, new, out),
         _ => test_frames::bare(Status::Unknown),
     }
+}
+
+// A pass: its lists are `count` ids and then the ends, a word each.
+fn passed<'a>(
+    image: &'a [u8],
+    layout: Layout,
+    mode: Mode,
+    lists: &[u8],
+    count: usize,
+    text: &'a [u8],
+    out: &mut [u8],
+) -> Answer {
+    let words = lists.len() / 4;
+    if count > words {
+        return test_frames::bare(Status::Unknown);
+    }
+    let rest = words - count;
+    if count > test_frames::LIST {
+        return test_frames::bare(Status::Unknown);
+    }
+    if rest > test_frames::LIST {
+        return test_frames::bare(Status::Unknown);
+    }
+    let ids = test_frames::list(lists, 0, count);
+    let ends = test_frames::list(lists, count * 4, rest);
+    lengthed(strings::patch_strings(
+        image,
+        layout,
+        mode,
+        &ids[0..count],
+        text,
+        &ends[0..rest],
+        out,
+    ))
 }
 
 fn lengthed(answer: Length) -> Answer {

@@ -1,7 +1,8 @@
 //! Limits that no stream of calls reaches, since they take inputs or results of 8 to 70 MB: the archive of our exports
-//! is linked and held to the Rust, and to documents 01 and 02 where the Rust has no limit or no such mode. Ends with 1 at
-//! the first difference.
+//! is linked and held to the Rust, and to documents 01 and 02 where the Rust has no limit, no such mode and no such pass. Ends
+//! with 1 at the first difference.
 
+mod lists;
 mod modes;
 
 use std::process::ExitCode;
@@ -130,14 +131,15 @@ fn main() -> ExitCode {
         ),
     ];
     let sizes = checks.iter().map(|(name, holds, size)| (name, holds(*size)));
-    let modes = modes::CHECKS.iter().map(|(name, holds)| (name, holds()));
-    if let Some((name, _)) = sizes.chain(modes).find(|(_, holds)| !holds) {
+    let patches = modes::CHECKS.iter().chain(&lists::CHECKS);
+    let patches = patches.map(|(name, holds)| (name, holds()));
+    if let Some((name, _)) = sizes.chain(patches).find(|(_, holds)| !holds) {
         println!("oracle: limits: {name}: differs");
         return ExitCode::FAILURE;
     }
-    let (sizes, modes) = (checks.len(), modes::CHECKS.len());
+    let (sizes, modes, lists) = (checks.len(), modes::CHECKS.len(), lists::CHECKS.len());
     println!(
-        "oracle: limits: {sizes} inputs of up to 70 MB, {modes} checks of string patches in both modes: as they should be"
+        "oracle: limits: {sizes} inputs of up to 70 MB, {modes} checks of string patches in both modes, {lists} of passes: as they should be"
     );
     ExitCode::SUCCESS
 }

@@ -36,9 +36,23 @@ extern "C" {
         out: *mut u8,
         room: usize,
     ) -> u64;
+    fn nepuladrim_patch_strings(
+        image: *const u8,
+        length: usize,
+        layout: u8,
+        mode: u8,
+        ids: *const u32,
+        ids_count: usize,
+        text: *const u8,
+        text_length: usize,
+        ends: *const u32,
+        ends_count: usize,
+        out: *mut u8,
+        room: usize,
+    ) -> u64;
 }
 
-const MODES: [Mode; 2] = [Mode::Plain, Mode::Even];
+pub const MODES: [Mode; 2] = [Mode::Plain, Mode::Even];
 const WIDE: bool = true;
 const NARROW: bool = false;
 
@@ -55,18 +69,26 @@ fn ours(patch: &Patch, out: &mut [u8]) -> u64 {
     let (to, room) = (out.as_mut_ptr(), out.len());
     let ([a, b], [m, n]) =
         ([old, new].map(|part| part.as_ptr()), [old, new].map(|part| part.len()));
-    let by_value = patch.kind == Kind::ByValue;
     unsafe {
-        if by_value {
-            nepuladrim_patch_string_replace(from, length, layout, mode, a, m, b, n, to, room)
-        } else {
-            nepuladrim_patch_string_by_id(from, length, layout, mode, patch.id, b, n, to, room)
+        match patch.kind {
+            Kind::ByValue => {
+                nepuladrim_patch_string_replace(from, length, layout, mode, a, m, b, n, to, room)
+            }
+            Kind::Pass => {
+                let lists = patch.list();
+                let [(a, m), (c, k)] =
+                    [&lists.ids, &lists.ends].map(|list| (list.as_ptr(), list.len()));
+                nepuladrim_patch_strings(from, length, layout, mode, a, m, b, n, c, k, to, room)
+            }
+            _ => {
+                nepuladrim_patch_string_by_id(from, length, layout, mode, patch.id, b, n, to, room)
+            }
         }
     }
 }
 
 /// We answer so: the image, and a byte behind it stays, or the number, and all stays.
-fn is_answered(patch: &Patch, theirs: &Result<Vec<u8>, u32>) -> bool {
+pub fn is_answered(patch: &Patch, theirs: &Result<Vec<u8>, u32>) -> bool {
     let (answer, image) = match theirs {
         Ok(image) => (image.len() as u64, &image[..]),
         Err(number) => (REFUSED + u64::from(*number), &[][..]),
@@ -83,7 +105,7 @@ fn last_place(layout: Layout, image: &[u8]) -> (usize, bool) {
 }
 
 /// The last string goes to these offsets, in plain and in even mode, and to the overflow table from 0x800000 on.
-fn is_put(patch: Patch, offsets: [usize; 2]) -> bool {
+pub fn is_put(patch: Patch, offsets: [usize; 2]) -> bool {
     MODES.into_iter().zip(offsets).all(|(mode, offset)| {
         let patch = Patch { mode, ..patch };
         let theirs = judge(&patch).answer;

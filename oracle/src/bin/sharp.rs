@@ -8,7 +8,6 @@ use std::process::ExitCode;
 use oracle::family::Family;
 use oracle::image::reading::{self, Slip, TESTS};
 use oracle::image::{self, makes_whole_images};
-use oracle::job::packing;
 use oracle::patches;
 use oracle::stream::Call;
 
@@ -27,7 +26,7 @@ fn main() -> ExitCode {
             report(family, &reading::slips(), image::finds, named, all)
         }
         Some(("patches", family, all)) => {
-            report(family, &packing::slips(), patches::finds, |slip| format!("{slip:?}"), all)
+            report(family, &patches::slips(), patches::finds, |slip| format!("{slip:?}"), all)
         }
         _ => {
             eprintln!("usage: sharp image|patches [all]");

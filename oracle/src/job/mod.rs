@@ -2,6 +2,7 @@
 
 pub mod made;
 pub mod packing;
+pub mod pass;
 pub mod patch;
 
 use crate::image::layout::Layout;

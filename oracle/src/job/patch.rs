@@ -2,6 +2,8 @@
 //! document 02, No. 2: one patch of one image. It takes the image apart into values and writes them anew,
 //! where our code edits bytes.
 
+use std::collections::BTreeMap;
+
 use hbc_decomp::write::footer::rehash_footer;
 
 use super::packing::{Packed, Packing, Piece, Slip};
@@ -43,10 +45,10 @@ pub fn finish(mut image: Vec<u8>) -> Vec<u8> {
 
 /// A string: where its bytes stand in storage.
 #[derive(Clone, Copy)]
-struct Text {
-    wide: bool,
-    start: usize,
-    end: usize,
+pub(super) struct Text {
+    pub wide: bool,
+    pub start: usize,
+    pub end: usize,
 }
 
 #[derive(Clone, Copy)]
@@ -59,21 +61,21 @@ struct Function {
 }
 
 /// What an admitted image is made of.
-struct Parts<'a> {
+pub(super) struct Parts<'a> {
     layout: Layout,
-    image: &'a [u8],
+    pub image: &'a [u8],
     hashes: usize,
     small: usize,
-    storage: usize,
+    pub storage: usize,
     tail: usize,
-    texts: Vec<Text>,
-    identifiers: Vec<bool>,
+    pub texts: Vec<Text>,
+    pub identifiers: Vec<bool>,
     functions: Vec<Function>,
     debug: usize,
 }
 
 impl<'a> Parts<'a> {
-    fn of(layout: Layout, image: &'a [u8]) -> Parts<'a> {
+    pub fn of(layout: Layout, image: &'a [u8]) -> Parts<'a> {
         let places = Reading { layout, image, slip: None }.places();
         let at = |i: usize, start: u64, size: usize| start as usize + i * size;
         let mut pairs = 0;
@@ -143,7 +145,6 @@ impl<'a> Parts<'a> {
         let Ok(text) = std::str::from_utf8(value) else {
             return Err(8);
         };
-        let units: Vec<u16> = text.encode_utf16().collect();
         let is_odd = |text: &Text| text.wide && text.start % 2 == 1;
         let is_moved = packing.slips(Slip::InPlaceOnlyWhereEven) && self.texts.iter().any(is_odd);
         let mut new = if self.fits_in_place(id, value) && !is_moved {
@@ -155,13 +156,18 @@ impl<'a> Parts<'a> {
             new[start..start + value.len()].copy_from_slice(value);
             new
         } else {
-            self.rebuilt(id, value, &units, packing, room)?
+            self.rebuilt(&BTreeMap::from([(id, text)]), packing, room)?
         };
+        self.put_hash(&mut new, id, text);
+        Ok(finish(new))
+    }
+
+    /// An identifier's hash in the slot of its rank.
+    pub fn put_hash(&self, new: &mut [u8], id: usize, value: &str) {
         if self.identifiers[id] {
             let rank = self.identifiers[..id].iter().filter(|is| **is).count();
-            set_word(&mut new, self.hashes + 4 * rank, hash(&units));
+            set_word(new, self.hashes + 4 * rank, hash(value));
         }
-        Ok(finish(new))
     }
 
     fn bytes(&self, text: &Text) -> &[u8] {
@@ -173,30 +179,30 @@ impl<'a> Parts<'a> {
         self.bytes(text).chunks(width).map(|unit| number(unit, 0, width) as u16).collect()
     }
 
-    fn fits_in_place(&self, id: usize, value: &[u8]) -> bool {
+    pub fn fits_in_place(&self, id: usize, value: &[u8]) -> bool {
         let own = self.texts[id];
         let overlaps = |other: &Text| own.start < other.end && other.start < own.end;
         let alone = (0..self.texts.len()).all(|j| j == id || !overlaps(&self.texts[j]));
         !own.wide && value.is_ascii() && value.len() == own.end - own.start && alone
     }
 
-    /// The strings packed anew, and everything in the tail moved.
-    fn rebuilt(
+    /// The strings packed anew, some with new values, and everything in the tail moved.
+    pub fn rebuilt(
         &self,
-        id: usize,
-        value: &[u8],
-        units: &[u16],
+        values: &BTreeMap<usize, &str>,
         packing: Packing,
         room: u64,
     ) -> Result<Vec<u8>, u32> {
-        let wide: Vec<u8> = units.iter().flat_map(|unit| unit.to_le_bytes()).collect();
-        let value = if value.is_ascii() {
-            Piece { wide: false, bytes: value, old: None }
-        } else {
-            Piece { wide: true, bytes: &wide, old: None }
+        let stored = |value: &str| match value.is_ascii() {
+            true => value.as_bytes().to_vec(),
+            false => value.encode_utf16().flat_map(u16::to_le_bytes).collect(),
         };
+        let news: BTreeMap<usize, Vec<u8>> =
+            values.iter().map(|(id, value)| (*id, stored(value))).collect();
         let mut pieces: Vec<Piece> = self.texts.iter().map(|text| self.piece(text)).collect();
-        pieces[id] = value;
+        for (id, bytes) in &news {
+            pieces[*id] = Piece { wide: !values[id].is_ascii(), bytes, old: None };
+        }
         let packed = packing.pack(&pieces);
         let tail = self.tail_behind(&packed);
         let rest = (self.image.len() - self.tail) as u64;
@@ -361,9 +367,9 @@ fn function(layout: Layout, image: &[u8], id: usize) -> Function {
 }
 
 /// "per UTF-16 unit, add it, add the sum shifted left 10, xor with itself shifted right 6"
-fn hash(units: &[u16]) -> u32 {
-    units.iter().fold(0u32, |hash, unit| {
-        let sum = hash.wrapping_add((*unit).into());
+fn hash(value: &str) -> u32 {
+    value.encode_utf16().fold(0u32, |hash, unit| {
+        let sum = hash.wrapping_add(unit.into());
         let sum = sum.wrapping_add(sum << 10);
         sum ^ sum >> 6
     })

@@ -1,7 +1,7 @@
 //! Patches at random, and the fixed calls.
 
 use super::judgement::judge;
-use super::{odd, small, texts, Kind, Patch};
+use super::{lists, odd, small, texts, Kind, Patch};
 use crate::image::damage::DAMAGES;
 use crate::image::layout::{set_word, Layout, LAYOUTS};
 use crate::image::maker::{make, put_function, Made, Shape, LARGE, MIDDLE, ODD, SMALL};
@@ -11,8 +11,8 @@ use crate::random::Random;
 use crate::stream::Call;
 
 /// The values that a string is patched to, in turn.
-#[derive(Clone, Copy)]
-enum Value {
+#[derive(Clone, Copy, PartialEq)]
+pub(super) enum Value {
     EqualAscii,
     OtherAscii,
     EqualAccented,
@@ -25,7 +25,7 @@ enum Value {
     Another,
 }
 
-const VALUES: [Value; 10] = [
+pub(super) const VALUES: [Value; 10] = [
     Value::EqualAscii,
     Value::OtherAscii,
     Value::EqualAccented,
@@ -39,7 +39,7 @@ const VALUES: [Value; 10] = [
 ];
 
 /// Each is refused for another row of the table of well-formed byte sequences.
-const NO_UTF8: [&[u8]; 10] = [
+pub(super) const NO_UTF8: [&[u8]; 10] = [
     b"\x80",
     b"a\xc3",
     b"\xc0\x80",
@@ -72,7 +72,7 @@ fn text(reading: &Reading, string: &Stored) -> String {
     String::from_utf16_lossy(&texts::units(reading, string))
 }
 
-fn value(random: &mut Random, reading: &Reading, own: &Stored, value: Value) -> Vec<u8> {
+pub(super) fn value(random: &mut Random, reading: &Reading, own: &Stored, value: Value) -> Vec<u8> {
     let size = (own.end - own.start) as usize;
     let text = match value {
         Value::EqualAscii => ascii(random, size),
@@ -107,7 +107,7 @@ fn value(random: &mut Random, reading: &Reading, own: &Stored, value: Value) -> 
 }
 
 /// The call of a patch, with as much room as it needs, or more, or at times one byte less.
-fn roomed(random: &mut Random, patch: Patch) -> Option<Call> {
+pub(super) fn roomed(random: &mut Random, patch: Patch) -> Option<Call> {
     let answer = judge(&Patch { room: usize::MAX, ..patch }).answer;
     let room = match answer {
         Ok(image) => match random.below(16) {
@@ -264,6 +264,10 @@ fn drawn(random: &mut Random, layout: Layout, shape: Shape) -> Option<Call> {
         return body_call(random, made, length);
     }
     let (layout, image) = prepared(random, made)?;
+    if random.one_in(3) {
+        let mode = mode(random);
+        return lists::drawn(random, mode, layout, &image);
+    }
     let kind = (string_kind(random), mode(random));
     let of = random.pick(&VALUES);
     string_call(random, kind, layout, &image, of)
@@ -284,7 +288,8 @@ pub fn random(random: &mut Random) -> Call {
     }
 }
 
-/// The departures' inputs, then each layout with each kind of value and each length of a body; then the even mode.
+/// The departures' inputs, then each layout with each kind of value and each length of a body; then the even mode; then the
+/// pass.
 pub fn fixed() -> Vec<Call> {
     let mut random = Random(32);
     let mut calls: Vec<Call> =
@@ -304,6 +309,7 @@ pub fn fixed() -> Vec<Call> {
     for layout in LAYOUTS {
         calls.extend(fixed_strings(&mut random, Mode::Even, layout, ODD, 1));
     }
+    calls.extend(lists::fixed());
     calls
 }
 

@@ -1,10 +1,10 @@
 //! The answer of a patch that document 01 asks for. Refusals are a second reading of the paper; the image
 //! of a patch that is accepted is the Rust's. Then the Rust's own answer is held to it: it is that answer,
 //! or one of the departures that the paper lists, recognised as exactly that. The even mode of document 02
-//! has a judge of its own.
+//! has a judge of its own, and so has its pass.
 
 use super::rust::{self, Rust};
-use super::{even, texts};
+use super::{even, pass, texts};
 use super::{Kind, Patch};
 use crate::image::layout::{word, FUNCTIONS};
 use crate::image::reading::{Function, Reading};
@@ -71,6 +71,9 @@ fn refused(number: u32, as_stated: bool, departure: Option<Departure>) -> Judgem
 }
 
 pub fn judge(patch: &Patch) -> Judgement {
+    if patch.kind == Kind::Pass {
+        return pass::judge(patch);
+    }
     if patch.mode == Mode::Even {
         return even::judge(patch);
     }

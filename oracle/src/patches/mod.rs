@@ -1,11 +1,14 @@
-//! Calls 32 to 34: the patches, by the Rust on a file that the judge parses, and by a second reading of
-//! document 01 for what is refused; those in the even mode, which the Rust has not, by one of document 02.
+//! Calls 32 to 34 and 36: the patches, by the Rust on a file that the judge parses, and by a second reading of
+//! document 01 for what is refused; those in the even mode and the pass over a list of edits, which the Rust has not, by
+//! one of document 02.
 
 pub mod draw;
 pub mod even;
 pub mod judgement;
+mod lists;
 pub mod odd;
 pub mod parsed;
+pub mod pass;
 mod rust;
 pub mod small;
 mod texts;
@@ -14,8 +17,9 @@ use crate::family::Argument::*;
 use crate::family::{Answered, Family, Function};
 use crate::image::layout::Layout;
 use crate::image::reading::Reading;
-use crate::job::packing::{Mode, Slip};
-use crate::stream::{Call, ARGUMENTS};
+use crate::job::packing::{self, Mode};
+use crate::job::pass as listed;
+use crate::stream::{words, Call, ARGUMENTS};
 use judgement::{judge, Departure};
 
 /// The longest inputs of a call, and the longest output.
@@ -36,6 +40,7 @@ pub enum Kind {
     ById,
     ByValue,
     Body,
+    Pass,
 }
 
 /// The modes of a kind of patch, each by its word.
@@ -47,15 +52,15 @@ fn modes(kind: Kind) -> &'static [Mode] {
 }
 
 macro_rules! function {
-    ($number:literal, $name:literal, $kind:ident $(, $mode:expr)?) => {
+    ($number:literal, $name:literal, $kind:ident, $id:literal, $old:literal, $new:literal $(, $mode:expr)?) => {
         Function {
             number: $number,
             name: $name,
             arguments: &[
                 Word("layout"),
-                Word("id"),
-                Word("length of the old value"),
-                Word("length of the new value or body"),
+                Word($id),
+                Word(concat!("length of the ", $old)),
+                Word(concat!("length of the ", $new)),
                 Word("length of the image"),
                 $($mode,)?
             ],
@@ -64,14 +69,18 @@ macro_rules! function {
     };
 }
 
-static FUNCTIONS: [Function; 3] = [
-    function!(32, "patch_string_by_id", ById, Flag("even")),
-    function!(33, "patch_string_replace", ByValue, Flag("even")),
-    function!(34, "patch_function_bytes", Body),
+static FUNCTIONS: [Function; 4] = [
+    function!(32, "patch_string_by_id", ById, "id", "old value", "new value", Flag("even")),
+    function!(33, "patch_string_replace", ByValue, "id", "old value", "new value", Flag("even")),
+    function!(34, "patch_function_bytes", Body, "id", "old value", "body"),
+    function!(36, "patch_strings", Pass, "number of ids", "lists", "text", Flag("even")),
 ];
 
+const KINDS: [Kind; 4] = [Kind::ById, Kind::ByValue, Kind::Body, Kind::Pass];
+
 /// A patch: what the buffer of a call holds before its output, and the output's length. By id and in a
-/// body patch there is no old value; a body patch is plain.
+/// body patch there is no old value; a body patch is plain. In a pass the id is the number of ids, the old value is the ids
+/// and the ends, a word each, and the new one is the text.
 #[derive(Clone, Copy)]
 pub struct Patch<'a> {
     pub kind: Kind,
@@ -97,6 +106,13 @@ impl Patch<'_> {
         Reading { layout: self.layout, image: self.image, slip: None }
     }
 
+    /// The list of a pass.
+    pub fn list(&self) -> listed::List<'_> {
+        let lists = words(self.old);
+        let (ids, ends) = lists.split_at(self.id as usize);
+        listed::List { ids: ids.to_vec(), text: self.new, ends: ends.to_vec() }
+    }
+
     /// The call, with bytes that fill its room. None where it is too long for a call.
     pub fn call(&self, out: Vec<u8>) -> Option<Call> {
         let inputs = [self.old, self.new, self.image].concat();
@@ -120,7 +136,8 @@ fn run(kind: Kind, a: &[u32; ARGUMENTS], buffer: &mut [u8]) -> Answered {
 }
 
 fn patch(call: &Call) -> Patch<'_> {
-    let kind = [Kind::ById, Kind::ByValue, Kind::Body][call.function.number as usize - 32];
+    let is_called = |function: &Function| function.number == call.function.number;
+    let kind = KINDS[FUNCTIONS.iter().position(is_called).unwrap()];
     Patch::of(kind, &call.arguments, &call.buffer)
 }
 
@@ -129,8 +146,30 @@ pub fn departure(call: &Call) -> Option<Departure> {
     judge(&patch(call)).departure
 }
 
+/// Mistakes that a program could make with the modes, or with a list.
+#[derive(Clone, Copy, Debug)]
+pub enum Slip {
+    Packing(packing::Slip),
+    Pass(listed::Slip),
+}
+
+pub fn slips() -> Vec<Slip> {
+    let with_modes = packing::slips().into_iter().map(Slip::Packing);
+    with_modes.chain(listed::slips().into_iter().map(Slip::Pass)).collect()
+}
+
 /// Whether the second reading with a slip answers a call otherwise.
 pub fn finds(call: &Call, slip: Slip) -> bool {
     let patch = patch(call);
-    patch.kind != Kind::Body && even::read(&patch, None) != even::read(&patch, Some(slip))
+    match (patch.kind, slip) {
+        (Kind::Body, _) => false,
+        (Kind::Pass, Slip::Packing(slip)) => {
+            pass::read(&patch, None, None) != pass::read(&patch, Some(slip), None)
+        }
+        (Kind::Pass, Slip::Pass(slip)) => {
+            pass::read(&patch, None, None) != pass::read(&patch, None, Some(slip))
+        }
+        (_, Slip::Packing(slip)) => even::read(&patch, None) != even::read(&patch, Some(slip)),
+        _ => false,
+    }
 }

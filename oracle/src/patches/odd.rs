@@ -17,7 +17,7 @@ pub const SHARED: usize = 28_000;
 
 /// An image of strings, one behind the other: n or w, in capitals an identifier, and the count. It has a small and a
 /// large record, info places and a debug offset.
-fn packed(layout: u8, strings: &str) -> Bare {
+pub(super) fn packed(layout: u8, strings: &str) -> Bare {
     let mut image = Bare { layout, tail: 28, debug: Some(8), ..Bare::default() };
     for word in strings.split(' ') {
         let (kind, count) = word.split_at(1);

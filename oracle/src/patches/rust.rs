@@ -63,7 +63,8 @@ pub fn rebuilt(reading: &Reading, id: u32, value: &str) -> Rust {
     run(file, |file| patch_string_by_id(file, &format(), id, value, &options))
 }
 
-fn finalized(image: Vec<u8>) -> Rust {
+/// The image with its file length and footer.
+pub fn finalized(image: Vec<u8>) -> Rust {
     Rust::Made(finalize_raw_image(image).unwrap())
 }
 

@@ -32,13 +32,15 @@ returns-2 c =
 
 string-from-requires : tie.Need-string-from-requires
 string-from-requires c κs =
-    let at-test = c .before .before in
-    (laid (at-test .before .before .before), at-test .if1 .left)
+    let at-test = c .before .before .before in
+    let here = laid (at-test .before .before .before) in
+    let e = c .first-string .ensures in
+    (here, (e .0 _ _ (here .placed), omega (arith, e .1), at-test .if1 .left))
 
 put-strings-requires : tie.Need-put-strings-requires
 put-strings-requires c κs =
     let at-from = c .before in
-    let at-least = at-from .before in
+    let at-least = at-from .before .before in
     let at-test = at-least .before .before in
     let at-answer = at-test .before .before .before in
     let a = at-answer .before .before .before .before .before .args in
@@ -46,9 +48,9 @@ put-strings-requires c κs =
     let n = least-told _ (length (a .out .now)) _ (at-least .least .ensures .0) in
     ((laid at-answer, e .0), (omega (arith, e .1, n .1, at-test .if1 .left), n .0))
 
-mul-t10 : tie.Need-mul-t10
-mul-t10 c =
-    let at-least = c .before .before .before .before .before in
+mul-t11 : tie.Need-mul-t11
+mul-t11 c =
+    let at-least = c .before .before .before .before .before .before in
     let at-answer = at-least .before .before .before .before .before in
     let start = at-answer .before .before .before .before .before in
     omega (arith, start .good, least-told _ (length (start .args .out .now)) _ (at-least .least .ensures .0) .0)
@@ -57,7 +59,7 @@ returns-3 : tie.Need-returns-3
 returns-3 c =
     let at-put = c .before .before in
     let at-from = at-put .before .before in
-    let at-least = at-from .before in
+    let at-least = at-from .before .before in
     let at-answer = at-least .before .before .before .before .before in
     let at-admit = at-answer .before .before in
     let a = at-admit .before .before .before .args in
@@ -69,4 +71,5 @@ pub string-facts-from-spec : {M : Type 1} → statement M
 string-facts-from-spec =
     tie.close
     (tie.spec (λ c κs. search needs) (λ c. search needs) (λ c. search needs) (λ c κs. search needs) returns returns-2
-    (λ c. search needs) (λ c κs. search needs) string-from-requires put-strings-requires mul-t10 (λ c. search needs) returns-3)
+    (λ c. search needs) (λ c κs. search needs) (λ c κs. search needs)
+    string-from-requires put-strings-requires mul-t11 (λ c. search needs) returns-3)

@@ -5,10 +5,10 @@ use Rattle.string_in_place.proofs.FinishLaws.{finish-is}
 
 returns : tie.Need-returns
 returns c =
-    let at-put-hash = c .before .before .before .before .before .before in
-    let start = at-put-hash .before .before .before .before in
+    let at-hashes = c .before .before .before .before .before .before in
+    let start = at-hashes .before .before .before .before .before .before .before in
     let a = start .args in
-    finish-is (a .slots) (a .rank) (a .value .now) (a .out .now) (start .pre) _ _ _ (at-put-hash .put-hash .ensures)
+    finish-is (a .p .layout) (a .image .now) _ (a .p) (a .out .now) (start .pre .1) _ _ _ (at-hashes .put-hashes .ensures)
     (c .before .before .finalize-raw-image .ensures)
 
 pub finish-spec : {M : Type 1} → statement M

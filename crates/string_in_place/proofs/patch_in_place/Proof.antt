@@ -8,24 +8,24 @@ use Rattle.string_in_place.proofs.InPlaceLaws.{in-short, in-room}
 
 returns : tie.Need-returns
 returns c =
-    let start = c .before .before .before .before in
+    let start = c .before .before .before .before .before .before in
     let a = start .args in
     let q = start .pre in
-    in-short (a .p) (a .image .now) (a .value .now) (a .id) (a .own) q (a .out .now) (c .if1 .taken)
+    in-short (a .p) (a .image .now) (a .ids .now) (a .text .now) (a .ends .now) (a .from) q (a .out .now) (c .if1 .taken)
 
 put-in-place-requires : tie.Need-put-in-place-requires
 put-in-place-requires c κs =
-    let start = c .before .before .before .before .before in
+    let start = c .before .before .before .before .before .before .before in
     let a = start .args in
     let q = start .pre in
     (q, part-length (a .out .now) _ (omega arith))
 
 returns-2 : tie.Need-returns-2
 returns-2 c =
-    let start = c .before .before .before .before .before .before .before .before in
+    let start = c .before .before .before .before .before .before .before .before .before .before in
     let a = start .args in
     let q = start .pre in
-    in-room (a .p) (a .image .now) (a .value .now) (a .id) (a .own) q (a .out .now) (omega arith) _ _
+    in-room (a .p) (a .image .now) (a .ids .now) (a .text .now) (a .ends .now) (a .from) q (a .out .now) (omega arith) _ _
     (c .before .before .put-in-place .ensures)
 
 pub patch-in-place-spec : {M : Type 1} → statement M

@@ -1,54 +1,36 @@
--- The image is copied, the value goes over the string's bytes, and the end is finalized: each step keeps the length.
+-- The image is copied, the values go over their strings' bytes, and the end is finalized: each step keeps the length.
 use borrow.Author.Needs.{needs}
 use Rattle.string_in_place.proofs.put_in_place.Statement.{statement}
 use Rattle.string_in_place.proofs.put_in_place.Tie as tie
-use native.Mathlib.Omega.{arith}
-use lib.ListN.{length}
-use Rattle.sections.proofs.SectionLaws.{sectioned}
-use Rattle.string_in_place.proofs.FinishLaws.{Slotted, finishable}
-use Rattle.string_in_place.proofs.InPlaceLaws.{value-in, in-place}
+use mathlib.Core.Path.{_∙_, subst⁻¹}
+use Rattle.string_in_place.specs.Known.{Finishable}
+use Rattle.string_in_place.proofs.InPlaceLaws.{finishable, in-place}
 
-put-bytes-requires-2 : tie.Need-put-bytes-requires-2
-put-bytes-requires-2 c κs =
-    let at-put-bytes = c .before .before .before in
-    let start = at-put-bytes .before .before .before .before .before in
-    let a = start .args in
-    let q = start .pre in
-    omega
-    (arith, value-in (a .p) (a .image .now) (a .value .now) (a .id) (a .own) (q .0), q .1, at-put-bytes .put-bytes .kept .0)
-
--- the buffer has the length of the image, which holds the slot of the string's rank
-slotted : (c : tie.After-put-bytes2) → let a = c .before .before .before .before .before .before .before .before .before .args in
-    Slotted (a .p) (a .image .now) (a .id) (a .own .rank) (length (c .put-bytes2 .last .0))
-slotted c =
-    let at-put-bytes = c .before .before .before .before in
-    let start = at-put-bytes .before .before .before .before .before in
-    let a = start .args in
-    let q = start .pre in
-    let z = sectioned (a .p) (a .image .now) (q .0 .laid .placed) in
-    record {
-      laid = q .0 .laid;
-      known = q .0 .known;
-      ranked = q .0 .stands .rank;
-      holds = omega (arith, q .1, at-put-bytes .put-bytes .kept .0, c .put-bytes2 .kept .0);
-      limit = omega (arith, q .1, at-put-bytes .put-bytes .kept .0, c .put-bytes2 .kept .0);
-    }
+put-values-requires : tie.Need-put-values-requires
+put-values-requires c κs =
+    let at-bytes = c .before .before .before in
+    let q = at-bytes .before .before .before .before .before .before .before .pre in
+    (q .0, at-bytes .put-bytes .kept .0 ∙ q .1)
 
 finish-requires : tie.Need-finish-requires
-finish-requires c κs = finishable _ _ _ _ _ (slotted (c .before .before .before))
+finish-requires c κs =
+    let at-values = c .before .before .before in
+    let at-bytes = at-values .before .before .before .before in
+    let q = at-bytes .before .before .before .before .before .before .before .pre in (
+      q .0 .given,
+      subst⁻¹ (Finishable _) (at-values .put-values .kept .0 ∙ at-bytes .put-bytes .kept .0 ∙ q .1) (finishable _ _ _ _ _ _ (q .0)),
+    )
 
 returns : tie.Need-returns
 returns c =
-    let at-put-bytes2 = c .before .before .before .before .before .before in
-    let at-put-bytes = at-put-bytes2 .before .before .before .before in
-    let start = at-put-bytes .before .before .before .before .before in
+    let at-values = c .before .before .before .before .before .before in
+    let at-bytes = at-values .before .before .before .before in
+    let start = at-bytes .before .before .before .before .before .before .before in
     let a = start .args in
     let q = start .pre in
-    in-place (a .p) (a .image .now) (a .value .now) (a .id) (a .own) (q .0) (a .out .now) _ _ _ _
-    (record { long = q .1; copied = at-put-bytes .put-bytes .ensures; put = at-put-bytes2 .put-bytes2 .ensures })
-    (slotted at-put-bytes2) (c .before .before .finish .ensures)
+    in-place (a .p) (a .image .now) (a .ids .now) (a .text .now) (a .ends .now) (a .from) (q .0) (a .out .now) _ _ _ _ (q .1)
+    (at-bytes .put-bytes .ensures) (at-values .put-values .ensures) (c .before .before .finish .ensures)
 
 pub put-in-place-spec : {M : Type 1} → statement M
 put-in-place-spec =
-    tie.close
-    (tie.spec (λ c κs. search needs) put-bytes-requires-2 finish-requires (λ c. search needs) returns)
+    tie.close (tie.spec (λ c κs. search needs) put-values-requires finish-requires (λ c. search needs) returns)

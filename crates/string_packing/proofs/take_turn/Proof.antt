@@ -22,12 +22,12 @@ found c =
 new-place-requires : tie.Need-new-place-requires
 new-place-requires c κs =
     let q = c .before .before .before .before .before .pre in
-    omega (arith, strings-few _ _ _ _ _ _ q, q .known, q .reached .low)
+    omega (arith, strings-few _ _ _ _ q, q .known, q .going .low)
 
 add-over : tie.Need-add-over
 add-over c =
     let q = c .before .before .before .before .before .before .before .before .before .before .pre in
-    omega (arith, strings-few _ _ _ _ _ _ q, q .known, q .reached .few)
+    omega (arith, strings-few _ _ _ _ q, q .known, q .going .few)
 
 size-of-requires : tie.Need-size-of-requires
 size-of-requires c κs = omega (arith, count-small _ _ _ _ _ _ _ _ (found (c .before .before .before .before)))
@@ -36,7 +36,7 @@ add-at : tie.Need-add-at
 add-at c =
     let f = found (c .before .before .before .before .before .before) in
     let q = f .turn in
-    omega (arith, strings-few _ _ _ _ _ _ q, q .known, q .reached .low, f .near, count-small _ _ _ _ _ _ _ _ f)
+    omega (arith, strings-few _ _ _ _ q, q .known, q .going .low, f .near, count-small _ _ _ _ _ _ _ _ f)
 
 returns : tie.Need-returns
 returns c =

@@ -6,21 +6,20 @@ use Rattle.string_packing_write.proofs.PutLaws.{roomy, region-put}
 
 put-strings-requires : tie.Need-put-strings-requires
 put-strings-requires c κs =
-    let start = c .before .before .before .before .before in
+    let start = c .before .before .before .before .before .before .before in
     let q = start .pre in
-    let room = roomy _ _ _ _ _ _ _ _ q _ (c .before .entry-at .ensures) in
-    record { laid = q .laid; small = q .small; shaped = q .shaped; roomy = room }
+    record { laid = q .laid; listed = q .listed; roomy = roomy _ _ _ _ _ _ _ _ q _ (c .before .entry-at .ensures) }
 
 returns : tie.Need-returns
 returns c =
     let at-up4 = c .before .before .before in
     let at-put-strings = at-up4 .before .before .before .before .before in
     let at-entry-at = at-put-strings .before .before in
-    let start = at-entry-at .before .before .before .before in
+    let start = at-entry-at .before .before .before .before .before .before in
     let a = start .args in
     let q = start .pre in
-    region-put (a .mode) (a .p) (a .image .now) (a .value .now) (a .id) (a .new) (a .sizes) _ q _ (at-entry-at .entry-at .ensures) _
-    (a .out .now) _ _
+    region-put (a .mode) (a .p) (a .image .now) (a .ids .now) (a .text .now) (a .ends .now) (a .sizes) _ q _
+    (at-entry-at .entry-at .ensures) _ (a .out .now) _ _
     (record {
       strings = at-put-strings .put-strings .ensures;
       four = at-up4 .up4 .ensures;

@@ -6,12 +6,12 @@ use mathlib.Core.Path.{_∙_}
 use native.Mathlib.Omega.{arith}
 use lib.ListN.{length}
 use Rattle.string_packing_write.proofs.PutLaws.{Due, old-few, old-in, new-at, entry-fits, place-low, gap-room, bytes-room}
-use Rattle.string_packing_write.proofs.PutLaws.{string-put}
+use Rattle.string_packing_write.proofs.PutLaws.{behind, string-put}
 
 -- what is known of the string behind its turn
 due : (c : tie.After-take-turn) → let a = c .before .before .before .before .args in
     Due (a .mode) (a .p) (a .image .now) (a .value .now) (a .id) (a .new) (a .c) (a .to) (length (a .out .now))
-due c = let q = c .before .before .before .before .pre in record { turn = q .0 .0; shaped = q .0 .1; roomy = q .1 }
+due c = let q = c .before .before .before .before .pre in record { turn = q .0 .0; shaped = q .0 .1; fits = q .1 }
 
 -- ---- the needs
 
@@ -75,7 +75,7 @@ returns c =
     let at-turn = at-size .before .before in
     let a = at-turn .before .before .before .before .args in
     let t = at-turn .take-turn .ensures in (
-      (t .string, t .reached),
+      behind _ _ _ _ _ _ _ _ _ (due at-turn) _ t,
       string-put _ _ _ _ _ _ _ _ _ (due at-turn) _ t _ (a .out .now) _ _ _
           (record {
             size = at-size .size-of .ensures .0;

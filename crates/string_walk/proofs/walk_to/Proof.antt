@@ -4,7 +4,6 @@ use Rattle.string_walk.proofs.walk_to.Tie as tie
 use Prim.Native.Nat.{_≤_, _-_}
 use native.Mathlib.Omega.{arith}
 use Rattle.string_walk.specs.Walk.{Walked}
-use Rattle.string_walk.proofs.VisitLaws.{walked-none}
 
 abbrev Inv-loop : tie.InvT-loop
 Inv-loop image p id counts₀ counts = (counts .small ≤ id) × Walked (p .layout) image counts
@@ -13,7 +12,7 @@ abbrev μ-loop : tie.MeasureT-loop
 μ-loop image p id counts₀ counts = id - counts .small
 
 loop-holds : tie.Need-loop-holds Inv-loop μ-loop
-loop-holds c = let a = c .before .args in (omega arith, walked-none (a .p .layout) (a .image .now))
+loop-holds c = let q = c .before .pre in (q .1 .1, q .1 .0)
 
 visit-requires : tie.Need-visit-requires Inv-loop μ-loop
 visit-requires c κs =

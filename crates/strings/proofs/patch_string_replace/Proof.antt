@@ -2,7 +2,9 @@
 use borrow.Author.Needs.{needs}
 use Rattle.strings.proofs.patch_string_replace.Statement.{statement}
 use Rattle.strings.proofs.patch_string_replace.Tie as tie
+use mathlib.Core.Path.{sym, _∙_}
 use Prim.Native.Nat.{ℕ, _<_}
+use borrow.Author.Tests.{not-false}
 use lib.ListN.{getD}
 use Rattle.admission.proofs.AnswerLaws.{is-laid}
 use Rattle.string_walk.proofs.WalkLaws.{located-self}
@@ -68,8 +70,8 @@ returns-4 : tie.Need-returns-4
 returns-4 c =
     value-absent _ _ _ _ _ _ _ _ _ _ _ (sought (c .before .before .before)) _ (c .before .enum-told2 .given .1) _ (c .number-of2 .ensures)
 
-patch-known-requires : tie.Need-patch-known-requires
-patch-known-requires c κs =
+patch-one-requires : tie.Need-patch-one-requires
+patch-one-requires c κs =
     let at-location = c .before .before in
     let at-find = at-location .before .before in
     let at-admitted = at-find .before .before .before .before .before .before in
@@ -77,7 +79,11 @@ patch-known-requires c κs =
     let at-bytes = at-admit .before .before .before .before in
     let b : (i : ℕ) → getD (at-bytes .before .args .image .now) i 0 < 256 = λ i. at-bytes .shared-slice-known .given i .fits in
     let found = located-self _ _ _ _ _ (at-find .find .ensures) _ _ _ (at-location .location .given .1) in
-    ((is-laid _ _ _ (at-admit .admit .ensures) _ (at-admitted .admitted .given .1) b, found .0), found .1)
+    let at-new = at-find .before .before in (
+      is-laid _ _ _ (at-admit .admit .ensures) _ (at-admitted .admitted .given .1) b,
+      found .0,
+      sym (at-new .is-utf82 .ensures) ∙ not-false _ (at-find .before .if2 .left),
+    )
 
 returns-5 : tie.Need-returns-5
 returns-5 c =
@@ -86,7 +92,7 @@ returns-5 c =
     let at-admit = at-find .before .before .before .before .before .before .before .before in
     let a = at-admit .before .before .before .before .before .args in
     value-known _ _ _ _ _ _ _ (a .out .now) _ _ _ (sought at-find) _ _ _ (at-location .location .given .1) _ _
-    (c .before .before .patch-known .ensures)
+    (c .before .before .patch-one .ensures)
 
 pub patch-string-replace-spec : {M : Type 1} → statement M
 patch-string-replace-spec =
@@ -94,5 +100,5 @@ patch-string-replace-spec =
     (tie.spec (λ c κs. search needs) (λ c. search needs) (λ c. search needs) (λ c κs. search needs) returns (λ c κs. search needs)
     returns-2
     (λ c κs. search needs) returns-3 find-requires (λ c. search needs) (λ c. search needs) (λ c κs. search needs) returns-4
-    patch-known-requires
+    patch-one-requires
     (λ c. search needs) returns-5)

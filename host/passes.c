@@ -1,0 +1,86 @@
+#include "passes.h"
+
+#include "../hbc.h"
+#include "refusals.h"
+
+#include <stdlib.h>
+#include <string.h>
+
+size_t pass_length(const struct edit *edits, size_t count) {
+    size_t text = edits[0].value.length, length = 1;
+    if (edits[0].kind == BODY) return 1;
+    for (; length < count; length++) {
+        const struct edit *next = &edits[length];
+        text += next->value.length;
+        if (next->kind == BODY || text > VALUE_MOST || is_among(edits, length, next)) break;
+    }
+    return length;
+}
+
+// ---- edits as hbc.h takes them
+
+// The ids, the values as one text, and where each ends in it.
+struct lists {
+    uint32_t *ids, *ends;
+    struct bytes text;
+};
+
+static uint32_t *words_for(size_t count) { return (uint32_t *)(void *)room_for(count * sizeof(uint32_t)); }
+
+static struct lists lists_of(const struct edit *edits, size_t count) {
+    struct lists lists = {words_for(count), words_for(count), {NULL, 0}};
+    for (size_t i = 0; i < count; i++) {
+        lists.text.length += edits[i].value.length;
+        lists.ids[i] = edits[i].id;
+        // no text of a pass is longer than VALUE_MOST
+        lists.ends[i] = (uint32_t)lists.text.length;
+    }
+    lists.text.at = room_for(lists.text.length);
+    for (size_t i = 0; i < count; i++)
+        memcpy(lists.text.at + lists.ends[i] - edits[i].value.length, edits[i].value.at, edits[i].value.length);
+    return lists;
+}
+
+static void free_lists(struct lists lists) {
+    free(lists.ids);
+    free(lists.ends);
+    free(lists.text.at);
+}
+
+// Makes the first edits of the lists.
+static uint64_t apply_lists(struct bytes image, uint8_t layout, uint8_t mode, const struct lists *lists, size_t count, uint8_t *out,
+                            size_t room) {
+    return nepuladrim_patch_strings(image.at, image.length, layout, mode, lists->ids, count, lists->text.at, lists->text.length,
+                                    lists->ends, count, out, room);
+}
+
+uint64_t apply_pass(struct bytes image, uint8_t layout, uint8_t mode, const struct edit *edits, size_t count, uint8_t *out) {
+    struct lists lists = lists_of(edits, count);
+    uint64_t answer = apply_lists(image, layout, mode, &lists, count, out, IMAGE_MOST);
+    free_lists(lists);
+    return answer;
+}
+
+// ---- a pass that is refused
+
+// The number with which one of the first edits is refused by itself, or 0: in each mode the same. There is no room, so that nothing is
+// made.
+static unsigned number_in(struct bytes image, uint8_t layout, const struct lists *lists, size_t count) {
+    uint8_t nothing[1];
+    unsigned number = refusal_of(apply_lists(image, layout, NEPULADRIM_PLAIN, lists, count, nothing, 0));
+    return number == NO_SUCH_ID || number == NO_TEXT ? number : 0;
+}
+
+struct fault fault_of(struct bytes image, uint8_t layout, const struct edit *edits, size_t count) {
+    struct lists lists = lists_of(edits, count);
+    struct fault fault = {count - 1, number_in(image, layout, &lists, count)};
+    // the edits before `good` are taken, and one of those up to `fault.edit` is not
+    for (size_t good = 0; fault.number && good < fault.edit;) {
+        size_t middle = good + (fault.edit - good) / 2;
+        unsigned number = number_in(image, layout, &lists, middle + 1);
+        if (number) fault = (struct fault){middle, number};
+        else good = middle + 1;
+    }
+    free_lists(lists);
+    return fault;
+}
