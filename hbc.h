@@ -9,6 +9,9 @@
 // a wide string, an empty one too, starts at an even offset of storage, so at an even place, behind one zero byte where that is needed.
 // A patch that fits in place moves no string, and is the same in both.
 //
+// String patches of different strings, in one mode, may be made in any order, one behind the other: where every call is accepted, the last
+// image is the same, byte for byte. What a patch by value finds must not hang on the order, and no other patch may set that string.
+//
 // A function that writes answers the length of what it made, which is at the front of `out`, all later bytes as they were; or it
 // answers NEPULADRIM_REFUSED and the number of the refusal, as documents 01 and 02 have it, and no byte is changed.
 #ifndef NEPULADRIM_HBC_H

@@ -6,6 +6,7 @@
 
 typedef struct _IO_FILE FILE;
 
+extern FILE *stdin;
 extern FILE *stdout;
 extern FILE *stderr;
 

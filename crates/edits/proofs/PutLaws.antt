@@ -72,7 +72,8 @@ module _ (m : Mode) (f g : ℕ → Str) (id : ℕ) (re : Restated f g id) where
   store-size zero = rw (store-none m f, store-none m g)
   store-size (suc n) = omega (arith, size-next m g n, size-next m f n, start-of n (store-size n), size-at n)
 
-  place-like : (i : ℕ) → placed m g i ≡ placed m f i
+  -- each stands where it stood
+  pub place-like : (i : ℕ) → placed m g i ≡ placed m f i
   place-like i =
       let c : countOf (g i) ≡ countOf (f i) = rw (size-at i, wide-at i) in
       λ x. record { wide = wide-at i x; at = start-of i (store-size i) x; count = c x }

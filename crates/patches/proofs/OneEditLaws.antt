@@ -20,7 +20,7 @@ use Rattle.string_edits.specs.Values.{Edit, valuesOf}
 use Rattle.strings.specs.Patch.{byIdRefusal, patchById}
 use Rattle.strings.specs.Pass.{passRefusal, patchInPass}
 
-pub both-true : (b : Bool) → both b true ≡ b
+both-true : (b : Bool) → both b true ≡ b
 both-true true = refl
 both-true false = refl
 

@@ -1,13 +1,12 @@
 -- The order of a list of edits does not matter to a pass: what it makes hangs on what each string gets, and each of its numbers is
--- judged over the whole list. 02, No. 4.
+-- judged over the whole list. 02, No. 4. What strings get by many, in another order, is the same: 02, No. 12.
 use mathlib.Core.Path.{_≡_, refl, ap, sym, _∙_, fun-ext}
 use mathlib.Core.Bool.{Bool, true, false, not}
 use mathlib.Core.Logic.{inl, inr}
-use mathlib.Core.Option.{none, some}
+use mathlib.Core.Option.{some}
 use mathlib.Core.List.{List, _∷_, _++_}
 use Prim.Native.Nat.{ℕ, zero, suc, _<_}
 use native.Mathlib.Omega.{arith}
-use borrow.Author.Tests.{eqb-true}
 use lib.Dec.{ltb, eqb}
 use Rattle.refusals.specs.Numbers as refusals
 use Rattle.bits.specs.Choice.{pick, allBelow, check, judge}
@@ -19,12 +18,13 @@ use Rattle.image.specs.Sections.{stringsIn}
 use Rattle.image.specs.Admission.{refusal, checks}
 use Rattle.admission.proofs.AnswerLaws.{judged-then}
 use Rattle.unicode.specs.Utf8.{isUtf8}
-use Rattle.string_edits.specs.Values.{Values, Edit, valuesOf}
+use Rattle.string_edits.specs.Values.{Values, only, Edit, valuesOf}
 use Rattle.string_edits.specs.Lists.{allKnown, allDiffer, allUtf8}
-use Rattle.string_edits.proofs.TurnLaws.{some-or-none}
+use Rattle.string_edits.proofs.TurnLaws.{some-or-none, none-some, only-own, only-id}
 use Rattle.string_in_place.specs.Patch.{resultChecks, patchedStrings}
 use Rattle.strings.specs.Pass.{passRefusal, patchInPass}
 use Rattle.string_edits.proofs.ListLaws.{differ, values-at}
+use Rattle.patches.specs.Orders.{Reordered}
 use Rattle.patches.proofs.RefusalLaws.{differ-decide}
 use Rattle.patches.proofs.StepLaws.{made-of}
 
@@ -42,18 +42,8 @@ same-values m l s e f j k t u h p q =
 
 -- ---- the same k edits in another order
 
--- edit j of f is edit `to j` of e, and edit j of e is edit `back j` of f
-pub record Reordered (e f : ℕ → Edit) (k : ℕ) : Type 0 where
-  pub to : ℕ → ℕ
-  pub back : ℕ → ℕ
-  pub to-in : (j : ℕ) → j < k → to j < k
-  pub back-in : (j : ℕ) → j < k → back j < k
-  pub to-back : (j : ℕ) → j < k → to (back j) ≡ j
-  pub back-to : (j : ℕ) → j < k → back (to j) ≡ j
-  pub same : (j : ℕ) → j < k → f j ≡ e (to j)
-
 -- the other way round
-reordered-back : (e f : ℕ → Edit) (k : ℕ) → Reordered e f k → Reordered f e k
+reordered-back : {A : Type 0} (e f : ℕ → A) (k : ℕ) → Reordered e f k → Reordered f e k
 reordered-back e f k r = record {
   to = r .back;
   back = r .to;
@@ -62,6 +52,19 @@ reordered-back e f k r = record {
   to-back = r .back-to;
   back-to = r .to-back;
   same = λ j h. ap e (sym (r .to-back j h)) ∙ sym (r .same (r .back j) (r .back-in j h));
+}
+
+-- what is made of each is reordered with them
+pub reordered-by : {A : Type 0} {B : Type 0} (make : A → B) (e f : ℕ → A) (d g : ℕ → B) (k : ℕ) → Reordered e f k
+    → ((j : ℕ) → j < k → d j ≡ make (e j)) → ((j : ℕ) → j < k → g j ≡ make (f j)) → Reordered d g k
+reordered-by make e f d g k r x y = record {
+  to = r .to;
+  back = r .back;
+  to-in = r .to-in;
+  back-in = r .back-in;
+  to-back = r .to-back;
+  back-to = r .back-to;
+  same = λ j h. y j h ∙ ap make (r .same j h) ∙ sym (x (r .to j) (r .to-in j h));
 }
 
 -- tests that say the same where they hold
@@ -91,48 +94,61 @@ differ-over e f k r t =
     let z : i ≡ j = sym (r .back-to i i₁) ∙ ap (r .back) n ∙ r .back-to j h in
     omega arith)
 
--- ---- if ids differ, each string gets the same by both
+-- ---- what strings get by many, in another order
 
-module _ (e : ℕ → Edit) (k : ℕ) (t : allDiffer (λ j. e j .id) k ≡ true) where
-  -- by the edit that names it
-  value-of : (j : ℕ) → j < k → valuesOf e k (e j .id) ≡ some (e j .value)
-  value-of j h =
-      values-at e (e j .id) k j h refl (λ n g l q. omega (arith, differ (λ a. e a .id) k t n j g h q))
+-- f is what strings get by the first k of v: each of its values is one of theirs, and each of theirs is there
+pub record Collects (f : Values) (v : ℕ → Values) (k : ℕ) : Type 0 where
+  pub from : (i : ℕ) (x : List ℕ) → f i ≡ some x → (j : ℕ) × (j < k) × (v j i ≡ some x)
+  pub at : (i j : ℕ) (x : List ℕ) → j < k → v j i ≡ some x → f i ≡ some x
 
--- a string that gets a value gets that of an edit which names it
+collected-over : (f g : Values) (v w : ℕ → Values) (k : ℕ) → Collects f v k → Collects g w k → Reordered v w k
+    → (i : ℕ) (x : List ℕ) → f i ≡ some x → g i ≡ some x
+collected-over f g v w k a b r i x q =
+    let (j, h, p) = a .from i x q in
+    let n : r .back j < k = r .back-in j h in
+    b .at i (r .back j) x n (ap (λ (u : Values). u i) (r .same (r .back j) n ∙ ap v (r .to-back j h)) ∙ p)
+
+pub collected-same : (f g : Values) (v w : ℕ → Values) (k : ℕ) → Collects f v k → Collects g w k → Reordered v w k → f ≡ g
+collected-same f g v w k a b r = fun-ext (λ i. elim (some-or-none (f i)) [
+  | inr (x, q) ↦ q ∙ sym (collected-over f g v w k a b r i x q)
+  | inl q ↦ elim (some-or-none (g i)) [
+    | inl p ↦ q ∙ sym p
+    | inr (x, p) ↦ absurd (none-some x (sym q ∙ collected-over g f w v k b a (reordered-back v w k r) i x p))
+  ]
+])
+
+-- ---- by edits, if their ids differ
+
+-- what strings get by one
+abbrev pub oneOf : Edit → Values
+oneOf a = only (a .id) (a .value)
+
 value-from : (e : ℕ → Edit) (k i : ℕ) (x : List ℕ) → valuesOf e k i ≡ some x
-    → (j : ℕ) × (j < k) × ((e j .id ≡ i) × (e j .value ≡ x))
+    → (j : ℕ) × (j < k) × (oneOf (e j) i ≡ some x)
 unfolding valuesOf
-value-from e zero i x q = absurd (let z : _≡_ {A = ℕ} 0 1 = cc in omega arith)
+value-from e zero i x q = absurd (none-some x q)
 value-from e (suc k) i x q = go (eqb i (e k .id)) refl q (value-from e k i x)
   where
     go : (b : Bool) → eqb i (e k .id) ≡ b → pick b (some (e k .value)) (valuesOf e k i) ≡ some x
-        → (valuesOf e k i ≡ some x → (j : ℕ) × (j < k) × ((e j .id ≡ i) × (e j .value ≡ x)))
-        → (j : ℕ) × (j < suc k) × ((e j .id ≡ i) × (e j .value ≡ x))
-    go true t p rest = (k, omega arith, (sym (eqb-true i (e k .id) t), cc))
+        → (valuesOf e k i ≡ some x → (j : ℕ) × (j < k) × (oneOf (e j) i ≡ some x))
+        → (j : ℕ) × (j < suc k) × (oneOf (e j) i ≡ some x)
+    go true t p rest = (k, omega arith, rw t p)
     go false t p rest = let (j, h, y) = rest p in (j, omega arith, y)
 
-values-over : (e f : ℕ → Edit) (k : ℕ) → Reordered f e k → allDiffer (λ j. f j .id) k ≡ true → (i : ℕ) (x : List ℕ)
-    → valuesOf e k i ≡ some x → valuesOf f k i ≡ some x
-values-over e f k r t i x q =
-    let (j, h, (n, y)) = value-from e k i x q in
-    let z : f (r .to j) ≡ e j = sym (r .same j h) in
-    ap (valuesOf f k) (sym n ∙ ap (λ (a : Edit). a .id) (sym z))
-    ∙ value-of f k t (r .to j) (r .to-in j h)
-    ∙ ap (λ (a : Edit). some (a .value)) z ∙ ap some y
+edits-collected : (e : ℕ → Edit) (k : ℕ) → allDiffer (λ j. e j .id) k ≡ true → Collects (valuesOf e k) (λ j. oneOf (e j)) k
+edits-collected e k t = record {
+  from = value-from e k;
+  at = λ i j x h p.
+      let q : i ≡ e j .id = only-id (e j .id) (e j .value) i x p in
+      values-at e i k j h (sym q) (λ n g l z. omega (arith, differ (λ a. e a .id) k t n j g h (z ∙ q)))
+      ∙ sym (only-own (e j .id) (e j .value)) ∙ rw q at p;
+}
 
-values-same : (e f : ℕ → Edit) (k : ℕ) → Reordered e f k → allDiffer (λ j. e j .id) k ≡ true → (i : ℕ)
-    → valuesOf e k i ≡ valuesOf f k i
-values-same e f k r t i = elim (some-or-none (valuesOf e k i)) [
-  | inr (x, q) ↦ q ∙ sym (values-over e f k (reordered-back e f k r) (differ-over e f k r t) i x q)
-  | inl q ↦ elim (some-or-none (valuesOf f k i)) [
-    | inl p ↦ q ∙ sym p
-    | inr (x, p) ↦ absurd
-        (let z : none ≡ some x = sym q ∙ values-over f e k r t i x p in
-        let y : _≡_ {A = ℕ} 0 1 = cc in
-        omega arith)
-  ]
-]
+values-same : (e f : ℕ → Edit) (k : ℕ) → Reordered e f k → allDiffer (λ j. e j .id) k ≡ true → valuesOf e k ≡ valuesOf f k
+values-same e f k r t =
+    collected-same (valuesOf e k) (valuesOf f k) (λ j. oneOf (e j)) (λ j. oneOf (f j)) k
+    (edits-collected e k t) (edits-collected f k (differ-over e f k r t))
+    (reordered-by oneOf e f (λ j. oneOf (e j)) (λ j. oneOf (f j)) k r (λ j h. refl) (λ j h. refl))
 
 -- ---- the pass
 
@@ -181,7 +197,7 @@ module _ (m : Mode) (l : Layout) (s : List ℕ) where
       = same-test _ _ (all-over e f k r valid) (all-over f e k q valid) in
       pass-of e k
       ∙ elim (which (allDiffer (λ j. e j .id) k)) [
-        | inl t ↦ rw (a, b, c, fun-ext (values-same e f k r t))
+        | inl t ↦ rw (a, b, c, values-same e f k r t)
         | inr t ↦ rw (a, sym b ∙ t, t)
             (pass-twice (allKnown (λ j. f j .id) k (stringsIn s)) (allUtf8 (λ j. e j .value) k) (allUtf8 (λ j. f j .value) k)
             (valuesOf e k) (valuesOf f k))

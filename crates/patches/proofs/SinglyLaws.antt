@@ -1,14 +1,16 @@
 -- Many strings in one pass: where the same patches, made singly, are all accepted, the pass makes what they make. 02, No. 4.
-use mathlib.Core.Path.{_≡_, refl, ap, sym, _∙_}
+use mathlib.Core.Path.{_≡_, refl, ap, sym, _∙_, subst, fun-ext}
 use mathlib.Core.Bool.{true}
-use mathlib.Core.Option.{some}
+use mathlib.Core.Logic.{inl, inr}
+use mathlib.Core.Option.{none, some}
 use mathlib.Core.List.{List}
 use Prim.Native.Nat.{ℕ, zero, suc, _<_}
 use native.Mathlib.Omega.{arith}
-use borrow.Author.Tests.{eq-eqb, ne-eqb, leb-false, le-ltb, lt-ltb, not-false}
+use borrow.Author.Tests.{leb-false, le-ltb, lt-ltb, not-false}
+use lib.Dec.{eqb}
 use Rattle.bits.specs.Choice.{allBelow, judge}
 use Rattle.bits.specs.Outcome.{Outcome, refused, made}
-use Rattle.bits.proofs.TestLaws.{both-1}
+use Rattle.bits.proofs.TestLaws.{which, both-1}
 use Rattle.bits.proofs.JudgeLaws.{judge-pass}
 use Rattle.format.specs.declared.Layout.{Layout}
 use Rattle.format.specs.declared.Mode.{Mode}
@@ -20,9 +22,9 @@ use Rattle.edits.proofs.FrameLaws.{Restrung}
 use Rattle.edits.proofs.ReadLaws.{stringCount-same}
 use Rattle.admission.proofs.AnswerLaws.{judged-then, judged-none}
 use Rattle.unicode.specs.Utf8.{isUtf8}
-use Rattle.string_edits.specs.Values.{Values, only, Edit, valuesOf}
+use Rattle.string_edits.specs.Values.{Values, only, joined, Apart, Edit, valuesOf}
 use Rattle.string_edits.specs.Lists.{allKnown, isNew, allDiffer, allUtf8}
-use Rattle.string_edits.proofs.TurnLaws.{OneMore}
+use Rattle.string_edits.proofs.TurnLaws.{none-some, only-id}
 use Rattle.string_in_place.specs.Patch.{patchedStrings, newLength}
 use Rattle.strings.specs.Patch.{byIdRefusal, patchById}
 use Rattle.strings.specs.Pass.{passRefusal, patchInPass, onward, singly}
@@ -33,18 +35,22 @@ use Rattle.patches.proofs.StringLaws.{StringsPassed}
 use Rattle.patches.proofs.StepLaws.{made-of, id-passed, pass-passed}
 use Rattle.patches.proofs.OneEditLaws.{list-of-one}
 use Rattle.patches.proofs.AfterLaws.{patched-restrung}
-use Rattle.patches.proofs.ThenLaws.{PassThen, more-passed, pass-then}
+use Rattle.patches.proofs.ThenLaws.{PatchThen, joined-passed, patch-then}
 
 -- ---- what strings get by one edit more
 
-values-more : (e : ℕ → Edit) (k : ℕ) → allDiffer (λ j. e j .id) (suc k) ≡ true
-    → OneMore (valuesOf e k) (valuesOf e (suc k)) (e k .id) (e k .value)
-unfolding valuesOf
-values-more e k d = record {
-  free = values-none e (e k .id) k (λ j h q. omega (arith, differ (λ i. e i .id) (suc k) d j k (omega arith) (omega arith) q));
-  own = rw (eq-eqb (e k .id) (e k .id) refl);
-  other = λ i h. rw (ne-eqb i (e k .id) h);
-}
+module _ (e : ℕ → Edit) (k : ℕ) where
+  values-more : joined (valuesOf e k) (only (e k .id) (e k .value)) ≡ valuesOf e (suc k)
+  unfolding valuesOf
+  values-more = fun-ext (λ i. elim (which (eqb i (e k .id))) [ inl t ↦ rw t | inr t ↦ rw t ])
+
+  -- no edit before it is of its string
+  values-apart : allDiffer (λ j. e j .id) (suc k) ≡ true → Apart (valuesOf e k) (only (e k .id) (e k .value))
+  values-apart t i x y p q =
+      let h : i ≡ e k .id = only-id (e k .id) (e k .value) i y q in
+      let n : valuesOf e k i ≡ none
+      = values-none e i k (λ j g z. omega (arith, differ (λ a. e a .id) (suc k) t j k (omega arith) (omega arith) (z ∙ h))) in
+      none-some x (sym n ∙ p)
 
 -- ---- when a pass is accepted
 
@@ -112,8 +118,8 @@ module _ (m : Mode) (l : Layout) (s : List ℕ) (e : ℕ → Edit) (k : ℕ) (u 
   abbrev v : Values
   v = valuesOf e k
 
-  abbrev w : Values
-  w = valuesOf e (suc k)
+  abbrev d : Values
+  d = only (e k .id) (e k .value)
 
   abbrev x : List ℕ
   x = patchedStrings m l s v
@@ -130,15 +136,11 @@ module _ (m : Mode) (l : Layout) (s : List ℕ) (e : ℕ → Edit) (k : ℕ) (u 
   checked : (e k .id < stringsIn s) × (isUtf8 (e k .value) ≡ true)
   checked = rw (stringCount-same l s x (frame .counts)) at (id-checked m l x (e k .id) (e k .value) t next-x)
 
-  next-passed : StringsPassed m l x (only (e k .id) (e k .value)) × (patchedStrings m l x (only (e k .id) (e k .value)) ≡ t)
+  next-passed : StringsPassed m l x d × (patchedStrings m l x d ≡ t)
   next-passed = id-passed l x (frame .admitted) m (e k .id) (e k .value) t (fu .bytes k (omega arith)) next-x
 
-  then : PassThen m l s v w (e k .id) (e k .value)
-  then = record {
-    first = passed .0;
-    next = next-passed .0;
-    more = record { known = checked .0; more = values-more e k (fu .differ) };
-  }
+  then : PatchThen m l s v d
+  then = record { first = passed .0; next = next-passed .0; apart = values-apart e k (fu .differ) }
 
   list-more : ListPassed s e (suc k)
   unfolding allBelow
@@ -152,8 +154,9 @@ module _ (m : Mode) (l : Layout) (s : List ℕ) (e : ℕ → Edit) (k : ℕ) (u 
 
   further-made : patchInPass m l s e (suc k) ≡ made t
   further-made =
-      pass-made m l s e (suc k) list-more (more-passed m l s v w (e k .id) (e k .value) then)
-      ∙ ap made (sym (pass-then m l s v w (e k .id) (e k .value) then) ∙ next-passed .1)
+      pass-made m l s e (suc k) list-more (subst (StringsPassed m l s) (values-more e k) (joined-passed m l s v d then))
+      ∙ ap (λ (w : Values). made (patchedStrings m l s w)) (sym (values-more e k))
+      ∙ ap made (sym (patch-then m l s v d then) ∙ next-passed .1)
 
 -- ---- all of a list
 

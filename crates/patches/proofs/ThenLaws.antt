@@ -1,16 +1,16 @@
--- A pass and then one patch by id make what the pass with one string more makes. 02, No. 4.
-use mathlib.Core.Path.{_≡_, ap, sym, _∙_}
+-- A patch of strings and then one of other strings make what the one patch of both makes. 02, Nos. 4 and 12.
+use mathlib.Core.Path.{_≡_, refl, ap, sym, _∙_, fun-ext}
 use mathlib.Core.Bool.{Bool, true, false, not}
 use mathlib.Core.Logic.{inl, inr, _≢_}
-use mathlib.Core.Option.{Option, some}
+use mathlib.Core.Option.{none, some}
 use mathlib.Core.List.{List}
-use Prim.Native.Nat.{ℕ, _+_, _*_, _≤_, _<_}
+use Prim.Native.Nat.{ℕ, suc, _+_, _*_, _≤_, _<_}
 use native.Mathlib.Omega.{arith}
-use borrow.Author.Tests.{eqb-true, eqb-false}
-use lib.Dec.{eqb}
+use borrow.Author.Tests.{eqb-true, eqb-false, lt-ltb, le-ltb}
+use lib.Dec.{ltb, eqb}
 use lib.ListN.{length, getD}
 use lib.Seq.{sets, length-sets}
-use Rattle.bits.specs.Choice.{both, implies, allBelow}
+use Rattle.bits.specs.Choice.{pick, both, implies, allBelow}
 use Rattle.bits.specs.Bytes.{ascii}
 use Rattle.bits.proofs.TestLaws.{which, below-or, both-none}
 use Rattle.bits.proofs.PassLaws.{all-same}
@@ -23,7 +23,7 @@ use Rattle.format.specs.Entry.{Place}
 use Rattle.format.specs.Move.{moved}
 use Rattle.format.proofs.MoveLaws.{moved-high}
 use Rattle.image.specs.Sections.{stringsIn, hashesAt, smallAt, storageAt, tailAt}
-use Rattle.image.specs.Strings.{placeAt, sizeOf, Str, stringOf}
+use Rattle.image.specs.Strings.{placeAt, sizeOf, Str}
 use Rattle.image.specs.Functions.{Func, funcOf}
 use Rattle.image.specs.Admitted.{Admitted}
 use Rattle.image.proofs.PlaceLaws.{ordered}
@@ -33,24 +33,23 @@ use Rattle.edits.specs.Rebuild.{overs, rebuild}
 use Rattle.edits.proofs.ReadLaws.{Agree, stringCount-same, hashesAt-same, smallAt-same, identifier-same, rank-same, storageAt-same}
 use Rattle.edits.proofs.RegionLaws.{Bears, read-storage, read-wide, read-at, read-size}
 use Rattle.edits.proofs.StringLaws.{bears}
-use Rattle.edits.proofs.ModeLaws.{rebuild-ext}
+use Rattle.edits.proofs.ModeLaws.{overs-ext, rebuild-ext}
 use Rattle.edits.proofs.FrameLaws.{Settled, Restrung, rebuilt-length, rebuilt-like, restrung-then}
-use Rattle.edits.proofs.PutLaws.{store-ext, placed-ext, Restated, rebuild-long, rebuild-put}
-use Rattle.string_edits.specs.Values.{Values, only}
-use Rattle.string_edits.proofs.TurnLaws.{only-own, only-other}
+use Rattle.edits.proofs.PutLaws.{store-ext, placed-ext, Restated, place-like, rebuild-long, rebuild-put}
+use Rattle.string_edits.specs.Values.{Values, joined, Apart, inTurn, allEdited}
+use Rattle.string_edits.proofs.TurnLaws.{some-or-none, Gets, turn-along, turn-both, turn-ext}
 use Rattle.string_overlap.specs.Overlap.{overlap, isApart, isAlone}
-use Rattle.string_packing.specs.Strings.{asString, newString, stringWith, stringsWith}
+use Rattle.string_packing.specs.Strings.{asString, stringWith, stringsWith}
 use Rattle.string_in_place.specs.Patch.{fitsInPlace, fitsAll, overOld, inPlace, hashed, rehashed, changed, patchedStrings}
 use Rattle.string_in_place.specs.Patch.{patchFits}
 use Rattle.patches.specs.Patches.{toValues}
 use Rattle.patches.specs.Promise.{movesTo, placeAfter, Unmoved}
 use Rattle.patches.proofs.CalmLaws.{Nearly, calm}
 use Rattle.patches.proofs.InPlaceLaws as inPlaces
-use Rattle.patches.proofs.InPlaceLaws.{spot, narrow, plain, sized, AllFit}
+use Rattle.patches.proofs.InPlaceLaws.{spot, narrow, plain, sized, AllFit, fits-each}
 use Rattle.patches.proofs.StringLaws.{StringsPassed, rebuilds, all-fit, string-promise, string-places}
 use Rattle.patches.proofs.RefusalLaws.{small-most, new-length, patch-wrong}
-use Rattle.patches.proofs.MoreLaws.{SameByte, OneMoreIn, hashed-byte, rehashed-byte, fits-only, in-place-only}
-use Rattle.patches.proofs.MoreLaws.{rehashed-only, fits-more, in-place-more, rehashed-more}
+use Rattle.patches.proofs.JoinedLaws.{SameByte, rehashed-byte, fits-joined, in-place-joined, rehashed-joined}
 use Rattle.patches.proofs.AfterLaws.{final-like, near-byte, changed-fits, changed-away, changed-long, patched-is, changed-hashes}
 use Rattle.patches.proofs.AfterLaws.{changed-restrung, hashed-near, patched-near, patched-restrung, patched-hashes}
 
@@ -74,6 +73,14 @@ module _ (l : Layout) (s t : List ℕ) (count : stringsIn t ≡ stringsIn s) (un
       ∙ ap (λ (b : Bool). both (not (placeAt l s id .wide)) (both (ascii value) (both (eqb (length value) (sizeOf (placeAt l s id))) b)))
       alone-same
 
+fits-all-same : (l : Layout) (s t : List ℕ) → stringsIn t ≡ stringsIn s → Unmoved l s t → (d : Values)
+    → fitsAll l t d ≡ fitsAll l s d
+unfolding fitsAll
+fits-all-same l s t count un d =
+    ap (λ (n : ℕ). allEdited d (fitsInPlace l t) n) count
+    ∙ turn-ext d d _ _ true (stringsIn s) (λ i h. refl)
+    (λ i h value b. ap (λ (c : Bool). both c b) (fits-same l s t count un i h value))
+
 -- the hash slot of a string hangs only on the kinds
 hashed-same : (l : Layout) (s t : List ℕ) → Restrung l s t → (id : ℕ) (value out : List ℕ)
     → hashed l t id value out ≡ hashed l s id value out
@@ -84,6 +91,13 @@ hashed-same l s t r id value out =
       rank-same l s t (r .counts) (r .kinds) id,
       hashesAt-same l s t (r .counts),
     )
+
+rehashed-same : (l : Layout) (s t : List ℕ) → Restrung l s t → (d : Values) (out : List ℕ)
+    → rehashed l t d out ≡ rehashed l s d out
+unfolding rehashed
+rehashed-same l s t r d out =
+    ap (λ (n : ℕ). inTurn d (hashed l t) n out) (stringCount-same l s t (r .counts))
+    ∙ turn-ext d d (hashed l t) (hashed l s) out (stringsIn s) (λ i h. refl) (λ i h value b. hashed-same l s t r i value b)
 
 -- an image with other strings has its hash slots where they were
 module _ (l : Layout) (s t : List ℕ) (r : Restrung l s t) where
@@ -97,24 +111,38 @@ module _ (l : Layout) (s t : List ℕ) (r : Restrung l s t) where
   small-within : smallAt l s ≤ length t
   small-within = let o = ordered l t in omega (arith, smallAt-same l s t (r .counts), o .over, o .storage, o .tail, r .admitted .room)
 
--- ---- a pass that sets v, then one patch that sets id, and the pass that sets both
+-- one more is below
+next-below : (i n : ℕ) → i ≢ n → ltb i (suc n) ≡ ltb i n
+next-below i n h = elim (below-or i n) [
+  | inl g ↦ lt-ltb i (suc n) (omega arith) ∙ sym (lt-ltb i n g)
+  | inr g ↦ le-ltb i (suc n) (omega arith) ∙ sym (le-ltb i n g)
+]
 
-pub record PassThen (m : Mode) (l : Layout) (s : List ℕ) (v w : Values) (id : ℕ) (value : List ℕ) : Type 0 where
-  pub first : StringsPassed m l s v
-  pub next : StringsPassed m l (patchedStrings m l s v) (only id value)
-  pub more : OneMoreIn s v w id value
+-- ---- images that are the same but for hash slots, file length and footer
 
--- images of one length that are the same but for hash slots, file length and footer
 record Like (l : Layout) (s a b : List ℕ) : Type 0 where
   long : length a ≡ length b
   byte : (p : ℕ) → Settled l s (length b) p → getD a p 0 ≡ getD b p 0
 
-module _ (m : Mode) (l : Layout) (s : List ℕ) (v w : Values) (id : ℕ) (value : List ℕ) (pt : PassThen m l s v w id value) where
+like-put : (l : Layout) (s a b : List ℕ) (at : ℕ) (value : List ℕ) → Like l s a b → Like l s (sets a at value) (sets b at value)
+like-put l s a b at value k = record {
+  long = rw (length-sets, length-sets) (k .long);
+  byte = λ p se. sets-byte value a b at p (k .long) (k .byte p (rw (length-sets b at value) at se));
+}
+
+-- ---- a patch that sets v, then one that sets d, and the one that sets both
+
+pub record PatchThen (m : Mode) (l : Layout) (s : List ℕ) (v d : Values) : Type 0 where
+  pub first : StringsPassed m l s v
+  pub next : StringsPassed m l (patchedStrings m l s v) d
+  pub apart : Apart v d
+
+module _ (m : Mode) (l : Layout) (s : List ℕ) (v d : Values) (pt : PatchThen m l s v d) where
   ad : Admitted l s
   ad = pt .first .admitted
 
-  known : id < stringsIn s
-  known = pt .more .known
+  abbrev w : Values
+  w = joined v d
 
   abbrev x : List ℕ
   x = changed m l s v
@@ -122,9 +150,9 @@ module _ (m : Mode) (l : Layout) (s : List ℕ) (v w : Values) (id : ℕ) (value
   abbrev t : List ℕ
   t = patchedStrings m l s v
 
-  -- the second patch, and the pass, before hash slots, file length and footer
+  -- the second patch, and that of both, before hash slots, file length and footer
   abbrev y : List ℕ
-  y = changed m l t (only id value)
+  y = changed m l t d
 
   abbrev z : List ℕ
   z = changed m l s w
@@ -138,62 +166,56 @@ module _ (m : Mode) (l : Layout) (s : List ℕ) (v w : Values) (id : ℕ) (value
   near : Nearly l x t
   near = patched-near m l s v (pt .first)
 
+  like-t : Like l s t x
+  like-t = record {
+    long = near .long;
+    byte = λ p se. near-byte l x t near p (settled-in l s x x-frame (length x) p se);
+  }
+
   sc : stringsIn t ≡ stringsIn s
   sc = stringCount-same l s t (frame .counts)
 
-  known-t : id < stringsIn t
-  known-t = rw sc known
-
-  fits-t : fitsAll l t (only id value) ≡ fitsInPlace l t id value
-  fits-t = fits-only l t id value known-t
-
-  -- where all so far was in place the strings have not moved, and a value fits as it did
+  -- where the first was in place the strings have not moved, and values fit as they did
   unmoved : fitsAll l s v ≡ true → Unmoved l s t
   unmoved fits = string-places m l s v (pt .first) .1 fits
 
-  fits-as : fitsAll l s v ≡ true → fitsInPlace l t id value ≡ fitsInPlace l s id value
-  fits-as fits = fits-same l s t sc (unmoved fits) id known value
+  fits-as : fitsAll l s v ≡ true → fitsAll l t d ≡ fitsAll l s d
+  fits-as fits = fits-all-same l s t sc (unmoved fits) d
 
-  fits-w : fitsAll l s w ≡ both (fitsInPlace l s id value) (fitsAll l s v)
-  fits-w = fits-more l s v w id value (pt .more)
+  fits-w : fitsAll l s w ≡ both (fitsAll l s d) (fitsAll l s v)
+  fits-w = fits-joined l s v d (pt .apart)
 
   away-w : fitsAll l s v ≡ false → fitsAll l s w ≡ false
-  away-w away = fits-w ∙ rw away (both-none (fitsInPlace l s id value))
+  away-w away = fits-w ∙ rw away (both-none (fitsAll l s d))
 
-  -- ---- in place on t: a write to x
+  -- ---- in place on t
 
-  module _ (fit : fitsInPlace l t id value ≡ true) where
-    put-is : y ≡ sets t (spot l t id) value
-    unfolding overOld
-    put-is = changed-fits m l t (only id value) (fits-t ∙ fit) ∙ in-place-only l t id value known-t t
-
-    put-like : (at : ℕ) → spot l t id ≡ at → Like l s y (sets x at value)
-    put-like at e = rw (put-is, e)
-        (record {
-          long = rw (length-sets, length-sets) (near .long);
-          byte = λ p se.
-              sets-byte value t x at p (near .long)
-              (near-byte l x t near p (settled-in l s x x-frame (length x) p (rw (length-sets x at value) at se)));
-        })
-
-    -- the pass so far was in place
+  module _ (fit : fitsAll l t d ≡ true) where
+    -- the first was in place
     like-placed : fitsAll l s v ≡ true → Like l s y z
-    unfolding overOld
+    unfolding inPlace overOld
     like-placed fits =
-        let all : AllFit l s v = all-fit m l s v (pt .first) fits in
+        let old : AllFit l s v = all-fit m l s v (pt .first) fits in
+        let fit-s : fitsAll l s d ≡ true = sym (fits-as fits) ∙ fit in
         let x-is = changed-fits m l s v fits in
-        let fit-s : fitsInPlace l s id value ≡ true = sym (fits-as fits) ∙ fit in
         let at : storageAt l t ≡ storageAt l s
         = calm l x t near .storage .at
-        ∙ rw x-is (storageAt-same l s (inPlace l s v s) (inPlaces.same l s v all .tabled .words)) in
-        let e : spot l t id ≡ spot l s id = rw at (ap (λ (q : Place). storageAt l s + q .at) (unmoved fits id known)) in
-        let z-is : z ≡ sets x (spot l s id) value
+        ∙ rw x-is (storageAt-same l s (inPlace l s v s) (inPlaces.same l s v old .tabled .words)) in
+        let spots : (i : ℕ) → i < stringsIn s → spot l t i ≡ spot l s i
+        = λ i h. rw at (ap (λ (q : Place). storageAt l s + q .at) (unmoved fits i h)) in
+        let y-is : y ≡ inTurn d (overOld l s) (stringsIn s) t
+        = changed-fits m l t d fit ∙ ap (λ (n : ℕ). inTurn d (overOld l t) n t) sc
+        ∙ turn-ext d d (overOld l t) (overOld l s) t (stringsIn s) (λ i h. refl)
+        (λ i h value b. ap (λ (p : ℕ). sets b p value) (spots i h)) in
+        let z-is : z ≡ inTurn d (overOld l s) (stringsIn s) x
         = changed-fits m l s w (fits-w ∙ rw (fit-s, fits))
-        ∙ in-place-more l s v w id value (pt .more) all fit-s s
-        ∙ ap (λ (q : List ℕ). sets q (spot l s id) value) (sym x-is) in
-        rw z-is (put-like (spot l s id) e)
+        ∙ in-place-joined l s v d (pt .apart) old (record { admitted = ad; fits = fit-s }) s
+        ∙ ap (inTurn d (overOld l s) (stringsIn s)) (sym x-is) in
+        rw (y-is, z-is)
+        (turn-both d (overOld l s) (Like l s) t x (stringsIn s) like-t
+        (λ i value a b h. like-put l s a b (spot l s i) value))
 
-    -- it was a rebuild
+    -- it was a rebuild: each value goes over a string of its width and length
     module _ (away : fitsAll l s v ≡ false) where
       abbrev f : ℕ → Str
       f = stringWith l s v
@@ -204,16 +226,9 @@ module _ (m : Mode) (l : Layout) (s : List ℕ) (v w : Values) (id : ℕ) (value
       abbrev old : Packed
       old = packed m f (stringsIn s)
 
-      abbrev new : Packed
-      new = packed m g (stringsIn s)
-
       x-is : x ≡ rebuild l old s
       unfolding stringsWith
       x-is = changed-away m l s v away
-
-      z-is : z ≡ rebuild l new s
-      unfolding stringsWith
-      z-is = changed-away m l s w (away-w away)
 
       borne : Bears l f old x
       unfolding stringsWith
@@ -222,97 +237,136 @@ module _ (m : Mode) (l : Layout) (s : List ℕ) (v w : Values) (id : ℕ) (value
       counts : Agree s x (table.functionCount .at) (table.overflowCount .at)
       counts = x-frame .counts
 
-      known-x : id < stringsIn x
-      known-x = rw (stringCount-same l s x counts) known
+      -- the strings when those below n have their values, and the image with them
+      abbrev mixed : ℕ → ℕ → Str
+      mixed n i = pick (ltb i n) (g i) (f i)
 
-      place-t : placeAt l t id ≡ placeAt l x id
-      place-t = calm l x t near .storage .place id known-x
+      abbrev image : ℕ → List ℕ
+      image n = rebuild l (packed m (mixed n) (stringsIn s)) s
 
-      own : g id ≡ record { wide = false; bytes = value }
-      unfolding stringWith asString
-      own = rw (pt .more .more .own, plain l t id value fit)
+      record Put (n : ℕ) (b : List ℕ) : Type 0 where
+        like : Like l s b (image n)
+        place : (i : ℕ) → placed m (mixed n) i ≡ placed m f i
 
-      restated : Restated f g id
+      put-none : Put 0 t
+      put-none =
+          let e : mixed 0 ≡ f = fun-ext (λ i. rw (le-ltb i 0 (omega arith))) in
+          record {
+            like = rw (e, ← x-is) like-t;
+            place = λ i. ap (λ (h : ℕ → Str). placed m h i) e;
+          }
+
+      put-skip : (n : ℕ) (b : List ℕ) → d n ≡ none → Put n b → Put (suc n) b
       unfolding stringWith
-      restated = record {
-        other = λ j d. ap (λ (o : Option (List ℕ)). newString o (stringOf l s j)) (pt .more .more .other j d);
-        wide =
-            ap (λ (c : Str). c .wide) own ∙ sym (narrow l t id value fit) ∙ ap (λ (q : Place). q .wide) place-t
-            ∙ read-wide l f old x borne id known-x;
-        size =
-            ap (λ (c : Str). length (c .bytes)) own ∙ sized l t id value fit ∙ ap (λ (q : Place). sizeOf q) place-t
-            ∙ read-size l f old x borne id known-x;
-      }
+      put-skip n b q k =
+          let e : mixed (suc n) ≡ mixed n
+          = fun-ext (λ i. elim (which (eqb i n)) [
+            | inl p ↦ let j : i ≡ n = eqb-true i n p in rw (j, lt-ltb n (suc n) (omega arith), le-ltb n n (omega arith), q)
+            | inr p ↦ ap (λ (c : Bool). pick c (g i) (f i)) (next-below i n (eqb-false i n p))
+          ]) in
+          record {
+            like = rw e (k .like);
+            place = λ i. ap (λ (h : ℕ → Str). placed m h i) e ∙ k .place i;
+          }
 
-      abbrev here : ℕ
-      here = smallAt l s + (stringsIn s * 4 + (overs (placed m f) (stringsIn s) * 8 + startOf m f id))
-
-      spot-is : spot l t id ≡ here
-      spot-is =
-          let at : storageAt l t ≡ smallAt l s + stringsIn s * 4 + overs (placed m f) (stringsIn s) * 8
+      put-next : (n : ℕ) (value b : List ℕ) → Gets d (stringsIn t) n value → Put n b → Put (suc n) (overOld l t n value b)
+      unfolding overOld stringWith asString
+      put-next n value b gets k =
+          let known : n < stringsIn s = omega (arith, gets .known, sc) in
+          let known-x : n < stringsIn x = rw (stringCount-same l s x counts) known in
+          let fits = fits-each l t d (record { admitted = pt .next .admitted; fits = fit }) n value gets in
+          let place-t : placeAt l t n ≡ placeAt l x n = calm l x t near .storage .place n known-x in
+          let own : mixed (suc n) n ≡ record { wide = false; bytes = value }
+          = rw (lt-ltb n (suc n) (omega arith), gets .gets, plain l t n value fits) in
+          let was : mixed n n ≡ f n = rw (le-ltb n n (omega arith)) in
+          let re : Restated (mixed n) (mixed (suc n)) n
+          = record {
+            other = λ j h. ap (λ (c : Bool). pick c (g j) (f j)) (next-below j n h);
+            wide =
+                ap (λ (c : Str). c .wide) own ∙ sym (narrow l t n value fits) ∙ ap (λ (q : Place). q .wide) place-t
+                ∙ read-wide l f old x borne n known-x ∙ ap (λ (c : Str). c .wide) (sym was);
+            size =
+                ap (λ (c : Str). length (c .bytes)) own ∙ sized l t n value fits ∙ ap (λ (q : Place). sizeOf q) place-t
+                ∙ read-size l f old x borne n known-x ∙ ap (λ (c : Str). length (c .bytes)) (sym was);
+          } in
+          let here : ℕ = smallAt l s + (stringsIn s * 4 + (overs (placed m (mixed n)) (stringsIn s) * 8 + startOf m (mixed n) n)) in
+          let storage : storageAt l t ≡ smallAt l s + stringsIn s * 4 + overs (placed m f) (stringsIn s) * 8
           = calm l x t near .storage .at ∙ read-storage l f old x borne
           ∙ rw (stringCount-same l s x counts, smallAt-same l s x counts) in
-          let e : placeAt l t id .at ≡ startOf m f id
-          = ap (λ (q : Place). q .at) place-t ∙ read-at l f old x borne id known-x in
-          omega arith
+          let start : placeAt l t n .at ≡ startOf m f n = ap (λ (q : Place). q .at) place-t ∙ read-at l f old x borne n known-x in
+          let few : overs (placed m (mixed n)) (stringsIn s) ≡ overs (placed m f) (stringsIn s)
+          = overs-ext (placed m (mixed n)) (placed m f) (stringsIn s) (λ i h. k .place i) in
+          let same : startOf m (mixed n) n ≡ startOf m f n = ap (λ (q : Place). q .at) (k .place n) in
+          let at : spot l t n ≡ here = omega arith in
+          let put : (p : ℕ) → getD (sets (image n) here value) p 0 ≡ getD (image (suc n)) p 0
+          = λ p. sym (rebuild-put m (mixed n) (mixed (suc n)) n re l s ad known p
+          ∙ ap (λ (c : Str). getD (sets (image n) here (c .bytes)) p 0) own) in
+          let long : length (sets (image n) here value) ≡ length (image (suc n))
+          = length-sets (image n) here value ∙ sym (rebuild-long m (mixed n) (mixed (suc n)) n re l s ad known) in
+          let like = like-put l s b (image n) here value (k .like) in
+          record {
+            like = rw at (record { long = like .long ∙ long; byte = λ p se. like .byte p (rw long se) ∙ put p });
+            place = λ i. place-like m (mixed n) (mixed (suc n)) n re i ∙ k .place i;
+          }
+
+      put-all : Put (stringsIn t) (inPlace l t d t)
+      unfolding inPlace
+      put-all = turn-along d (overOld l t) t Put (stringsIn t) put-none put-skip put-next
 
       like-packed : Like l s y z
+      unfolding stringsWith
       like-packed =
-          let like = put-like here spot-is in
-          let e : (p : ℕ) → getD (sets x here value) p 0 ≡ getD z p 0 = λ p.
-          rw (x-is, z-is) (sym (rebuild-put m f g id restated l s ad known p
-          ∙ ap (λ (c : Str). getD (sets (rebuild l old s) here (c .bytes)) p 0) own)) in
-          let n : length (sets x here value) ≡ length z
-          = length-sets x here value ∙ rw (x-is, z-is) (sym (rebuild-long m f g id restated l s ad known)) in
-          record { long = like .long ∙ n; byte = λ p se. like .byte p (rw n se) ∙ e p }
+          let same : (i : ℕ) → i < stringsIn s → mixed (stringsIn t) i ≡ g i
+          = λ i h. rw (lt-ltb i (stringsIn t) (omega (arith, sc))) in
+          let e : image (stringsIn t) ≡ z
+          = rebuild-ext l (packed m (mixed (stringsIn t)) (stringsIn s)) (packed m g (stringsIn s)) s
+          (λ i h. placed-ext m (mixed (stringsIn t)) g i (λ j k. same j (omega arith)))
+          (store-ext m (mixed (stringsIn t)) g (stringsIn s) same)
+          ∙ sym (changed-away m l s w (away-w away)) in
+          rw (changed-fits m l t d fit, ← e) (put-all .like)
 
   -- ---- by a rebuild of t
 
-  string-now : (i : ℕ) → i < stringsIn s → stringWith l t (only id value) i ≡ stringWith l s w i
+  string-now : (i : ℕ) → i < stringsIn s → stringWith l t d i ≡ stringWith l s w i
   unfolding stringWith
-  string-now i h = elim (which (eqb i id)) [
-    | inl q ↦ let e : i ≡ id = eqb-true i id q in
-        rw (e, only-own id value, pt .more .more .own)
-    | inr q ↦ let d : i ≢ id = eqb-false i id q in
-        rw (only-other id value i d, pt .more .more .other i d) (string-promise m l s v (pt .first) .kept .string i h)
+  string-now i h = elim (some-or-none (d i)) [
+    | inl q ↦ rw q (string-promise m l s v (pt .first) .kept .string i h)
+    | inr (value, q) ↦ rw q
   ]
 
-  like-rebuilt : fitsInPlace l t id value ≡ false → fitsAll l s w ≡ false → Like l s y z
+  like-rebuilt : fitsAll l t d ≡ false → fitsAll l s w ≡ false → Like l s y z
   unfolding stringsWith
   like-rebuilt off away =
       let q : Packed = packed m (stringWith l s w) (stringsIn s) in
       let y-is : y ≡ rebuild l q t
-      = changed-away m l t (only id value) (fits-t ∙ off)
-      ∙ rebuild-ext l (packed m (stringWith l t (only id value)) (stringsIn t)) q t
-      (λ i h. placed-ext m (stringWith l t (only id value)) (stringWith l s w) i (λ j k. string-now j (omega (arith, sc))))
-      (ap (storeOf m (stringWith l t (only id value))) sc
-      ∙ store-ext m (stringWith l t (only id value)) (stringWith l s w) (stringsIn s) string-now) in
+      = changed-away m l t d off
+      ∙ rebuild-ext l (packed m (stringWith l t d) (stringsIn t)) q t
+      (λ i h. placed-ext m (stringWith l t d) (stringWith l s w) i (λ j k. string-now j (omega (arith, sc))))
+      (ap (storeOf m (stringWith l t d)) sc ∙ store-ext m (stringWith l t d) (stringWith l s w) (stringsIn s) string-now) in
       let z-is : z ≡ rebuild l q s = changed-away m l s w away in
       rw (y-is, z-is) (record { long = rebuilt-length l s t frame q; byte = rebuilt-like l s t frame q })
 
   -- ---- every way
 
   like : Like l s y z
-  like = elim (which (fitsInPlace l t id value)) [
+  like = elim (which (fitsAll l t d)) [
     | inl fit ↦ elim (which (fitsAll l s v)) [ inl fits ↦ like-placed fit fits | inr away ↦ like-packed fit away ]
     | inr off ↦ like-rebuilt off
         (elim (which (fitsAll l s v)) [ inl fits ↦ fits-w ∙ rw (sym (fits-as fits) ∙ off) | inr away ↦ away-w away ])
   ]
 
-  -- ---- the pass is not refused
+  -- ---- the patch of both is not refused
 
   y-frame : Restrung l s y
-  y-frame = restrung-then l s t y frame (changed-restrung m l t (only id value) (pt .next))
+  y-frame = restrung-then l s t y frame (changed-restrung m l t d (pt .next))
 
-  more-bytes : (i : ℕ) → i < stringsIn s → (u : List ℕ) → w i ≡ some u → AllBelow 256 u
-  more-bytes i h u e = elim (which (eqb i id)) [
-    | inl q ↦ let n : some u ≡ some value = sym e ∙ ap w (eqb-true i id q) ∙ pt .more .more .own in
-        let k : u ≡ value = cc in
-        rw k (pt .next .bytes id known-t value (only-own id value))
-    | inr q ↦ pt .first .bytes i h u (sym (pt .more .more .other i (eqb-false i id q)) ∙ e)
+  joined-bytes : (i : ℕ) → i < stringsIn s → (u : List ℕ) → w i ≡ some u → AllBelow 256 u
+  joined-bytes i h u e = elim (some-or-none (d i)) [
+    | inl q ↦ pt .first .bytes i h u (rw q at e)
+    | inr (value, q) ↦ pt .next .bytes i (rw sc h) u (q ∙ rw q at e)
   ]
 
-  -- the tail is where the pass puts it
+  -- the tail is where that patch puts it
   tail-y : tailAt l y ≡ movesTo l s (toValues m w)
   tail-y = omega (
     arith,
@@ -324,8 +378,8 @@ module _ (m : Mode) (l : Layout) (s : List ℕ) (v w : Values) (id : ℕ) (value
     ad .room,
   )
 
-  more-field : patchFits m l s w ≡ true
-  more-field = elim (which (patchFits m l s w)) [
+  joined-field : patchFits m l s w ≡ true
+  joined-field = elim (which (patchFits m l s w)) [
     | inl t ↦ t
     | inr n ↦
         let (j, h, u, far) = patch-wrong m l s w n in
@@ -338,53 +392,53 @@ module _ (m : Mode) (l : Layout) (s : List ℕ) (v w : Values) (id : ℕ) (value
         ])
   ]
 
-  pub more-passed : StringsPassed m l s w
-  more-passed = record {
+  pub joined-passed : StringsPassed m l s w
+  joined-passed = record {
     admitted = ad;
-    bytes = more-bytes;
+    bytes = joined-bytes;
     limit = omega (
       arith,
       changed-long m l s w ad,
       like .long,
-      changed-long m l t (only id value) (pt .next .admitted),
+      changed-long m l t d (pt .next .admitted),
       pt .next .limit,
     );
-    field = more-field;
+    field = joined-field;
   }
 
   -- ---- and makes the same
 
   z-frame : Restrung l s z
-  z-frame = changed-restrung m l s w more-passed
+  z-frame = changed-restrung m l s w joined-passed
 
   -- with their hash slots
   abbrev a : List ℕ
-  a = rehashed l t (only id value) y
+  a = rehashed l t d y
 
   abbrev b : List ℕ
   b = rehashed l s w z
 
   near-a : Nearly l y a
-  near-a = hashed-near m l t (only id value) (pt .next)
+  near-a = hashed-near m l t d (pt .next)
 
   near-b : Nearly l z b
-  near-b = hashed-near m l s w more-passed
+  near-b = hashed-near m l s w joined-passed
 
   -- a byte of a hash slot
   slot-byte : (p : ℕ) → hashesAt l s ≤ p → p < smallAt l s → getD a p 0 ≡ getD b p 0
   slot-byte p h k =
-      ap (λ (q : List ℕ). getD q p 0) (rehashed-only l t id value known-t y ∙ hashed-same l s t frame id value y)
-      ∙ hashed-byte l s id value ad known p y (rehashed l s v z)
+      ap (λ (q : List ℕ). getD q p 0) (rehashed-same l s t frame d y)
+      ∙ rehashed-byte l s ad d p y (rehashed l s v z)
       (record {
         left = small-within l s y y-frame;
         right = before .right;
         byte =
-            changed-hashes m l t (only id value) (pt .next) p (rw (hashesAt-same l s t (frame .counts)) h)
+            changed-hashes m l t d (pt .next) p (rw (hashesAt-same l s t (frame .counts)) h)
             (rw (smallAt-same l s t (frame .counts)) k)
             ∙ patched-hashes m l s v (pt .first) p h k ∙ before .byte;
       })
       .byte
-      ∙ ap (λ (q : List ℕ). getD q p 0) (sym (rehashed-more l s v w id value (pt .more) z))
+      ∙ ap (λ (q : List ℕ). getD q p 0) (sym (rehashed-joined l s v d (pt .apart) z))
     where
       before : SameByte l s p (rehashed l s v x) (rehashed l s v z)
       before =
@@ -392,7 +446,7 @@ module _ (m : Mode) (l : Layout) (s : List ℕ) (v w : Values) (id : ℕ) (value
           (record {
             left = small-within l s x x-frame;
             right = small-within l s z z-frame;
-            byte = changed-hashes m l s v (pt .first) p h k ∙ sym (changed-hashes m l s w more-passed p h k);
+            byte = changed-hashes m l s v (pt .first) p h k ∙ sym (changed-hashes m l s w joined-passed p h k);
           })
 
   -- any other before the footer
@@ -402,10 +456,10 @@ module _ (m : Mode) (l : Layout) (s : List ℕ) (v w : Values) (id : ℕ) (value
       ∙ like .byte p se
       ∙ sym (near-byte l z b near-b p (settled-in l s z z-frame (length z) p se))
 
-  -- A PASS AND THEN ONE PATCH ARE THE PASS WITH ONE MORE
-  pub pass-then : patchedStrings m l t (only id value) ≡ patchedStrings m l s w
-  pass-then =
-      patched-is m l t (only id value)
+  -- A PATCH AND THEN ONE OF OTHER STRINGS ARE THE ONE PATCH OF BOTH
+  pub patch-then : patchedStrings m l t d ≡ patchedStrings m l s w
+  patch-then =
+      patched-is m l t d
       ∙ final-like a b (omega (arith, near-b .long, z-frame .admitted .least)) (near-a .long ∙ like .long ∙ sym (near-b .long))
       (λ p h f.
       let settled : (hashesAt l s ≤ p → smallAt l s ≤ p) → Settled l s (length z) p

@@ -6,16 +6,21 @@ use mathlib.Core.Option.{Option, none, some}
 use mathlib.Core.List.{List}
 use Prim.Native.Nat.{ℕ, zero, suc, _≤_, _<_}
 use native.Mathlib.Omega.{arith}
-use borrow.Author.Tests.{eq-eqb, ne-eqb}
+use borrow.Author.Tests.{eq-eqb, ne-eqb, eqb-true, eqb-false}
+use lib.Dec.{eqb}
 use Rattle.bits.specs.Choice.{both}
 use Rattle.bits.proofs.TestLaws.{which, below, below-or, both-0, both-1}
-use Rattle.string_edits.specs.Values.{Values, only, taking, inTurn, allEdited}
+use Rattle.string_edits.specs.Values.{Values, only, joined, Apart, taking, inTurn, allEdited}
 use Rattle.string_edits.specs.Lists.{Coming}
 
 -- an option is none or some
 pub some-or-none : (o : Option (List ℕ)) → (o ≡ none) ⊎ ((value : List ℕ) × (o ≡ some value))
 some-or-none none = inl refl
 some-or-none (some value) = inr (value, refl)
+
+-- and not both
+pub none-some : (x : List ℕ) → none ≡ some x → ⊥
+none-some x e = let z : _≡_ {A = ℕ} 0 1 = cc in omega arith
 
 module _ {A : Type 0} (v : Values) (turn : ℕ → List ℕ → A → A) (a : A) where
   pub turn-none : (i : ℕ) → v i ≡ none → inTurn v turn (suc i) a ≡ inTurn v turn i a
@@ -68,6 +73,19 @@ turn-along {A = A} v turn a P (suc n) p skip take =
           (take n value (inTurn v turn n a) (record { known = omega arith; gets = q }) rest)
     ]
 
+-- what holds of two and is kept by each turn of both holds after all
+pub turn-both : {A : Type 0} (v : Values) (turn : ℕ → List ℕ → A → A) (R : A → A → Type 0) (a b : A) (n : ℕ) → R a b
+    → ((i : ℕ) (value : List ℕ) (x y : A) → i < n → R x y → R (turn i value x) (turn i value y))
+    → R (inTurn v turn n a) (inTurn v turn n b)
+turn-both v turn R a b zero r t = rw (turn-start v turn a, turn-start v turn b) r
+turn-both v turn R a b (suc n) r t =
+    let rest = turn-both v turn R a b n r (λ i value x y h. t i value x y (omega arith)) in
+    elim (some-or-none (v n)) [
+      | inl q ↦ rw (turn-none v turn a n q, turn-none v turn b n q) rest
+      | inr (value, q) ↦ rw (turn-some v turn a n value q, turn-some v turn b n value q)
+          (t n value (inTurn v turn n a) (inTurn v turn n b) (omega arith) rest)
+    ]
+
 -- what no turn changes
 pub turn-keeps : {A : Type 0} {B : Type 0} (v : Values) (turn : ℕ → List ℕ → A → A) (a : A) (f : A → B) (n : ℕ)
     → ((i : ℕ) (value : List ℕ) (b : A) → f (turn i value b) ≡ f b) → f (inTurn v turn n a) ≡ f a
@@ -97,6 +115,13 @@ only-own id value = rw (eq-eqb id id refl)
 pub only-other : (id : ℕ) (value : List ℕ) (i : ℕ) → i ≢ id → only id value i ≡ none
 only-other id value i d = rw (ne-eqb i id d)
 
+-- who gets it
+pub only-id : (id : ℕ) (value : List ℕ) (i : ℕ) (x : List ℕ) → only id value i ≡ some x → i ≡ id
+only-id id value i x p = elim (which (eqb i id)) [
+  | inl t ↦ eqb-true i id t
+  | inr t ↦ absurd (none-some x (sym (only-other id value i (eqb-false i id t)) ∙ p))
+]
+
 pub turn-only : {A : Type 0} (id : ℕ) (value : List ℕ) (turn : ℕ → List ℕ → A → A) (a : A) (n : ℕ) → id < n
     → inTurn (only id value) turn n a ≡ turn id value a
 turn-only id value turn a n h =
@@ -106,44 +131,83 @@ turn-only id value turn a n h =
     (turn-skip (only id value) turn a 0 id (omega arith) (λ j g l. only-other id value j (λ z. omega arith))
     ∙ turn-start (only id value) turn a)
 
--- ---- one string more gets a value: its turn may come last, if it goes with the others in either order
+-- ---- two maps that set no string both
 
--- w is v but for id, which gets a value
-pub record OneMore (v w : Values) (id : ℕ) (value : List ℕ) : Type 0 where
-  pub free : v id ≡ none
-  pub own : w id ≡ some value
-  pub other : (i : ℕ) → i ≢ id → w i ≡ v i
+-- a string that gets a value by the one gets none by the other
+pub gets-none : (v w : Values) → Apart v w → (i : ℕ) (x : List ℕ) → v i ≡ some x → w i ≡ none
+gets-none v w parted i x p = elim (some-or-none (w i)) [ inl q ↦ q | inr (y, q) ↦ absurd (parted i x y p q) ]
 
-pub turn-more : {A : Type 0} (v w : Values) (id : ℕ) (value : List ℕ) → OneMore v w id value → (turn : ℕ → List ℕ → A
-    → A) (a : A)
-    (n : ℕ) → id < n
-    → ((i : ℕ) → i < n → i ≢ id → (x : List ℕ) → v i ≡ some x → (b : A)
-    → turn i x (turn id value b) ≡ turn id value (turn i x b))
-    → inTurn w turn n a ≡ turn id value (inTurn v turn n a)
-turn-more v w id value o turn a zero h t = absurd (omega arith)
-turn-more {A = A} v w id value o turn a (suc n) h t = elim (below id n h) [
-  | inl e ↦ let own : w n ≡ some value = rw e at (o .own) in
-      let free : v n ≡ none = rw e at (o .free) in
-      let same : inTurn w turn n a ≡ inTurn v turn n a
-      = turn-ext w v turn turn a n (λ i g. o .other i (λ z. omega arith)) (λ i g x b. refl) in
-      turn-some w turn a n value own
-      ∙ ap (turn n value) (same ∙ sym (turn-none v turn a n free))
-      ∙ ap (λ (i : ℕ). turn i value (inTurn v turn (suc n) a)) (sym e)
-  | inr g ↦ let rest : inTurn w turn n a ≡ turn id value (inTurn v turn n a)
-      = turn-more v w id value o turn a n g (λ i k. t i (omega arith)) in
-      let d : n ≢ id = λ z. omega arith in
-      elim (some-or-none (v n)) [
-        | inl q ↦ turn-none w turn a n (o .other n d ∙ q) ∙ rest ∙ ap (turn id value) (sym (turn-none v turn a n q))
-        | inr (x, q) ↦ turn-some w turn a n x (o .other n d ∙ q) ∙ ap (turn n x) rest
-            ∙ t n (omega arith) d x q (inTurn v turn n a) ∙ ap (turn id value) (sym (turn-some v turn a n x q))
+pub apart-sym : (v w : Values) → Apart v w → Apart w v
+apart-sym v w parted i x y p q = parted i y x q p
+
+-- two such strings are two
+pub gets-apart : (v w : Values) → Apart v w → (i j : ℕ) (x y : List ℕ) → v i ≡ some x → w j ≡ some y → i ≢ j
+gets-apart v w parted i j x y p q e = parted i x y p (rw e q)
+
+-- one string, and others
+pub apart-only : (v : Values) (id : ℕ) (value : List ℕ) → Apart v (only id value) → v id ≡ none
+apart-only v id value parted = gets-none (only id value) v (apart-sym v (only id value) parted) id value (only-own id value)
+
+-- two strings, each with a value of its own
+pub only-apart : (i j : ℕ) (x y : List ℕ) → i ≢ j → Apart (only i x) (only j y)
+only-apart i j x y d k u v p q = d (sym (only-id i x k u p) ∙ only-id j y k v q)
+
+-- what goes with each turn in either order goes with all
+pub turn-past : {A : Type 0} (v : Values) (turn : ℕ → List ℕ → A → A) (f : A → A) (a : A) (n : ℕ)
+    → ((i : ℕ) (value : List ℕ) → Gets v n i value → (b : A) → turn i value (f b) ≡ f (turn i value b))
+    → inTurn v turn n (f a) ≡ f (inTurn v turn n a)
+turn-past v turn f a zero t = turn-start v turn (f a) ∙ ap f (sym (turn-start v turn a))
+turn-past v turn f a (suc n) t =
+    let rest : inTurn v turn n (f a) ≡ f (inTurn v turn n a)
+    = turn-past v turn f a n (λ i value g. t i value (record { known = omega (arith, g .known); gets = g .gets })) in
+    elim (some-or-none (v n)) [
+      | inl q ↦ turn-none v turn (f a) n q ∙ rest ∙ ap f (sym (turn-none v turn a n q))
+      | inr (value, q) ↦ turn-some v turn (f a) n value q ∙ ap (turn n value) rest
+          ∙ t n value (record { known = omega arith; gets = q }) (inTurn v turn n a) ∙ ap f (sym (turn-some v turn a n value q))
+    ]
+
+-- the turns of both are those of the one and then those of the other, if they go in either order
+pub turn-joined : {A : Type 0} (v w : Values) → Apart v w → (turn : ℕ → List ℕ → A → A) (a : A) (n : ℕ)
+    → ((i j : ℕ) (x y : List ℕ) → Gets v n i x → Gets w n j y → (b : A) → turn j y (turn i x b) ≡ turn i x (turn j y b))
+    → inTurn (joined v w) turn n a ≡ inTurn w turn n (inTurn v turn n a)
+turn-joined v w parted turn a zero t =
+    turn-start (joined v w) turn a ∙ sym (turn-start v turn a) ∙ sym (turn-start w turn (inTurn v turn 0 a))
+turn-joined {A = A} v w parted turn a (suc n) t =
+    let one : (u : Values) (i : ℕ) (x : List ℕ) → Gets u n i x → Gets u (suc n) i x
+    = λ u i x g. record { known = omega (arith, g .known); gets = g .gets } in
+    let rest : inTurn (joined v w) turn n a ≡ inTurn w turn n (inTurn v turn n a)
+    = turn-joined v w parted turn a n (λ i j x y g h. t i j x y (one v i x g) (one w j y h)) in
+    elim (some-or-none (w n)) [
+      | inr (y, q) ↦
+          turn-some (joined v w) turn a n y (rw q)
+          ∙ ap (turn n y) (rest ∙ ap (inTurn w turn n) (sym (turn-none v turn a n (gets-none w v (apart-sym v w parted) n y q))))
+          ∙ sym (turn-some w turn (inTurn v turn (suc n) a) n y q)
+      | inl q ↦ elim (some-or-none (v n)) [
+        | inl p ↦ turn-none (joined v w) turn a n (rw q p) ∙ rest ∙ ap (inTurn w turn n) (sym (turn-none v turn a n p))
+            ∙ sym (turn-none w turn (inTurn v turn (suc n) a) n q)
+        | inr (x, p) ↦
+            turn-some (joined v w) turn a n x (rw q p)
+            ∙ ap (turn n x) rest
+            ∙ sym (turn-past w turn (turn n x) (inTurn v turn n a) n
+            (λ j y g. t n j x y (record { known = omega arith; gets = p }) (one w j y g)))
+            ∙ ap (inTurn w turn n) (sym (turn-some v turn a n x p))
+            ∙ sym (turn-none w turn (inTurn v turn (suc n) a) n q)
       ]
-]
+    ]
 
 -- ---- tests of each that gets a value
 
 module _ (v : Values) (test : ℕ → List ℕ → Bool) where
   abbrev testing : ℕ → List ℕ → Bool → Bool
   testing i value b = both (test i value) b
+
+  -- all of them, behind another test
+  pub edited-and : (n : ℕ) (c : Bool) → inTurn v testing n c ≡ both (allEdited v test n) c
+  edited-and n c = turn-past v testing (λ b. both b c) true n (λ i value g b. go (test i value) b)
+    where
+      go : (a b : Bool) → both a (both b c) ≡ both (both a b) c
+      go true b = refl
+      go false b = refl
 
   pub edited-at : (n i : ℕ) (value : List ℕ) → allEdited v test n ≡ true → i < n → v i ≡ some value → test i value ≡ true
   edited-at zero i value h k e = absurd (omega arith)

@@ -1,5 +1,6 @@
--- What strings get by edits: for each id a value, or none. 02, No. 4.
--- docs/FORMAT.md: String patches, Many strings in one pass.
+-- What strings get by edits: for each id a value, or none. 02, Nos. 4 and 12.
+-- docs/FORMAT.md: String patches, Many strings in one pass, Merging in any order.
+use mathlib.Core.Path.{_≡_}
 use mathlib.Core.Bool.{Bool, true}
 use mathlib.Core.Option.{Option, none, some}
 use mathlib.Core.List.{List}
@@ -13,6 +14,21 @@ Values = ℕ → Option (List ℕ)
 -- one string gets a value
 abbrev pub only : ℕ → List ℕ → Values
 only id value i = pick (eqb i id) (some value) none
+
+-- ---- two patches, one behind the other
+
+-- what a string gets: the second's value, if it has one, else the first's
+abbrev pub lastOf : Option (List ℕ) → Option (List ℕ) → Option (List ℕ)
+lastOf none first = first
+lastOf (some value) first = some value
+
+-- what strings get by both
+abbrev pub joined : Values → Values → Values
+joined v w i = lastOf (w i) (v i)
+
+-- no string gets a value by both: "edits of different strings" (02, No. 12)
+abbrev pub Apart : Values → Values → Type 0
+Apart v w = (i : ℕ) (x y : List ℕ) → v i ≡ some x → w i ≡ some y → ⊥
 
 -- ---- a list of edits, as a function of their number with a count
 

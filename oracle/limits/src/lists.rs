@@ -2,27 +2,16 @@
 //! goes far past them; and the storage offset 0x800000.
 
 use oracle::image::layout::Layout;
-use oracle::job::packing::Mode;
+use oracle::job::packing::{Mode, MODES};
 use oracle::patches::odd::{due, grown, PAST_FIELD, SHARED};
+use oracle::patches::orders::Step;
 use oracle::patches::small::{Bare, Places};
 use oracle::patches::{even, pass, Kind, Patch};
 
-use crate::modes::{is_answered, is_put, MODES};
+use crate::modes::{is_answered, is_put};
 use crate::{FAR, LIMIT};
 
 type Edits<'a> = [(u32, &'a [u8])];
-
-/// The words of a list, and its text.
-fn list(edits: &Edits) -> (Vec<u8>, Vec<u8>) {
-    let text = edits.iter().flat_map(|(_, value)| value.to_vec()).collect();
-    let mut end = 0;
-    let ends = edits.iter().map(|(_, value)| {
-        end += value.len() as u32;
-        end
-    });
-    let words = edits.iter().map(|(id, _)| *id).chain(ends);
-    (words.flat_map(u32::to_le_bytes).collect(), text)
-}
 
 /// String 0 keeps its length, and string 1 is emptied, which has as many bytes.
 fn emptied() -> [(u32, Vec<u8>); 2] {
@@ -30,9 +19,9 @@ fn emptied() -> [(u32, Vec<u8>); 2] {
 }
 
 fn with_pass(image: &[u8], edits: &Edits, holds: impl Fn(Patch) -> bool) -> bool {
-    let (words, text) = list(edits);
-    let (kind, mode, layout, id) = (Kind::Pass, Mode::Plain, Layout(0), edits.len() as u32);
-    holds(Patch { kind, mode, layout, id, old: &words, new: &text, image, room: LIMIT })
+    let Step { kind, id, old, new } = &Step::pass(edits);
+    let (mode, layout) = (Mode::Plain, Layout(0));
+    holds(Patch { kind: *kind, mode, layout, id: *id, old, new, image, room: LIMIT })
 }
 
 /// The numbers that refuse the pass in plain and in even mode, 0 for none; and the one that its first step meets, alone.

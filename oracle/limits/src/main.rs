@@ -1,40 +1,21 @@
-//! Limits that no stream of calls reaches, since they take inputs or results of 8 to 70 MB: the archive of our exports
-//! is linked and held to the Rust, and to documents 01 and 02 where the Rust has no limit, no such mode and no such pass. Ends
-//! with 1 at the first difference.
+//! Limits that no stream of calls reaches, since they take inputs or results of 8 to 70 MB: our exports are held to the
+//! Rust, and to documents 01 and 02 where the Rust has no limit, no such mode and no such pass. Ends with 1 at the first
+//! difference.
 
 mod lists;
 mod modes;
 
 use std::process::ExitCode;
 
+use exports::{OLD, REFUSED};
 use hbc_decomp::write::serialize::{build_minimal_modern, finalize_raw_image};
 
-extern "C" {
-    fn nepuladrim_finalize(image: *mut u8, length: usize) -> u64;
-    #[allow(clippy::too_many_arguments)]
-    fn nepuladrim_build(
-        version: u32,
-        text: *const u8,
-        text_length: usize,
-        ends: *const u32,
-        ends_length: usize,
-        body: *const u8,
-        body_length: usize,
-        out: *mut u8,
-        out_length: usize,
-    ) -> u64;
-}
-
-/// What an answer adds to the number of a refusal.
-const REFUSED: u64 = 1 << 32;
 /// 01, refusals 1 and 11.
 const LIMIT: usize = 67_108_864;
 /// 01, refusal 12.
 const FAR: usize = 0x80_0000;
 /// The length of an image with no strings and an empty body: 144 bytes of sections, 40 of a large header, the footer.
 const EMPTY: usize = 204;
-/// What `out` holds before a call.
-const OLD: u8 = 0xa5;
 
 struct Job {
     text: Vec<u8>,
@@ -44,20 +25,7 @@ struct Job {
 
 impl Job {
     fn ours(&self, out: &mut [u8]) -> u64 {
-        let Job { text, ends, body } = self;
-        unsafe {
-            nepuladrim_build(
-                98,
-                text.as_ptr(),
-                text.len(),
-                ends.as_ptr(),
-                ends.len(),
-                body.as_ptr(),
-                body.len(),
-                out.as_mut_ptr(),
-                out.len(),
-            )
-        }
+        exports::build(98, &self.text, &self.ends, &self.body, out)
     }
 
     fn theirs(&self) -> Option<Vec<u8>> {
@@ -106,7 +74,7 @@ fn empty_strings(count: usize) -> Job {
 fn is_finalized(length: usize) -> bool {
     let image: Vec<u8> = (0..length).map(|i| (i * 31 + i / 127) as u8).collect();
     let mut ours = image.clone();
-    let answer = unsafe { nepuladrim_finalize(ours.as_mut_ptr(), ours.len()) };
+    let answer = exports::finalize(&mut ours);
     if length > LIMIT {
         return answer == REFUSED + 1 && ours == image;
     }

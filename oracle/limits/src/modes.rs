@@ -4,55 +4,14 @@
 
 use oracle::image::layout::{word, Layout};
 use oracle::image::reading::Reading;
-use oracle::job::packing::{Mode, Slip};
+use oracle::job::packing::{Mode, Slip, MODES};
 use oracle::patches::judgement::judge;
 use oracle::patches::odd::{due, grown, PAST_FIELD, SHARED};
 use oracle::patches::small::Places;
 use oracle::patches::{even, Kind, Patch};
 
-use crate::{FAR, LIMIT, OLD, REFUSED};
+use crate::{FAR, LIMIT};
 
-extern "C" {
-    fn nepuladrim_patch_string_by_id(
-        image: *const u8,
-        length: usize,
-        layout: u8,
-        mode: u8,
-        id: u32,
-        value: *const u8,
-        value_length: usize,
-        out: *mut u8,
-        room: usize,
-    ) -> u64;
-    fn nepuladrim_patch_string_replace(
-        image: *const u8,
-        length: usize,
-        layout: u8,
-        mode: u8,
-        old: *const u8,
-        old_length: usize,
-        new: *const u8,
-        new_length: usize,
-        out: *mut u8,
-        room: usize,
-    ) -> u64;
-    fn nepuladrim_patch_strings(
-        image: *const u8,
-        length: usize,
-        layout: u8,
-        mode: u8,
-        ids: *const u32,
-        ids_count: usize,
-        text: *const u8,
-        text_length: usize,
-        ends: *const u32,
-        ends_count: usize,
-        out: *mut u8,
-        room: usize,
-    ) -> u64;
-}
-
-pub const MODES: [Mode; 2] = [Mode::Plain, Mode::Even];
 const WIDE: bool = true;
 const NARROW: bool = false;
 
@@ -62,39 +21,10 @@ fn emptied(layout: u8, image: &[u8]) -> Patch<'_> {
     Patch { kind, mode, layout, id: 0, old: &[], new: &[], image, room: LIMIT }
 }
 
-fn ours(patch: &Patch, out: &mut [u8]) -> u64 {
-    let Patch { image, old, new, .. } = patch;
-    let (layout, mode) = (patch.layout.0, u8::from(patch.mode == Mode::Even));
-    let (from, length) = (image.as_ptr(), image.len());
-    let (to, room) = (out.as_mut_ptr(), out.len());
-    let ([a, b], [m, n]) =
-        ([old, new].map(|part| part.as_ptr()), [old, new].map(|part| part.len()));
-    unsafe {
-        match patch.kind {
-            Kind::ByValue => {
-                nepuladrim_patch_string_replace(from, length, layout, mode, a, m, b, n, to, room)
-            }
-            Kind::Pass => {
-                let lists = patch.list();
-                let [(a, m), (c, k)] =
-                    [&lists.ids, &lists.ends].map(|list| (list.as_ptr(), list.len()));
-                nepuladrim_patch_strings(from, length, layout, mode, a, m, b, n, c, k, to, room)
-            }
-            _ => {
-                nepuladrim_patch_string_by_id(from, length, layout, mode, patch.id, b, n, to, room)
-            }
-        }
-    }
-}
-
-/// We answer so: the image, and a byte behind it stays, or the number, and all stays.
+/// We answer so, with one byte to spare.
 pub fn is_answered(patch: &Patch, theirs: &Result<Vec<u8>, u32>) -> bool {
-    let (answer, image) = match theirs {
-        Ok(image) => (image.len() as u64, &image[..]),
-        Err(number) => (REFUSED + u64::from(*number), &[][..]),
-    };
-    let mut out = vec![OLD; image.len() + 1];
-    ours(patch, &mut out) == answer && out.starts_with(image) && out.ends_with(&[OLD])
+    let room = theirs.as_ref().map_or(0, Vec::len) + 1;
+    exports::is_answered(&Patch { room, ..*patch }, theirs)
 }
 
 /// The last string's offset, and whether it has an overflow pair.

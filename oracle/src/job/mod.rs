@@ -4,6 +4,7 @@ pub mod made;
 pub mod packing;
 pub mod pass;
 pub mod patch;
+pub mod wrong;
 
 use crate::image::layout::Layout;
 use crate::image::reading::Reading;

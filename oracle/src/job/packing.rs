@@ -9,6 +9,8 @@ pub enum Mode {
     Even,
 }
 
+pub const MODES: [Mode; 2] = [Mode::Plain, Mode::Even];
+
 /// Mistakes that a program could make with the modes.
 #[derive(Clone, Copy, PartialEq, Debug)]
 pub enum Slip {

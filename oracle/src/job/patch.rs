@@ -64,10 +64,10 @@ struct Function {
 pub(super) struct Parts<'a> {
     layout: Layout,
     pub image: &'a [u8],
-    hashes: usize,
-    small: usize,
+    pub hashes: usize,
+    pub small: usize,
     pub storage: usize,
-    tail: usize,
+    pub tail: usize,
     pub texts: Vec<Text>,
     pub identifiers: Vec<bool>,
     functions: Vec<Function>,
@@ -166,15 +166,15 @@ impl<'a> Parts<'a> {
     pub fn put_hash(&self, new: &mut [u8], id: usize, value: &str) {
         if self.identifiers[id] {
             let rank = self.identifiers[..id].iter().filter(|is| **is).count();
-            set_word(new, self.hashes + 4 * rank, hash(value));
+            set_word(new, self.hashes + 4 * rank, hash(value.encode_utf16()));
         }
     }
 
-    fn bytes(&self, text: &Text) -> &[u8] {
+    pub fn bytes(&self, text: &Text) -> &[u8] {
         &self.image[self.storage + text.start..self.storage + text.end]
     }
 
-    fn units(&self, text: &Text) -> Vec<u16> {
+    pub fn units(&self, text: &Text) -> Vec<u16> {
         let width = if text.wide { 2 } else { 1 };
         self.bytes(text).chunks(width).map(|unit| number(unit, 0, width) as u16).collect()
     }
@@ -214,15 +214,28 @@ impl<'a> Parts<'a> {
         let has_room = judged(13) + rest <= room;
         self.judge(judged(11) + rest, &moved_to(judged(12)), true, has_room)?;
 
+        let storage = packing.storage(&packed, &pieces);
+        Ok(self.with_tail(self.front(&packed.smalls, &packed.pairs, &storage), true))
+    }
+
+    /// Other tables and storage behind what stands before them, up to the place of the tail.
+    pub fn front(&self, smalls: &[u32], pairs: &[u32], storage: &[u8]) -> Vec<u8> {
         let mut new = self.image[..self.small].to_vec();
-        set_word(&mut new, OVERFLOWS, packed.pairs.len() as u32 / 2);
-        set_word(&mut new, STORAGE, packed.size as u32);
-        new.extend(packed.smalls.iter().chain(&packed.pairs).flat_map(|word| word.to_le_bytes()));
-        new.extend(packing.storage(&packed, &pieces));
-        new.resize(tail as usize, 0);
+        set_word(&mut new, OVERFLOWS, pairs.len() as u32 / 2);
+        set_word(&mut new, STORAGE, storage.len() as u32);
+        new.extend(smalls.iter().chain(pairs).flat_map(|word| word.to_le_bytes()));
+        new.extend(storage);
+        new.resize(new.len().next_multiple_of(4), 0);
+        new
+    }
+
+    /// The tail behind another front, with all places in it moved. `whole`: as in `relocate`.
+    pub fn with_tail(&self, front: Vec<u8>, whole: bool) -> Vec<u8> {
+        let tail = front.len() as u64;
+        let mut new = front;
         new.extend(&self.image[self.tail..]);
-        self.relocate(&mut new, &moved_to(tail), true, None);
-        Ok(new)
+        self.relocate(&mut new, &|place| place as u64 + tail - self.tail as u64, whole, None);
+        new
     }
 
     fn piece(&self, text: &Text) -> Piece<'_> {
@@ -367,8 +380,8 @@ fn function(layout: Layout, image: &[u8], id: usize) -> Function {
 }
 
 /// "per UTF-16 unit, add it, add the sum shifted left 10, xor with itself shifted right 6"
-fn hash(value: &str) -> u32 {
-    value.encode_utf16().fold(0u32, |hash, unit| {
+pub(super) fn hash(units: impl IntoIterator<Item = u16>) -> u32 {
+    units.into_iter().fold(0u32, |hash, unit| {
         let sum = hash.wrapping_add(unit.into());
         let sum = sum.wrapping_add(sum << 10);
         sum ^ sum >> 6

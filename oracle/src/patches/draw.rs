@@ -1,18 +1,18 @@
 //! Patches at random, and the fixed calls.
 
 use super::judgement::judge;
-use super::{lists, odd, small, texts, Kind, Patch};
+use super::{lists, odd, orders, small, texts, Kind, Patch};
 use crate::image::damage::DAMAGES;
 use crate::image::layout::{set_word, Layout, LAYOUTS};
 use crate::image::maker::{make, put_function, Made, Shape, LARGE, MIDDLE, ODD, SMALL};
 use crate::image::reading::{Reading, Stored};
-use crate::job::packing::Mode;
+use crate::job::packing::{Mode, MODES};
 use crate::random::Random;
 use crate::stream::Call;
 
 /// The values that a string is patched to, in turn.
 #[derive(Clone, Copy, PartialEq)]
-pub(super) enum Value {
+pub enum Value {
     EqualAscii,
     OtherAscii,
     EqualAccented,
@@ -25,7 +25,7 @@ pub(super) enum Value {
     Another,
 }
 
-pub(super) const VALUES: [Value; 10] = [
+pub const VALUES: [Value; 10] = [
     Value::EqualAscii,
     Value::OtherAscii,
     Value::EqualAccented,
@@ -68,11 +68,11 @@ fn accented(random: &mut Random, length: usize) -> String {
     text
 }
 
-fn text(reading: &Reading, string: &Stored) -> String {
+pub fn text(reading: &Reading, string: &Stored) -> String {
     String::from_utf16_lossy(&texts::units(reading, string))
 }
 
-pub(super) fn value(random: &mut Random, reading: &Reading, own: &Stored, value: Value) -> Vec<u8> {
+pub fn value(random: &mut Random, reading: &Reading, own: &Stored, value: Value) -> Vec<u8> {
     let size = (own.end - own.start) as usize;
     let text = match value {
         Value::EqualAscii => ascii(random, size),
@@ -233,11 +233,11 @@ fn string_kind(random: &mut Random) -> Kind {
 }
 
 fn mode(random: &mut Random) -> Mode {
-    random.pick(&[Mode::Plain, Mode::Even])
+    random.pick(&MODES)
 }
 
 /// The image, patched once before or damaged, or as it was made.
-fn prepared(random: &mut Random, made: Made) -> Option<(Layout, Vec<u8>)> {
+pub fn prepared(random: &mut Random, made: Made) -> Option<(Layout, Vec<u8>)> {
     let layout = made.layout;
     if random.one_in(16) {
         let damage = random.pick(&DAMAGES).1;
@@ -289,7 +289,7 @@ pub fn random(random: &mut Random) -> Call {
 }
 
 /// The departures' inputs, then each layout with each kind of value and each length of a body; then the even mode; then the
-/// pass.
+/// pass; then two patches in either order.
 pub fn fixed() -> Vec<Call> {
     let mut random = Random(32);
     let mut calls: Vec<Call> =
@@ -310,6 +310,7 @@ pub fn fixed() -> Vec<Call> {
         calls.extend(fixed_strings(&mut random, Mode::Even, layout, ODD, 1));
     }
     calls.extend(lists::fixed());
+    calls.extend(orders::fixed());
     calls
 }
 

@@ -37,7 +37,7 @@ pub fn judge(patch: &Patch) -> Judgement {
 /// wide string is at an odd place, else a longer image, or one of the same length.
 fn is_even_form(patch: &Patch, plain: &Answer, even: &Answer) -> bool {
     match (plain, even) {
-        (Ok(plain), even) if is_in_place(patch) || !has_odd(patch, plain) => {
+        (Ok(plain), even) if patch.is_in_place() || !has_odd(patch, plain) => {
             even.as_ref() == Ok(plain)
         }
         (Ok(plain), Ok(even)) => even.len() >= plain.len() && is_padded(patch, plain, even),
@@ -46,16 +46,6 @@ fn is_even_form(patch: &Patch, plain: &Answer, even: &Answer) -> bool {
         (Err(12), Err(number)) => matches!(number, 11 | 12),
         (plain, even) => plain == even,
     }
-}
-
-fn is_in_place(patch: &Patch) -> bool {
-    let reading = patch.reading();
-    let text = |bytes| std::str::from_utf8(bytes).unwrap();
-    let id = match patch.kind {
-        Kind::ByValue => texts::lowest(&reading, text(patch.old)).unwrap(),
-        _ => patch.id as usize,
-    };
-    texts::fits_in_place(&reading.strings(), id, text(patch.new))
 }
 
 fn has_odd(patch: &Patch, image: &[u8]) -> bool {

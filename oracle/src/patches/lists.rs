@@ -7,22 +7,20 @@ use super::{pass, texts, Kind, Patch};
 use crate::image::layout::{Layout, LAYOUTS};
 use crate::image::maker::{make, SMALL};
 use crate::image::reading::{Reading, Stored};
-use crate::job::packing::Mode;
+use crate::job::packing::{Mode, MODES};
 use crate::random::Random;
 use crate::stream::Call;
 
-const MODES: [Mode; 2] = [Mode::Plain, Mode::Even];
-
 /// A list as a call carries it.
 #[derive(Clone, Default)]
-struct List {
-    ids: Vec<u32>,
-    text: Vec<u8>,
+pub struct List {
+    pub ids: Vec<u32>,
+    pub text: Vec<u8>,
     ends: Vec<u32>,
 }
 
 impl List {
-    fn of<V: AsRef<[u8]>>(edits: &[(u32, V)]) -> List {
+    pub fn of<V: AsRef<[u8]>>(edits: &[(u32, V)]) -> List {
         let mut list = List::default();
         for (id, value) in edits {
             list.text.extend(value.as_ref());
@@ -32,7 +30,7 @@ impl List {
         list
     }
 
-    fn words(&self) -> Vec<u8> {
+    pub fn words(&self) -> Vec<u8> {
         self.ids.iter().chain(&self.ends).flat_map(|word| word.to_le_bytes()).collect()
     }
 

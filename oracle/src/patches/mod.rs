@@ -7,6 +7,7 @@ pub mod even;
 pub mod judgement;
 mod lists;
 pub mod odd;
+pub mod orders;
 pub mod parsed;
 pub mod pass;
 mod rust;
@@ -17,7 +18,7 @@ use crate::family::Argument::*;
 use crate::family::{Answered, Family, Function};
 use crate::image::layout::Layout;
 use crate::image::reading::Reading;
-use crate::job::packing::{self, Mode};
+use crate::job::packing::{self, Mode, MODES};
 use crate::job::pass as listed;
 use crate::stream::{words, Call, ARGUMENTS};
 use judgement::{judge, Departure};
@@ -47,7 +48,7 @@ pub enum Kind {
 fn modes(kind: Kind) -> &'static [Mode] {
     match kind {
         Kind::Body => &[Mode::Plain],
-        _ => &[Mode::Plain, Mode::Even],
+        _ => &MODES,
     }
 }
 
@@ -93,8 +94,8 @@ pub struct Patch<'a> {
     pub room: usize,
 }
 
-impl Patch<'_> {
-    fn of<'a>(kind: Kind, a: &[u32; ARGUMENTS], buffer: &'a [u8]) -> Patch<'a> {
+impl<'a> Patch<'a> {
+    fn of(kind: Kind, a: &[u32; ARGUMENTS], buffer: &'a [u8]) -> Patch<'a> {
         let (old, rest) = buffer.split_at(a[2] as usize);
         let (new, rest) = rest.split_at(a[3] as usize);
         let (image, out) = rest.split_at(a[4] as usize);
@@ -102,12 +103,33 @@ impl Patch<'_> {
         Patch { kind, mode, layout: Layout(a[0] as u8), id: a[1], old, new, image, room: out.len() }
     }
 
-    fn reading(&self) -> Reading<'_> {
+    fn reading(&self) -> Reading<'a> {
         Reading { layout: self.layout, image: self.image, slip: None }
     }
 
+    /// The strings that a string patch sets where it is accepted, and their values: by value the lowest with the old one.
+    pub fn edits(&self) -> Vec<listed::Edit<'a>> {
+        let text = |bytes| std::str::from_utf8(bytes).unwrap();
+        match self.kind {
+            Kind::ByValue => {
+                let found = texts::lowest(&self.reading(), text(self.old));
+                found.map(|id| (id as u32, self.new)).into_iter().collect()
+            }
+            Kind::Pass => self.list().edits(None).unwrap(),
+            _ => vec![(self.id, self.new)],
+        }
+    }
+
+    /// Whether each of these values fits in the place of its string.
+    pub fn is_in_place(&self) -> bool {
+        let strings = self.reading().strings();
+        self.edits().iter().all(|(id, value)| {
+            texts::fits_in_place(&strings, *id as usize, std::str::from_utf8(value).unwrap())
+        })
+    }
+
     /// The list of a pass.
-    pub fn list(&self) -> listed::List<'_> {
+    pub fn list(&self) -> listed::List<'a> {
         let lists = words(self.old);
         let (ids, ends) = lists.split_at(self.id as usize);
         listed::List { ids: ids.to_vec(), text: self.new, ends: ends.to_vec() }

@@ -5,7 +5,7 @@ use super::small::{Bare, Places};
 use super::{texts, Kind, Patch};
 use crate::image::layout::Layout;
 use crate::image::reading::Reading;
-use crate::job::packing::Mode;
+use crate::job::packing::{Mode, MODES};
 use crate::stream::Call;
 
 /// The longest image.
@@ -17,7 +17,7 @@ pub const SHARED: usize = 28_000;
 
 /// An image of strings, one behind the other: n or w, in capitals an identifier, and the count. It has a small and a
 /// large record, info places and a debug offset.
-pub(super) fn packed(layout: u8, strings: &str) -> Bare {
+pub fn packed(layout: u8, strings: &str) -> Bare {
     let mut image = Bare { layout, tail: 28, debug: Some(8), ..Bare::default() };
     for word in strings.split(' ') {
         let (kind, count) = word.split_at(1);
@@ -133,7 +133,7 @@ fn again() -> Vec<Call> {
     let first = packed(3, "n2 w1 n1 w0 n2 W1").image();
     let image = even::read(&patch(&first, 3, 0, "a"), None).unwrap();
     let mut calls = vec![];
-    for mode in [Mode::Plain, Mode::Even] {
+    for mode in MODES {
         for (id, value) in [(0, "abc"), (0, "b"), (2, ""), (3, ""), (5, "é")] {
             calls.push(call(Patch { mode, ..patch(&image, 3, id, value) }, 0));
         }

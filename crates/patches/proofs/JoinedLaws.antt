@@ -1,9 +1,10 @@
--- One string more gets a value: on top of what the others get it goes over its old bytes, and its hash into its slot. 02, No. 4.
+-- Two maps of values that set no string both: the values of the second go over the old bytes on top of those of the first, and their
+-- hashes into their slots. 02, Nos. 4 and 12.
 use mathlib.Core.Path.{_≡_, refl, sym, _∙_}
 use mathlib.Core.Bool.{Bool, true, false}
 use mathlib.Core.Logic.{inl, inr, _≢_}
 use mathlib.Core.List.{List}
-use Prim.Native.Nat.{ℕ, zero, suc, _+_, _*_, _≤_, _<_}
+use Prim.Native.Nat.{ℕ, _+_, _*_, _≤_, _<_}
 use native.Mathlib.Omega.{arith}
 use lib.ListN.{length, getD}
 use lib.Seq.{sets, length-sets}
@@ -21,24 +22,10 @@ use Rattle.image.proofs.PlaceLaws.{hash-in}
 use Rattle.image.proofs.KindLaws.{rank-rises, rank-lt}
 use Rattle.edits.proofs.HitLaws.{sets-both}
 use Rattle.unicode.specs.Utf8.{utf16}
-use Rattle.string_edits.specs.Values.{Values, only, inTurn}
-use Rattle.string_edits.proofs.TurnLaws.{some-or-none, turn-none, turn-some, turn-start, turn-only, OneMore, turn-more}
+use Rattle.string_edits.specs.Values.{Values, joined, Apart}
+use Rattle.string_edits.proofs.TurnLaws.{turn-both, gets-apart, turn-joined, edited-and}
 use Rattle.string_in_place.specs.Patch.{fitsInPlace, fitsAll, overOld, inPlace, hashed, rehashed}
 use Rattle.patches.proofs.InPlaceLaws.{spot, sized, apart, AllFit, fits-each}
-use Rattle.patches.proofs.OneEditLaws.{both-true}
-
--- what holds of two and is kept by each turn of both holds after all
-turn-both : {A : Type 0} (v : Values) (turn : ℕ → List ℕ → A → A) (R : A → A → Type 0) (a b : A) (n : ℕ) → R a b
-    → ((i : ℕ) (value : List ℕ) (x y : A) → i < n → R x y → R (turn i value x) (turn i value y))
-    → R (inTurn v turn n a) (inTurn v turn n b)
-turn-both v turn R a b zero r t = rw (turn-start v turn a, turn-start v turn b) r
-turn-both v turn R a b (suc n) r t =
-    let rest = turn-both v turn R a b n r (λ i value x y h. t i value x y (omega arith)) in
-    elim (some-or-none (v n)) [
-      | inl q ↦ rw (turn-none v turn a n q, turn-none v turn b n q) rest
-      | inr (value, q) ↦ rw (turn-some v turn a n value q, turn-some v turn b n value q)
-          (t n value (inTurn v turn n a) (inTurn v turn n b) (omega arith) rest)
-    ]
 
 -- ---- one hash slot
 
@@ -56,7 +43,7 @@ module _ (l : Layout) (s : List ℕ) (id : ℕ) (value : List ℕ) where
   hash = bytesOf 4 (hashOf (utf16 value))
 
   -- a byte hangs only on that byte before
-  pub hashed-byte : Admitted l s → id < stringsIn s → (p : ℕ) (a b : List ℕ) → SameByte l s p a b
+  hashed-byte : Admitted l s → id < stringsIn s → (p : ℕ) (a b : List ℕ) → SameByte l s p a b
       → SameByte l s p (hashed l s id value a) (hashed l s id value b)
   unfolding hashed
   hashed-byte ad known p a b r = go (isIdentifier l s id) refl
@@ -102,34 +89,14 @@ unfolding rehashed
 rehashed-byte l s ad v p a b r =
     turn-both v (hashed l s) (SameByte l s p) a b (stringsIn s) r (λ i value x y h. hashed-byte l s i value ad h p x y)
 
--- ---- the value alone
-
-module _ (l : Layout) (s : List ℕ) (id : ℕ) (value : List ℕ) (known : id < stringsIn s) where
-  pub fits-only : fitsAll l s (only id value) ≡ fitsInPlace l s id value
-  unfolding fitsAll
-  fits-only = turn-only id value _ true (stringsIn s) known ∙ both-true (fitsInPlace l s id value)
-
-  pub in-place-only : (out : List ℕ) → inPlace l s (only id value) out ≡ overOld l s id value out
-  unfolding inPlace
-  in-place-only out = turn-only id value (overOld l s) out (stringsIn s) known
-
-  pub rehashed-only : (out : List ℕ) → rehashed l s (only id value) out ≡ hashed l s id value out
-  unfolding rehashed
-  rehashed-only out = turn-only id value (hashed l s) out (stringsIn s) known
-
 -- ---- on top of others
 
--- a string of s that gets no value by v gets one by w
-pub record OneMoreIn (s : List ℕ) (v w : Values) (id : ℕ) (value : List ℕ) : Type 0 where
-  pub known : id < stringsIn s
-  pub more : OneMore v w id value
-
-module _ (l : Layout) (s : List ℕ) (v w : Values) (id : ℕ) (value : List ℕ) (om : OneMoreIn s v w id value) where
-  pub fits-more : fitsAll l s w ≡ both (fitsInPlace l s id value) (fitsAll l s v)
+module _ (l : Layout) (s : List ℕ) (v d : Values) (parted : Apart v d) where
+  pub fits-joined : fitsAll l s (joined v d) ≡ both (fitsAll l s d) (fitsAll l s v)
   unfolding fitsAll
-  fits-more =
-      turn-more v w id value (om .more) _ true (stringsIn s) (om .known)
-      (λ i h d x q b. go (fitsInPlace l s i x) (fitsInPlace l s id value) b)
+  fits-joined =
+      turn-joined v d parted _ true (stringsIn s) (λ i j x y g h b. go (fitsInPlace l s j y) (fitsInPlace l s i x) b)
+      ∙ edited-and d (fitsInPlace l s) (stringsIn s) (fitsAll l s v)
     where
       go : (a b c : Bool) → both a (both b c) ≡ both b (both a c)
       go true true c = refl
@@ -137,20 +104,22 @@ module _ (l : Layout) (s : List ℕ) (v w : Values) (id : ℕ) (value : List ℕ
       go false true c = refl
       go false false c = refl
 
-  pub in-place-more : AllFit l s v → fitsInPlace l s id value ≡ true → (out : List ℕ)
-      → inPlace l s w out ≡ overOld l s id value (inPlace l s v out)
+  pub in-place-joined : AllFit l s v → AllFit l s d → (out : List ℕ)
+      → inPlace l s (joined v d) out ≡ inPlace l s d (inPlace l s v out)
   unfolding inPlace overOld
-  in-place-more all fit out =
-      turn-more v w id value (om .more) (overOld l s) out (stringsIn s) (om .known)
-      (λ i h d x q b.
-      let n = sized l s i x (fits-each l s v all i x (record { known = h; gets = q })) in
-      elim (below-or (spot l s id) (spot l s i + length x)) [
-        | inl g ↦ sym (sets-comm value x b (spot l s id) (spot l s i) (apart l s id value fit i h d (omega arith)))
-        | inr g ↦ sets-comm x value b (spot l s i) (spot l s id) g
+  in-place-joined old new out =
+      turn-joined v d parted (overOld l s) out (stringsIn s)
+      (λ i j x y g h b.
+      let n = sized l s i x (fits-each l s v old i x g) in
+      let fit = fits-each l s d new j y h in
+      let o = apart l s j y fit i (g .known) (gets-apart v d parted i j x y (g .gets) (h .gets)) in
+      elim (below-or (spot l s j) (spot l s i + length x)) [
+        | inl k ↦ sets-comm y x b (spot l s j) (spot l s i) (o (omega arith))
+        | inr k ↦ sym (sets-comm x y b (spot l s i) (spot l s j) k)
       ])
 
-  pub rehashed-more : (out : List ℕ) → rehashed l s w out ≡ hashed l s id value (rehashed l s v out)
+  pub rehashed-joined : (out : List ℕ) → rehashed l s (joined v d) out ≡ rehashed l s d (rehashed l s v out)
   unfolding rehashed
-  rehashed-more out =
-      turn-more v w id value (om .more) (hashed l s) out (stringsIn s) (om .known)
-      (λ i h d x q b. hashed-comm l s i id x value b d)
+  rehashed-joined out =
+      turn-joined v d parted (hashed l s) out (stringsIn s)
+      (λ i j x y g h b. sym (hashed-comm l s i j x y b (gets-apart v d parted i j x y (g .gets) (h .gets))))
