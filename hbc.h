@@ -65,6 +65,31 @@ uint64_t nepuladrim_patch_strings(const uint8_t *image, size_t image_length, uin
                                   size_t ids_length, const uint8_t *text, size_t text_length, const uint32_t *ends,
                                   size_t ends_length, uint8_t *out, size_t out_length);
 
+// The strings of an image become what a translators' file says, all of it or nothing. `file` is a subset of PO: pairs of a msgid and a
+// msgstr, each behind its keyword and one space as quoted text, with lines of quoted text that continue it; between pairs, empty lines and
+// lines that begin with #. Escapes are \n, \t, \" and \\. Every line ends with a line feed, and has no other byte below 32; all is UTF-8.
+// The pair with the empty msgid, the header, and pairs with an empty msgstr are not applied. Each other msgid is looked up in the image as
+// it is given, and every plain string that has it gets the msgstr; no identifier does. What comes out is what the patches by id make one
+// after the other, lowest id first; with none the image gets its file length and footer.
+// `text`, `ends` and `work` are lent to work in: of bytes as many as the file has; of words one for every 8 bytes of the file, rounded
+// down, and one more; and of words three times as many as that and one for each string of the image. `ends_length` and `work_length`
+// count words. What is asked for of them is zeros afterwards, whatever the answer is, and what lies behind that is as it was.
+// Refused with 15, for another layout or mode byte; 1 to 6; 13 where one of the three is shorter, or the file has 2^32 bytes or more; these
+// write nothing, to the three neither. Then with 16 for a line outside the subset, bytes that are not UTF-8, or a msgid that is given
+// twice, be it the header's; 14 for a msgid to be applied that no plain string has; and 11, 12, 13 as the first of the patches by id that
+// meets one, each with the room of `out`; with none, 13 where `out` is shorter than the image.
+uint64_t nepuladrim_read_po(const uint8_t *image, size_t image_length, uint8_t layout, uint8_t mode, const uint8_t *file,
+                            size_t file_length, uint8_t *text, size_t text_length, uint32_t *ends, size_t ends_length, uint32_t *work,
+                            size_t work_length, uint8_t *out, size_t out_length);
+
+// A translators' file of an image: one pair for each plain string that is not empty, is valid UTF-16 and has no unit below 32 but newline
+// and tab, in the order of ids, equal ones once; its msgid on one line, an empty msgstr, an empty line. nepuladrim_read_po takes the file,
+// and reads those msgids in that order. `work` is lent to work in, four words for each string of the image: they are zeros afterwards.
+// Refused with 15, 1 to 6; 13 where `work` is shorter, of which nothing is written then; and 13 where `out` is shorter than the file, or
+// that would have 2^32 bytes or more.
+uint64_t nepuladrim_write_po(const uint8_t *image, size_t image_length, uint8_t layout, uint32_t *work, size_t work_length, uint8_t *out,
+                             size_t out_length);
+
 // The body of function `id` becomes other bytes. Refused with 15, 1 to 7, 9 to 13.
 uint64_t nepuladrim_patch_function_bytes(const uint8_t *image, size_t image_length, uint8_t layout, uint32_t id,
                                          const uint8_t *body, size_t body_length, uint8_t *out, size_t out_length);

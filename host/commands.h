@@ -6,7 +6,7 @@
 
 typedef int command(char **words);
 
-command demo, help, list, locate, patch, verify;
+command demo, extract, help, list, locate, patch, translate, verify;
 
 // What `hbc help` prints.
 void print_usage(FILE *to);

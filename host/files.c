@@ -21,6 +21,8 @@ uint8_t *room_for(size_t length) {
     return at;
 }
 
+uint32_t *words_for(size_t count) { return (uint32_t *)(void *)room_for(count * sizeof(uint32_t)); }
+
 bool is_standard(const char *name) { return strcmp(name, "-") == 0; }
 
 const char *input_name(const char *name) { return is_standard(name) ? "standard input" : name; }
@@ -72,4 +74,10 @@ struct bytes read_file(const char *name, size_t most) {
     if (file != STDIN_FILENO) close(file);
     uint8_t *fitting = realloc(all.at, all.length + 1);
     return (struct bytes){fitting ? fitting : all.at, all.length};
+}
+
+struct bytes read_value(const char *name) {
+    struct bytes value = read_file(name, VALUE_MOST);
+    if (value.length > VALUE_MOST) fail("'%s' has over %zu bytes", name, VALUE_MOST);
+    return value;
 }

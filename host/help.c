@@ -13,6 +13,21 @@ static const char DEMO[] =
     "usage: hbc demo\n"
     "Builds a small image, patches two strings and a body of it, lists it before and after, and has sha1sum check its footer.\n";
 
+static const char EXTRACT[] =
+    "usage: hbc extract IMAGE FILE.po [--layout LAYOUT] [--header]\n"
+    "Writes a translators' file, in gettext's PO format and in UTF-8: for each plain string of the image its text as a msgid, on one\n"
+    "line, and an empty msgstr for the translation, lowest id first. hbc translate takes the file back. What is written and what is\n"
+    "passed over is printed in numbers; passed over are identifiers, empty strings, texts that an earlier string has, and what no PO\n"
+    "file can say: strings that are not valid UTF-16, or have controls other than newline and tab.\n"
+    "\n"
+    "--header puts the usual header in front: a pair with an empty msgid that says, among other things, that the file is UTF-8. Most\n"
+    "tools of gettext and most editors want it: msgfmt -c refuses a file without it, and msgmerge spoils accents. hbc translate takes\n"
+    "the file with it or without. The language is left for the translator to fill in, of which msgfmt -c warns.\n"
+    "\n"
+    "FILE.po is written whole or not at all, as hbc patch writes its OUT, and in place of what was there: translations too. To bring a\n"
+    "file of translations up to a new image, extract to another name and have msgmerge put the two together. Where FILE.po is -, the\n"
+    "file goes to standard output, and the numbers to standard error.\n";
+
 static const char LIST[] =
     "usage: hbc list IMAGE [--layout LAYOUT] [--text]\n"
     "       hbc list IMAGE LAYOUT\n"
@@ -62,6 +77,30 @@ static const char PATCH[] =
     "nothing: wide strings at odd places stay there until an edit packs the strings anew. An edit of a wide string always does,\n"
     "also to its own text. How many have stayed is printed.\n";
 
+static const char TRANSLATE[] =
+    "usage: hbc translate IMAGE OUT FILE.po... [--layout LAYOUT] [--even] [--dry-run] [--no-fuzzy]\n"
+    "Writes the image with the translations of the files to OUT, all of them or none, and prints what changed and how many pairs of\n"
+    "each file were applied or set aside. A msgid is looked up among the plain strings of the image, and each that has just this text\n"
+    "gets the msgstr; identifiers are never changed. The files are applied in their order, each to what the one before it made. What\n"
+    "comes out is what hbc patch makes of the same strings, one by one, lowest id first. OUT is written as by hbc patch, and may be\n"
+    "IMAGE; a name that ends in .po is not taken for it. --dry-run judges and prints the same and writes nothing; before a single file\n"
+    "it needs no OUT.\n"
+    "\n"
+    "What is read is a subset of gettext's PO format, in UTF-8:\n"
+    "  msgid \"TEXT\"     one space behind the keyword; then lines of quoted text alone may continue it\n"
+    "  msgstr \"TEXT\"    the same; it stands right behind its msgid\n"
+    "and between pairs empty lines and lines that begin with #. In a text, \\n, \\t, \\\" and \\\\ are escapes. Each line ends with a\n"
+    "line feed. Not read, so that the file is refused: other keywords (msgctxt, msgid_plural, msgstr[0]), other escapes, tabs and\n"
+    "other controls, carriage returns, spaces around what is quoted, a byte order mark, and a msgid that stands there twice. A refusal\n"
+    "names the line; where no plain string has a msgid, it also names texts that are near it.\n"
+    "\n"
+    "Not applied are the header, which is the pair with the empty msgid, and pairs whose msgstr is empty: these are not translated. So\n"
+    "no file can make a string empty: hbc patch can. A pair that a comment #, fuzzy calls a guess is applied like any other, though\n"
+    "gettext leaves it out; how many there were is printed, and with --no-fuzzy such a file is not applied, with the exit status 1.\n"
+    "Obsolete entries, which begin with #~, are comments, and what was the old msgid, behind #|, is one too.\n"
+    "\n"
+    "--even starts wide strings at even places: hbc help patch.\n";
+
 static const char VERIFY[] =
     "usage: hbc verify IMAGE [--layout LAYOUT]\n"
     "       hbc verify IMAGE LAYOUT\n"
@@ -78,7 +117,8 @@ static const char HELP[] = "usage: hbc help [COMMAND]\nPrints the commands, or w
 static const struct {
     const char *name, *text;
 } TEXTS[] = {
-    {"demo", DEMO}, {"help", HELP}, {"install", INSTALL}, {"list", LIST}, {"locate", LOCATE}, {"patch", PATCH}, {"verify", VERIFY},
+    {"demo", DEMO},     {"extract", EXTRACT}, {"help", HELP},           {"install", INSTALL}, {"list", LIST},
+    {"locate", LOCATE}, {"patch", PATCH},     {"translate", TRANSLATE}, {"verify", VERIFY},
 };
 
 void print_usage(FILE *to) {

@@ -1,6 +1,6 @@
-// hbc: lists, patches and verifies Hermes bytecode images of every size, and locates their strings. It reads files and words, lends
-// them to the proved functions of hbc.h, and writes what came back. Which image or edit is refused, what is listed and what is made,
-// those functions say.
+// hbc: lists, patches and verifies Hermes bytecode images of every size, locates their strings, and brings these to translators and back.
+// It reads files and words, lends them to the proved functions of hbc.h, and writes what came back. Which image, edit or file is refused,
+// what is listed and what is made, those functions say.
 #include "commands.h"
 #include "files.h"
 #include "print.h"
@@ -11,8 +11,8 @@ static const struct {
     const char *name;
     command *run;
 } COMMANDS[] = {
-    {"demo", demo},   {"help", help},     {"list", list},   {"locate", locate},
-    {"patch", patch}, {"verify", verify}, {"--help", help}, {"-h", help},
+    {"demo", demo},   {"extract", extract},     {"help", help},     {"list", list},   {"locate", locate},
+    {"patch", patch}, {"translate", translate}, {"verify", verify}, {"--help", help}, {"-h", help},
 };
 
 int main(int count, char **words) {

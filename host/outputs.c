@@ -71,6 +71,12 @@ struct output output_of(const char *name) {
     return output;
 }
 
+bool is_that_file(const struct output *output, const char *name) {
+    struct stat known;
+    if (!output->path || !output->is_there || is_standard(name) || stat(name, &known) < 0) return false;
+    return known.st_dev == output->old.st_dev && known.st_ino == output->old.st_ino;
+}
+
 // ---- writing
 
 static bool write_all(int file, struct bytes bytes) {

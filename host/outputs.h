@@ -16,6 +16,9 @@ struct output {
 // Judges the name of an output. What is there and is no regular file, or cannot be written, ends the run.
 struct output output_of(const char *name);
 
+// Whether an output is the file of a name, which is read.
+bool is_that_file(const struct output *output, const char *name);
+
 // Writes an output: a file beside it, with its mode or that of a new file, synced, then renamed. A run ends where that fails. Nothing is
 // left behind then, nor where INT, TERM or HUP end it.
 void write_output(struct output output, struct bytes bytes);

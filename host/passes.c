@@ -25,8 +25,6 @@ struct lists {
     struct bytes text;
 };
 
-static uint32_t *words_for(size_t count) { return (uint32_t *)(void *)room_for(count * sizeof(uint32_t)); }
-
 static struct lists lists_of(const struct edit *edits, size_t count) {
     struct lists lists = {words_for(count), words_for(count), {NULL, 0}};
     for (size_t i = 0; i < count; i++) {
@@ -83,4 +81,55 @@ struct fault fault_of(struct bytes image, uint8_t layout, const struct edit *edi
     }
     free_lists(lists);
     return fault;
+}
+
+// ---- edits that meet a limit one by one
+
+// How often it is asked for at most: an image near its limit is a long one.
+#define ASKED_MOST 100
+
+// The number of a limit that the first edits meet together, or 0. There is no room, so that nothing is made.
+static unsigned limit_in(struct bytes image, uint8_t layout, uint8_t mode, const struct lists *lists, size_t count) {
+    uint8_t nothing[1];
+    unsigned number = refusal_of(apply_lists(image, layout, mode, lists, count, nothing, 0));
+    return number == NO_ROOM ? 0 : number;
+}
+
+// How many of the edits have no more text than is lent at once; that is more than an image can hold, so that no more matter.
+static size_t most_in_text(const struct edit *edits, size_t count) {
+    size_t most = 0, text = 0;
+    while (most < count && edits[most].value.length <= VALUE_MOST - text) text += edits[most++].value.length;
+    return most;
+}
+
+// How many bytes a value has in an image: one for each unit where all are ASCII, else two.
+static size_t stored_length(struct bytes value) {
+    size_t units = 0, others = 0;
+    for (size_t i = 0; i < value.length; i++) {
+        // bytes that continue a character add nothing, and a character of four is two units
+        units += ((value.at[i] & 0xc0) != 0x80) + (value.at[i] >= 0xf0);
+        others += value.at[i] >= 0x80;
+    }
+    return others ? 2 * units : units;
+}
+
+struct fault limit_of(struct bytes image, uint8_t layout, uint8_t mode, const struct edit *edits, const size_t *before, size_t count) {
+    size_t most = most_in_text(edits, count), good = 0, bad = 0, asked = 0;
+    struct lists lists = lists_of(edits, most);
+    struct fault fault = {count, 0};
+    // up to a string that gets shorter the image only grows: what fits there, fits before
+    while (!fault.number && bad < most && asked++ < ASKED_MOST) {
+        good = bad++;
+        while (bad < most && stored_length(edits[bad].value) >= before[bad]) bad++;
+        fault.number = limit_in(image, layout, mode, &lists, bad);
+    }
+    // the first `good` edits fit, and the first `bad` do not
+    while (fault.number && bad - good > 1) {
+        size_t middle = good + (bad - good) / 2;
+        unsigned number = limit_in(image, layout, mode, &lists, middle);
+        if (number) bad = middle, fault.number = number;
+        else good = middle;
+    }
+    free_lists(lists);
+    return fault.number ? (struct fault){bad - 1, fault.number} : fault;
 }

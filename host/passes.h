@@ -19,4 +19,8 @@ struct fault {
 };
 struct fault fault_of(struct bytes image, uint8_t layout, const struct edit *edits, size_t count);
 
+// The first of some string edits of different ids that meets a limit where they are made one by one, and its number; 0 where it is not
+// found. `before` has of each edit how many bytes its string has.
+struct fault limit_of(struct bytes image, uint8_t layout, uint8_t mode, const struct edit *edits, const size_t *before, size_t count);
+
 #endif

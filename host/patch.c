@@ -24,12 +24,6 @@ static struct bytes copy_of(const char *text) {
     return copy;
 }
 
-static struct bytes read_value(const char *name) {
-    struct bytes value = read_file(name, VALUE_MOST);
-    if (value.length > VALUE_MOST) fail("'%s' has over %zu bytes", name, VALUE_MOST);
-    return value;
-}
-
 static void take_name(struct job *job, const char *name) {
     if (!job->image) job->image = name;
     else if (!job->out) job->out = name;

@@ -22,17 +22,16 @@ static const char *const MEANING[] = {
     "empty: the old body is empty and the new one is not",
     "limit: the image would have more than 67,108,864 bytes",
     "field: a moved place or the new size is too large for a function record",
-    "room: the image would have more bytes than there is room for",
+    "room: what would be made has more bytes than there is room for",
     "absent: no string has that value",
     "job: what was given to the proved function is malformed",
-    NULL, // 16 is not given
+    "file: a line is not of the subset of PO that is read, bytes are not UTF-8, or a msgid is given twice",
     "twice: an id is edited twice in one pass",
 };
 #define MEANINGS (sizeof MEANING / sizeof MEANING[0])
 
 void print_refusal(const char *who, unsigned number) {
-    const char *meaning = number - 1 < MEANINGS ? MEANING[number - 1] : NULL;
-    print(stderr, "hbc: %s is refused: %u, %s", who, number, meaning ? meaning : "unknown");
+    print(stderr, "hbc: %s is refused: %u, %s", who, number, number - 1 < MEANINGS ? MEANING[number - 1] : "unknown");
 }
 
 void print_ids(uint64_t count, const char *what) {

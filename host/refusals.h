@@ -10,9 +10,14 @@
 bool is_refused(uint64_t answer);
 unsigned refusal_of(uint64_t answer);
 
-// The number of an id that is not there: what is there is told then. And that of a value that is no text.
+// The numbers of which more is told than what they mean.
 #define NO_SUCH_ID 7
 #define NO_TEXT 8
+#define OVER_LIMIT 11
+#define OVER_FIELD 12
+#define NO_ROOM 13
+#define NO_SUCH_VALUE 14
+#define OUTSIDE 16
 
 // Says WHO is refused, on standard error, without an end of line: more may be said of what was there.
 void print_refusal(const char *who, unsigned number);

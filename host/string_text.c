@@ -1,17 +1,28 @@
 #include "string_text.h"
 
-#include "../hbc.h"
 #include "print.h"
 #include "text.h"
 
-void print_string(FILE *to, struct bytes image, const uint64_t *row) {
-    const uint64_t most_units = 100, units = row[NEPULADRIM_STRING_UNITS];
-    const uint8_t *bytes = image.at + row[NEPULADRIM_STRING_AT];
+#include <stdlib.h>
+
+void print_units(FILE *to, const struct units *units) {
+    const size_t most_units = 100;
     struct text text = begin_text(to);
-    for (uint64_t i = 0; i < units && i < most_units; i++)
-        put_unit(&text, row[NEPULADRIM_STRING_IS_WIDE] ? bytes[2 * i] + 256u * bytes[2 * i + 1] : bytes[i]);
+    for (size_t i = 0; i < units->count && i < most_units; i++) put_unit(&text, unit_at(units, i));
     end_text(&text);
-    print(to, "%s (", units > most_units ? "..." : "");
-    print_count(to, units, "unit");
+    print(to, "%s (", units->count > most_units ? "..." : "");
+    print_count(to, units->count, "unit");
     print(to, ")");
+}
+
+void print_string(FILE *to, struct bytes image, const uint64_t *row) {
+    const struct units units = units_of_string(image, row);
+    print_units(to, &units);
+}
+
+void print_text(FILE *to, struct bytes text) {
+    uint8_t *room = room_for(2 * text.length);
+    const struct units units = units_of_text(text, room);
+    print_units(to, &units);
+    free(room);
 }

@@ -1,12 +1,16 @@
-// A string of an image in its text form.
+// Strings in their text form.
 #ifndef HOST_STRING_TEXT_H
 #define HOST_STRING_TEXT_H
 
-#include "files.h"
+#include "units.h"
 
 #include <stdio.h>
 
-// Prints a string of an admitted image, by its row of hbc.h, and its number of units. What is long is cut.
+// Prints units, and their number. What is long is cut.
+void print_units(FILE *to, const struct units *units);
+
+// The same of a string of an admitted image, by its row of hbc.h, and of a text, which is UTF-8.
 void print_string(FILE *to, struct bytes image, const uint64_t *row);
+void print_text(FILE *to, struct bytes text);
 
 #endif

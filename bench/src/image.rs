@@ -9,6 +9,18 @@ pub struct Shape {
     overflows: fn(usize) -> bool,
     is_identifier: fn(usize) -> bool,
     is_odd: bool,
+    says: Says,
+}
+
+/// What strings say.
+#[derive(Clone, Copy, PartialEq)]
+enum Says {
+    /// Letters that come again after some two hundred strings.
+    Letters,
+    /// What no other says.
+    OfItsOwn,
+    /// All the same.
+    TheSame,
 }
 
 const MODERN: Shape = Shape {
@@ -19,6 +31,7 @@ const MODERN: Shape = Shape {
     overflows: |_| false,
     is_identifier: |_| false,
     is_odd: false,
+    says: Says::Letters,
 };
 const MIXED: Shape = Shape { layout: 1, record: 16, large: 32, is_large: |i| i % 2 == 0, ..MODERN };
 /// Every fourth string has its place in the overflow table.
@@ -27,6 +40,11 @@ const PAIRS: Shape = Shape { overflows: |i| i % 4 == 3, ..MIXED };
 const NAMES: Shape = Shape { is_identifier: |i| i % 4 < 2, ..MIXED };
 /// Every second string is wide, behind a narrow one of odd length: in even mode it needs a gap.
 const ODD: Shape = Shape { is_odd: true, ..MIXED };
+
+/// As images with labels are: no two strings say the same.
+const TEXTS: Shape = Shape { says: Says::OfItsOwn, ..MIXED };
+/// All strings say the same, each at its own place.
+const ALIKE: Shape = Shape { says: Says::TheSame, ..MIXED };
 
 /// The shape of a name.
 pub fn shape(name: &str) -> Shape {
@@ -37,7 +55,10 @@ pub fn shape(name: &str) -> Shape {
         "pairs" => PAIRS,
         "names" => NAMES,
         "odd" => ODD,
-        _ => panic!("{name}: neither modern, mixed, bodies, pairs, names nor odd"),
+        // As with mixed and bodies.
+        "texts" | "books" => TEXTS,
+        "alike" => ALIKE,
+        _ => panic!("{name}: not the name of a shape"),
     }
 }
 
@@ -47,9 +68,15 @@ fn put(image: &mut [u8], at: usize, word: usize) {
 
 /// Of string i whether it is wide, and its bytes: one in eight or in two is wide, all have 4 to 19 bytes.
 fn string(shape: &Shape, i: usize) -> (bool, Vec<u8>) {
+    let i = if shape.says == Says::TheSame { 6 } else { i };
     let wide = if shape.is_odd { i % 2 == 1 } else { i % 8 == 7 };
     let length = (4 + i * 7 % 16) / 2 * 2 + usize::from(shape.is_odd && !wide);
-    (wide, (0..length).map(|j| b'a' + ((i + j) % 26) as u8).collect())
+    let letter = |j: usize| match shape.says {
+        // The first four are the number of the string.
+        Says::OfItsOwn if j < 4 => i / 26usize.pow(j as u32),
+        _ => i + j,
+    };
+    (wide, (0..length).map(|j| b'a' + (letter(j) % 26) as u8).collect())
 }
 
 /// The kind words: a run of identifiers or of plain strings each, one for all strings where they are alike.

@@ -16,6 +16,7 @@ extern int puts(const char *text);
 extern int vfprintf(FILE *file, const char *format, va_list words);
 extern int snprintf(char *out, size_t length, const char *format, ...)
     __attribute__((__nothrow__, __format__(__printf__, 3, 4)));
+extern int vsnprintf(char *out, size_t length, const char *format, va_list words) __attribute__((__nothrow__));
 extern size_t fwrite(const void *bytes, size_t size, size_t count, FILE *file);
 extern size_t fread(void *bytes, size_t size, size_t count, FILE *file);
 extern int fflush(FILE *file);

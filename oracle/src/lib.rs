@@ -1,4 +1,4 @@
-//! The judge: the answers of the Rust, or of a second reading of document 01, to streams of calls; the
+//! The judge: the answers of the Rust, or of a second reading of documents 01 and 02, to streams of calls; the
 //! streams; and the comparison.
 
 pub mod builder;
@@ -7,5 +7,6 @@ pub mod image;
 pub mod job;
 pub mod leaves;
 pub mod patches;
+pub mod po;
 pub mod random;
 pub mod stream;

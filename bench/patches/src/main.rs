@@ -1,10 +1,13 @@
 // Patches an image laid out as compilers lay them out, with as many strings as functions, 1 MiB for 10,000 of each:
-//   bench-patches ours|theirs place|rebuild|even|equal|body modern|mixed|names|odd|bodies COUNT REPEATS
+//   bench-patches ours|theirs place|rebuild|even|equal|body SHAPE COUNT REPEATS
 // prints the length of the image and a sum of the result's bytes. The Rust's file is parsed before, also for no repeats, so
 // that what REPEATS adds is its patch call alone. even: a rebuild in even mode, where theirs is the judge's second reading.
-// In an image with bodies, which is as mixed, 40,000 of each make 8 MiB.
+// In an image with bodies, which is as mixed, or with books, which is as texts, 40,000 of each make 8 MiB.
 //   bench-patches ours|theirs pass|places SHAPE COUNT EDITS REPEATS
 // does so with many edits in one pass.
+//   bench-patches ours|theirs po|po-places SHAPE COUNT PAIRS ample|exact|short REPEATS
+//   bench-patches ours|theirs extract SHAPE COUNT REPEATS
+// read a translators' file into an image, and write one from it.
 //   bench-patches compare
 // holds ours to theirs byte for byte on images too long for a stream of calls.
 
@@ -12,6 +15,7 @@
 mod image;
 mod large;
 mod pass;
+mod po;
 
 use hbc_decomp::opcode::BytecodeFormat;
 use hbc_decomp::write::patch::{patch_function_bytes, patch_string_by_id, PatchOptions};
@@ -50,7 +54,7 @@ extern "C" {
 fn more(shape: &str) -> usize {
     match shape {
         "modern" => 18,
-        "bodies" => 143,
+        "bodies" | "books" => 143,
         _ => 38,
     }
 }
@@ -112,10 +116,13 @@ fn main() {
     let words: Vec<String> = std::env::args().collect();
     if words[1] == "compare" {
         large::compare();
-        return pass::compare();
+        pass::compare();
+        return po::compare();
     }
     match words[2].as_str() {
         "pass" | "places" => pass::run(&words),
+        "po" | "po-places" => po::read(&words),
+        "extract" => po::write(&words),
         _ => run(&words),
     }
 }

@@ -28,16 +28,16 @@ extern "C" {
 
 /// The edits of an image: ids, the values as one text, and where each ends.
 #[derive(Default)]
-struct List {
-    ids: Vec<u32>,
-    text: Vec<u8>,
-    ends: Vec<u32>,
+pub struct List {
+    pub ids: Vec<u32>,
+    pub text: Vec<u8>,
+    pub ends: Vec<u32>,
 }
 
 impl List {
     /// So many edits of narrow strings all over the image, in no order: the numbers from 0 on, by a stride. Each value has so
     /// many bytes more than the string.
-    fn of(reading: &Reading, edits: usize, more: usize) -> List {
+    pub fn of(reading: &Reading, edits: usize, more: usize) -> List {
         let strings = reading.strings();
         let mut list = List::default();
         for j in 0..edits {
@@ -75,14 +75,14 @@ impl List {
     }
 
     /// The second reading's image.
-    fn theirs(&self, reading: &Reading, mode: Mode) -> Vec<u8> {
+    pub fn theirs(&self, reading: &Reading, mode: Mode) -> Vec<u8> {
         let list = pass::List { ids: self.ids.clone(), text: &self.text, ends: self.ends.clone() };
         let packing = Packing { mode, slip: None };
         pass::pass(reading.layout, reading.image, u64::MAX, &list, packing, None).unwrap()
     }
 
     /// The last image of the single patches in list order, each on a file that is parsed anew: the Rust's in plain mode.
-    fn steps(&self, reading: &Reading, mode: Mode) -> Vec<u8> {
+    pub fn steps(&self, reading: &Reading, mode: Mode) -> Vec<u8> {
         let mut image = reading.image.to_vec();
         let mut start = 0;
         for (id, end) in self.ids.iter().zip(&self.ends) {

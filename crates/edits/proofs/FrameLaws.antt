@@ -185,6 +185,13 @@ module _ (l : Layout) (s : List ℕ) (ad : Admitted l s) (b c : ℕ) (some : 0 <
         info = moved-twice a b c (f .info) (tail-some l s) some (λ z. ad .info i h z .0);
       })
 
+-- a function of an image with other strings moves as that of s does
+pub func-further : (l : Layout) (s t : List ℕ) → Restrung l s t → (c i : ℕ) → i < functionsIn s
+    → moveFunc (moved (tailAt l t) c) (funcOf l t i) ≡ moveFunc (moved (tailAt l s) c) (funcOf l s i)
+func-further l s t r c i h =
+    ap (λ (f : Func). moveFunc (moved (tailAt l t) c) f) (r .func i h)
+    ∙ func-twice l s (r .source) (tailAt l t) c (tail-some l t) i h
+
 -- ---- a rebuild of it is a rebuild of s
 
 module _ (l : Layout) (s t : List ℕ) (r : Restrung l s t) (q : Packed) where
@@ -220,9 +227,7 @@ module _ (l : Layout) (s t : List ℕ) (r : Restrung l s t) (q : Packed) where
 
   func-same : (i : ℕ) → i < functionsIn s → newFunc l q t i ≡ newFunc l q s i
   func-same i h =
-      ap (λ (x : ℕ). moveFunc (moved (tailAt l t) x) (funcOf l t i)) to-same
-      ∙ ap (λ (f : Func). moveFunc (moved (tailAt l t) to) f) (r .func i h)
-      ∙ func-twice l s ad (tailAt l t) to (tail-some l t) i h
+      ap (λ (x : ℕ). moveFunc (moved (tailAt l t) x) (funcOf l t i)) to-same ∙ func-further l s t r to i h
 
   words-same : rebuilding l q t .words ≡ rebuilding l q s .words
   words-same =
@@ -441,8 +446,7 @@ restrung-then l s t u a b =
       records = λ i h f e.
           b .records i (rw fc h) f (e ∙ sym (ap (λ (x : Func). x .large) (a .func i h))) ∙ a .records i h f e;
       func = λ i h.
-          b .func i (rw fc h) ∙ ap (λ (x : Func). moveFunc (moved (tailAt l t) (tailAt l u)) x) (a .func i h)
-          ∙ func-twice l s ad (tailAt l t) (tailAt l u) (tail-some l t) i h;
+          b .func i (rw fc h) ∙ func-further l s t a (tailAt l u) i h;
       debug =
           b .debug ∙ ap (moved (tailAt l t) (tailAt l u)) (a .debug)
           ∙ debug-twice l s ad (tailAt l t) (tailAt l u) (tail-some l t);

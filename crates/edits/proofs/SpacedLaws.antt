@@ -12,7 +12,7 @@ use Rattle.image.specs.Sections.{stringsIn}
 use Rattle.image.specs.Strings.{placeAt}
 use Rattle.edits.specs.Packing.{gapOf, NoneOddIn, startIn, endIn, Spaced}
 
-gap-most : (m : Mode) (w : Bool) (at : ℕ) → gapOf m w at ≤ 1
+pub gap-most : (m : Mode) (w : Bool) (at : ℕ) → gapOf m w at ≤ 1
 gap-most Plain w at = omega arith
 gap-most Even true at = omega arith
 gap-most Even false at = omega arith

@@ -1,3 +1,4 @@
 pub mod FooterLaws
 pub mod FinalizeLaws
 pub mod SealLaws
+pub mod SameLaws

@@ -65,7 +65,7 @@ pub fn rehash_footer(buf: &mut [u8], len: usize) -> Answer
 }
 
 // Whether two slices of one length hold the same bytes.
-fn same_bytes(a: &[u8], b: &[u8]) -> bool
+pub fn same_bytes(a: &[u8], b: &[u8]) -> bool
     requires { ⌜ length (now a) ≡ length (now b) ⌝ }
     ensures { λ r. ⌜ r ≡ same (now (a .entry)) (now (b .entry)) ⌝ }
 {

@@ -1,14 +1,16 @@
 -- The number of an answer tells it: a refusal's is 2^32 or more, and no length is.
-use mathlib.Core.Path.{_≡_, refl, ap}
+use mathlib.Core.Path.{_≡_, refl, ap, subst}
 use mathlib.Core.Bool.{Bool, true, false}
+use mathlib.Core.Logic.{inl, inr}
 use mathlib.Core.List.{List}
 use Prim.Native.Nat.{ℕ, _+_, _≤_, _<_}
 use native.Mathlib.Omega.{arith}
-use borrow.Author.Tests.{eqb-true, ltb-false}
+use borrow.Author.Tests.{eqb-true, ltb-false, lt-ltb, le-ltb}
 use lib.Dec.{ltb, eqb}
 use lib.ListN.{length, getD}
 use Rattle.bits.specs.Choice.{pick, judge}
-use Rattle.bits.specs.Outcome.{Outcome, refused, made, written, answered, roomed}
+use Rattle.bits.specs.Outcome.{Outcome, refused, made, outcomeFor, written, answered, roomed}
+use Rattle.bits.proofs.TestLaws.{below-or}
 use Rattle.bits.proofs.OutcomeLaws.{one-outcome}
 use Rattle.bits.specs.declared.Answer.the-variants.{Length, Refused}
 use Rattle.bits.proofs.ListLaws.{AllBelow}
@@ -17,7 +19,7 @@ use Rattle.bits.proofs.JudgeLaws.{judge-pass}
 use Rattle.format.specs.declared.Layout.{Layout}
 use Rattle.format.specs.declared.Mode.{Mode}
 use Rattle.footer.specs.Finalize.{sizeLimit, finalizeOf}
-use Rattle.footer.proofs.FinalizeLaws.{accepted, finalize-length}
+use Rattle.footer.proofs.FinalizeLaws.{accepted, length-finalized, finalize-length}
 use Rattle.serialize.specs.Parts.{storageOf, minimal}
 use Rattle.serialize.specs.Builder.{checks, built}
 use Rattle.image.specs.Sections.{stringsIn, functionsIn, storageAt}
@@ -38,6 +40,12 @@ use Rattle.strings.specs.Pass.{passRefusal, patchInPass, patchStrings}
 use Rattle.functions.specs.Patch.{bodyRefusal, patchBody}
 use Rattle.patches.specs.Patches.{Patch, byId, byValue, inPass, toBody, outcomeOf}
 use Rattle.patches.specs.Lists.{InBytes}
+use Rattle.patches.proofs.ListLaws.{promised}
+use Rattle.po_write.specs.File.{poOf, writeRefusal, roomFor, writePo}
+use Rattle.translate.specs.Translate.{translated}
+use Rattle.translate.specs.Space.{Space, isRead, readPo}
+use Rattle.translate.specs.Faults.{patchesOf, AcceptedAs, patched, finalized}
+use Rattle.translate.proofs.FaultLaws.{in-bytes, accepted-exactly}
 use Rattle.patches.proofs.StepLaws.{made-of, patch-promise}
 use Rattle.listing_pieces.specs.Listing.{listed, partRoom, listingPart}
 use Rattle.listing_pieces.proofs.PartLaws.{part-short, part-fits}
@@ -159,6 +167,51 @@ module _ (l : Layout) (s : List ℕ) (bytes : (i : ℕ) → getD s i 0 < 256) wh
       let (z, h) = read-is l s (functionsIn s) id e in
       let a : Admitted l s = admitted l s bytes z in
       omega (arith, length-bytesAt s (funcOf l s id .begin) (funcOf l s id .size), a .body id h .1, a .most))
+
+-- ---- translators' files
+
+-- what is written is below 2^32 bytes
+room-most : (room : ℕ) → roomFor room ≤ 4294967295
+room-most room = elim (below-or room 4294967295) [
+  | inl h ↦ rw (lt-ltb room 4294967295 h) (omega arith)
+  | inr h ↦ rw (le-ltb room 4294967295 h) (omega arith)
+]
+
+pub short-write-po : (l : Layout) (s : List ℕ) (words room : ℕ) → Short (writePo l s words room)
+unfolding writePo roomed
+short-write-po l s words room = go (outcomeFor (writeRefusal l s words) (poOf l s))
+  where
+    within : (t : List ℕ) (b : Bool) → ltb (roomFor room) (length t) ≡ b → Short (pick b (refused 13) (made t))
+    within t true e = tt
+    within t false e = omega (arith, ltb-false (roomFor room) (length t) e, room-most room)
+
+    go : (o : Outcome) → Short (roomed (roomFor room) o)
+    go (refused n) = tt
+    go (made t) = within t (ltb (roomFor room) (length t)) refl
+
+-- what is read makes an image
+module _ (m : Mode) (l : Layout) (s : List ℕ) (room : ℕ) (file : List ℕ) (bytes : (i : ℕ) → getD s i 0 < 256) where
+  made-most : (t : List ℕ) → AcceptedAs m l s room file t → length t ≤ sizeLimit
+  made-most t (patched r n a e) =
+      subst (λ (x : List ℕ). length x ≤ sizeLimit) e
+      (promised l (patchesOf m l s room file) s (r .admitted) (in-bytes m l s room file bytes r) .admitted .most)
+  made-most t (finalized r n h e) =
+      subst (λ (x : List ℕ). length x ≤ sizeLimit) e
+      (omega (arith, length-finalized s (omega (arith, r .admitted .least)), r .admitted .most))
+
+  short-translated : Short (translated m l s room file)
+  short-translated =
+      short-made (translated m l s room file) (λ t e. made-most t (accepted-exactly m l s room file bytes t .0 e))
+
+  pub short-read-po : (space : Space) → Short (readPo m l s room file space)
+  unfolding readPo
+  short-read-po space = go (isRead l s file space) (eqb (refusal l s) 0) short-translated
+    where
+      go : (b c : Bool) → Short (translated m l s room file)
+          → Short (pick b (translated m l s room file) (pick c (refused 13) (refused (refusal l s))))
+      go true c h = h
+      go false true h = tt
+      go false false h = tt
 
 pub short-list : (room from : ℕ) (l : Layout) (s : List ℕ) → Short (listingPart (partRoom room) from l s)
 unfolding listingPart

@@ -16,7 +16,8 @@ use Rattle.admission.specs.Admission.{answerFor, admission, numberOf}
 use Rattle.bits.specs.Outcome.{Outcome, roomed, Answers}
 use Rattle.bits.specs.declared.Answer.{Answer}
 use Rattle.bits.specs.declared.Answer.the-variants.{Refused}
-use Rattle.hbc.specs.Numbers.{admitNumber, numbered, Codes, stated, modeOf, chosen}
+use Rattle.translate.specs.Space.{LeavesSpace}
+use Rattle.hbc.specs.Numbers.{admitNumber, numbered, Codes, stated, modeOf, chosen, usedBy, workBy}
 
 -- the byte states this layout
 pub record States (byte : ℕ) (l : Layout) : Type 0 where
@@ -100,3 +101,35 @@ module _ (layout mode : ℕ) (o : Layout → Mode → Outcome) where
   mode-codes l m y z a r old new g f =
       layout-codes layout (λ k. chosen mode (o k)) l a r old new y
       (rw (le-ltb 1 mode (z .known)) (subst (λ (x : Mode). Answers (o l x) a old new) (z .is) g)) f
+
+-- ---- space that is lent for work
+
+module _ (layout mode : ℕ) (used : Layout → Bool) (file strings : ℕ) (text ends work : List ℕ) where
+  -- a byte that states nothing: the space stays as it is
+  unused : usedBy layout mode used ≡ false → LeavesSpace (usedBy layout mode used) file strings text text ends ends work work
+  unused e = rw e (record { ofText = refl; ofEnds = refl; ofWork = refl })
+
+  pub no-layout-space : 4 < layout → LeavesSpace (usedBy layout mode used) file strings text text ends ends work work
+  unfolding usedBy
+  no-layout-space h = unused (rw (lt-ltb 4 layout h))
+
+  pub no-mode-space : layout ≤ 4 → 1 < mode → LeavesSpace (usedBy layout mode used) file strings text text ends ends work work
+  unfolding usedBy
+  no-mode-space h k = unused (rw (le-ltb 4 layout h, lt-ltb 1 mode k))
+
+  -- any other
+  pub mode-space : (l : Layout) (m : Mode) → States layout l → Chooses mode m → (text′ ends′ work′ : List ℕ)
+      → LeavesSpace (used l) file strings text text′ ends ends′ work work′
+      → LeavesSpace (usedBy layout mode used) file strings text text′ ends ends′ work work′
+  unfolding usedBy
+  mode-space l m y z text′ ends′ work′ w =
+      rw (le-ltb 4 layout (y .known), le-ltb 1 mode (z .known), ← y .is) w
+
+module _ (layout : ℕ) (after : Layout → List ℕ) (old : List ℕ) where
+  pub no-layout-work : 4 < layout → old ≡ workBy layout after old
+  unfolding workBy
+  no-layout-work h = rw (lt-ltb 4 layout h)
+
+  pub layout-work : (l : Layout) → States layout l → (new : List ℕ) → new ≡ after l → new ≡ workBy layout after old
+  unfolding workBy
+  layout-work l y new e = e ∙ ap after (y .is) ∙ rw (le-ltb 4 layout (y .known))

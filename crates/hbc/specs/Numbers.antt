@@ -1,7 +1,8 @@
 -- Answers as one number, for callers in C and in Rust. 01: "A refusal answers its number".
 -- docs/FORMAT.md: Exports.
-use mathlib.Core.List.{List}
 use mathlib.Core.Path.{_≡_}
+use mathlib.Core.Bool.{Bool, false}
+use mathlib.Core.List.{List}
 use Prim.Native.Nat.{ℕ, _+_}
 use lib.Dec.{ltb, eqb}
 use Rattle.refusals.specs.Numbers as refusals
@@ -43,3 +44,13 @@ modeOf byte = pick (eqb byte 0) Plain Even
 -- the outcome in the mode that a byte states; 15 where the byte is over 1, as for the layout byte
 unfoldable pub chosen : ℕ → (Mode → Outcome) → Outcome
 chosen byte o = pick (ltb 1 byte) (refused refusals.job) (o (modeOf byte))
+
+-- ---- space that is lent for work: not used where a byte states no layout or no mode
+
+-- whether the three of a file are used
+unfoldable pub usedBy : ℕ → ℕ → (Layout → Bool) → Bool
+usedBy layout mode used = pick (ltb 4 layout) false (pick (ltb 1 mode) false (used (layoutOf layout)))
+
+-- the one of the writer, afterwards
+unfoldable pub workBy : ℕ → (Layout → List ℕ) → List ℕ → List ℕ
+workBy layout after old = pick (ltb 4 layout) old (after (layoutOf layout))

@@ -14,11 +14,14 @@ ghost use Rattle.footer.specs.Finalize.{finalizeOf};
 ghost use Rattle.serialize.specs.Builder.{built};
 ghost use Rattle.strings.specs.Patch.{patchById, patchByValue};
 ghost use Rattle.strings.specs.Pass.{patchStrings};
+ghost use Rattle.image.specs.Sections.{stringsIn};
+ghost use Rattle.translate.specs.Space.{lent, isRead, readPo, LeavesSpace};
+ghost use Rattle.po_write.specs.File.{writePo, workAfter};
 ghost use Rattle.functions.specs.Patch.{patchBody};
 ghost use Rattle.listing_pieces.specs.Listing.{partRoom, listingPart};
 ghost use Rattle.facts.specs.Facts.{imageFacts, stringFacts, stringFactsFrom};
 ghost use Rattle.hbc.specs.Reads.{stringReading, bodyReading};
-ghost use Rattle.hbc.specs.Numbers.{admitNumber, numbered, modeOf, Codes, stated, chosen};
+ghost use Rattle.hbc.specs.Numbers.{admitNumber, numbered, modeOf, Codes, stated, chosen, usedBy, workBy};
 
 // A layout byte is at most that.
 const LAST_LAYOUT: u8 = 4;
@@ -177,6 +180,66 @@ pub extern "C" fn nepuladrim_patch_strings<'a>(
         out,
     ))
 }
+
+// ---- translators' files
+
+// Every plain string that has the msgid of a pair gets its msgstr. Text, ends and work are lent for work.
+#[no_mangle]
+pub extern "C" fn nepuladrim_read_po(
+    image: &[u8],
+    layout: u8,
+    mode: u8,
+    file: &[u8],
+    text: &mut [u8],
+    ends: &mut [u32],
+    work: &mut [u32],
+    out: &mut [u8],
+) -> u64
+    ensures { λ r. ⌜ Codes (stated layout (λ l. chosen mode (λ m. readPo m l (now (image .entry)) (length (now (out .entry)))
+        (now (file .entry)) (lent (now (text .entry)) (now (ends .entry)) (now (work .entry)))))) r (now (out .entry))
+        (now (out .exit)) ⌝ }
+    ensures { λ _. ⌜ LeavesSpace (usedBy layout mode (λ l. isRead l (now (image .entry)) (now (file .entry))
+        (lent (now (text .entry)) (now (ends .entry)) (now (work .entry))))) (length (now (file .entry))) (stringsIn (now (image .entry)))
+        (now (text .entry)) (now (text .exit)) (now (ends .entry)) (now (ends .exit)) (now (work .entry)) (now (work .exit)) ⌝ }
+{
+    if LAST_LAYOUT < layout {
+        return REFUSED_JOB;
+    }
+    if LAST_MODE < mode {
+        return REFUSED_JOB;
+    }
+    number(translate::read_po(
+        image,
+        input_records::layout_of(layout),
+        mode_of(mode),
+        file,
+        text,
+        ends,
+        work,
+        out,
+    ))
+}
+
+// A translators' file of the plain strings of an image. Work is lent for work.
+#[no_mangle]
+pub extern "C" fn nepuladrim_write_po(
+    image: &[u8],
+    layout: u8,
+    work: &mut [u32],
+    out: &mut [u8],
+) -> u64
+    ensures { λ r. ⌜ Codes (stated layout (λ l. writePo l (now (image .entry)) (length (now (work .entry)))
+        (length (now (out .entry))))) r
+        (now (out .entry)) (now (out .exit)) × (now (work .exit) ≡ workBy layout (λ l. workAfter l (now (image .entry))
+        (now (work .entry))) (now (work .entry))) ⌝ }
+{
+    if LAST_LAYOUT < layout {
+        return REFUSED_JOB;
+    }
+    number(po_write::write_po(image, input_records::layout_of(layout), work, out))
+}
+
+// ---- bodies
 
 // The body of function `id` is replaced.
 #[no_mangle]

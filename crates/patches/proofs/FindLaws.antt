@@ -2,31 +2,19 @@
 use mathlib.Core.Path.{_≡_, refl}
 use mathlib.Core.Bool.{Bool, true, false}
 use mathlib.Core.Logic.{inl, inr, _≢_}
-use mathlib.Core.List.{List, [], _∷_}
+use mathlib.Core.List.{List}
 use Prim.Native.Nat.{ℕ, zero, suc, _+_, _≤_, _<_}
 use native.Mathlib.Omega.{arith}
-use borrow.Author.Tests.{leb-true, leb-false, eqb-true, eqb-false, eq-eqb}
+use borrow.Author.Tests.{leb-true, leb-false, eqb-true, eqb-false}
 use lib.Dec.{leb, eqb}
 use Rattle.bits.specs.Choice.{pick}
-use Rattle.bits.proofs.TestLaws.{which, both-0, both-1}
+use Rattle.bits.proofs.TestLaws.{which}
 use Rattle.format.specs.declared.Layout.{Layout}
 use Rattle.footer.specs.Footer.{same}
 use Rattle.image.specs.Sections.{stringsIn}
 use Rattle.image.specs.Strings.{stringOf, unitsOf}
 use Rattle.string_find.specs.Find.{findFrom, findId}
-
--- two lists of numbers are the same exactly where the test says so
-same-is : (xs ys : List ℕ) → same xs ys ≡ true → xs ≡ ys
-unfolding same
-same-is [] [] t = refl
-same-is [] (y ∷ ys) t = absurd (let z : _≡_ {A = ℕ} 0 1 = cc in omega arith)
-same-is (x ∷ xs) [] t = absurd (let z : _≡_ {A = ℕ} 0 1 = cc in omega arith)
-same-is (x ∷ xs) (y ∷ ys) t = rw (eqb-true x y (both-0 (eqb x y) (same xs ys) t), same-is xs ys (both-1 (eqb x y) (same xs ys) t))
-
-same-self : (xs : List ℕ) → same xs xs ≡ true
-unfolding same
-same-self [] = refl
-same-self (x ∷ xs) = rw (eq-eqb x x refl) (same-self xs)
+use Rattle.footer.proofs.SameLaws.{same-is, same-self}
 
 module _ (l : Layout) (s units : List ℕ) where
   abbrev test : ℕ → Bool

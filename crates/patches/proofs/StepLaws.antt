@@ -56,10 +56,10 @@ step-made l s p t e = roomed-made (p .room) (outcomeOf l s (p .patch)) t e
 
 module _ (l : Layout) (s : List ℕ) (ad : Admitted l s) where
   -- each string that gets a value gets bytes
-  abbrev InBytesAll : Values → Type 0
+  abbrev pub InBytesAll : Values → Type 0
   InBytesAll v = (i : ℕ) → i < stringsIn s → (value : List ℕ) → v i ≡ some value → AllBelow 256 value
 
-  passed : (m : Mode) (v : Values) → InBytesAll v → judge (string.resultChecks m l s v) ≡ 0 → StringsPassed m l s v
+  pub passed : (m : Mode) (v : Values) → InBytesAll v → judge (string.resultChecks m l s v) ≡ 0 → StringsPassed m l s v
   passed m v bytes e =
       let (limit, e₁) = judge-pass _ _ (omega arith) e in
       let (field, e₂) = judge-pass _ _ (omega arith) e₁ in

@@ -22,7 +22,7 @@ use Rattle.format.specs.Table as table
 use Rattle.format.specs.Entry.{Place}
 use Rattle.format.specs.Move.{moved}
 use Rattle.format.proofs.MoveLaws.{moved-high}
-use Rattle.image.specs.Sections.{stringsIn, hashesAt, smallAt, storageAt, tailAt}
+use Rattle.image.specs.Sections.{functionsIn, stringsIn, hashesAt, smallAt, storageAt, tailAt}
 use Rattle.image.specs.Strings.{placeAt, sizeOf, Str}
 use Rattle.image.specs.Functions.{Func, funcOf}
 use Rattle.image.specs.Admitted.{Admitted}
@@ -30,25 +30,26 @@ use Rattle.image.proofs.PlaceLaws.{ordered}
 use Rattle.edits.specs.Edit.{moveFunc}
 use Rattle.edits.specs.Packing.{Packed, storeOf, startOf, placed, packed}
 use Rattle.edits.specs.Rebuild.{overs, rebuild}
+use Rattle.edits.proofs.ReadLaws.{functions-same}
 use Rattle.edits.proofs.ReadLaws.{Agree, stringCount-same, hashesAt-same, smallAt-same, identifier-same, rank-same, storageAt-same}
 use Rattle.edits.proofs.RegionLaws.{Bears, read-storage, read-wide, read-at, read-size}
 use Rattle.edits.proofs.StringLaws.{bears}
 use Rattle.edits.proofs.ModeLaws.{overs-ext, rebuild-ext}
-use Rattle.edits.proofs.FrameLaws.{Settled, Restrung, rebuilt-length, rebuilt-like, restrung-then}
+use Rattle.edits.proofs.FrameLaws.{Settled, Restrung, func-further, rebuilt-length, rebuilt-like, restrung-then}
 use Rattle.edits.proofs.PutLaws.{store-ext, placed-ext, Restated, place-like, rebuild-long, rebuild-put}
 use Rattle.string_edits.specs.Values.{Values, joined, Apart, inTurn, allEdited}
 use Rattle.string_edits.proofs.TurnLaws.{some-or-none, Gets, turn-along, turn-both, turn-ext}
 use Rattle.string_overlap.specs.Overlap.{overlap, isApart, isAlone}
 use Rattle.string_packing.specs.Strings.{asString, stringWith, stringsWith}
 use Rattle.string_in_place.specs.Patch.{fitsInPlace, fitsAll, overOld, inPlace, hashed, rehashed, changed, patchedStrings}
-use Rattle.string_in_place.specs.Patch.{patchFits}
+use Rattle.string_in_place.specs.Patch.{newLength, patchFits}
 use Rattle.patches.specs.Patches.{toValues}
 use Rattle.patches.specs.Promise.{movesTo, placeAfter, Unmoved}
 use Rattle.patches.proofs.CalmLaws.{Nearly, calm}
 use Rattle.patches.proofs.InPlaceLaws as inPlaces
 use Rattle.patches.proofs.InPlaceLaws.{spot, narrow, plain, sized, AllFit, fits-each}
 use Rattle.patches.proofs.StringLaws.{StringsPassed, rebuilds, all-fit, string-promise, string-places}
-use Rattle.patches.proofs.RefusalLaws.{small-most, new-length, patch-wrong}
+use Rattle.patches.proofs.RefusalLaws.{Beyond, new-length, patch-wrong, patch-failed}
 use Rattle.patches.proofs.JoinedLaws.{SameByte, rehashed-byte, fits-joined, in-place-joined, rehashed-joined}
 use Rattle.patches.proofs.AfterLaws.{final-like, near-byte, changed-fits, changed-away, changed-long, patched-is, changed-hashes}
 use Rattle.patches.proofs.AfterLaws.{changed-restrung, hashed-near, patched-near, patched-restrung, patched-hashes}
@@ -112,7 +113,7 @@ module _ (l : Layout) (s t : List ℕ) (r : Restrung l s t) where
   small-within = let o = ordered l t in omega (arith, smallAt-same l s t (r .counts), o .over, o .storage, o .tail, r .admitted .room)
 
 -- one more is below
-next-below : (i n : ℕ) → i ≢ n → ltb i (suc n) ≡ ltb i n
+pub next-below : (i n : ℕ) → i ≢ n → ltb i (suc n) ≡ ltb i n
 next-below i n h = elim (below-or i n) [
   | inl g ↦ lt-ltb i (suc n) (omega arith) ∙ sym (lt-ltb i n g)
   | inr g ↦ le-ltb i (suc n) (omega arith) ∙ sym (le-ltb i n g)
@@ -137,9 +138,9 @@ pub record PatchThen (m : Mode) (l : Layout) (s : List ℕ) (v d : Values) : Typ
   pub next : StringsPassed m l (patchedStrings m l s v) d
   pub apart : Apart v d
 
-module _ (m : Mode) (l : Layout) (s : List ℕ) (v d : Values) (pt : PatchThen m l s v d) where
+module _ (m : Mode) (l : Layout) (s : List ℕ) (v d : Values) (first : StringsPassed m l s v) (parted : Apart v d) where
   ad : Admitted l s
-  ad = pt .first .admitted
+  ad = first .admitted
 
   abbrev w : Values
   w = joined v d
@@ -158,13 +159,16 @@ module _ (m : Mode) (l : Layout) (s : List ℕ) (v d : Values) (pt : PatchThen m
   z = changed m l s w
 
   x-frame : Restrung l s x
-  x-frame = changed-restrung m l s v (pt .first)
+  x-frame = changed-restrung m l s v first
 
   frame : Restrung l s t
-  frame = patched-restrung m l s v (pt .first)
+  frame = patched-restrung m l s v first
+
+  bd : Admitted l t
+  bd = frame .admitted
 
   near : Nearly l x t
-  near = patched-near m l s v (pt .first)
+  near = patched-near m l s v first
 
   like-t : Like l s t x
   like-t = record {
@@ -177,13 +181,13 @@ module _ (m : Mode) (l : Layout) (s : List ℕ) (v d : Values) (pt : PatchThen m
 
   -- where the first was in place the strings have not moved, and values fit as they did
   unmoved : fitsAll l s v ≡ true → Unmoved l s t
-  unmoved fits = string-places m l s v (pt .first) .1 fits
+  unmoved fits = string-places m l s v first .1 fits
 
   fits-as : fitsAll l s v ≡ true → fitsAll l t d ≡ fitsAll l s d
   fits-as fits = fits-all-same l s t sc (unmoved fits) d
 
   fits-w : fitsAll l s w ≡ both (fitsAll l s d) (fitsAll l s v)
-  fits-w = fits-joined l s v d (pt .apart)
+  fits-w = fits-joined l s v d parted
 
   away-w : fitsAll l s v ≡ false → fitsAll l s w ≡ false
   away-w away = fits-w ∙ rw away (both-none (fitsAll l s d))
@@ -195,7 +199,7 @@ module _ (m : Mode) (l : Layout) (s : List ℕ) (v d : Values) (pt : PatchThen m
     like-placed : fitsAll l s v ≡ true → Like l s y z
     unfolding inPlace overOld
     like-placed fits =
-        let old : AllFit l s v = all-fit m l s v (pt .first) fits in
+        let old : AllFit l s v = all-fit m l s v first fits in
         let fit-s : fitsAll l s d ≡ true = sym (fits-as fits) ∙ fit in
         let x-is = changed-fits m l s v fits in
         let at : storageAt l t ≡ storageAt l s
@@ -209,7 +213,7 @@ module _ (m : Mode) (l : Layout) (s : List ℕ) (v d : Values) (pt : PatchThen m
         (λ i h value b. ap (λ (p : ℕ). sets b p value) (spots i h)) in
         let z-is : z ≡ inTurn d (overOld l s) (stringsIn s) x
         = changed-fits m l s w (fits-w ∙ rw (fit-s, fits))
-        ∙ in-place-joined l s v d (pt .apart) old (record { admitted = ad; fits = fit-s }) s
+        ∙ in-place-joined l s v d parted old (record { admitted = ad; fits = fit-s }) s
         ∙ ap (inTurn d (overOld l s) (stringsIn s)) (sym x-is) in
         rw (y-is, z-is)
         (turn-both d (overOld l s) (Like l s) t x (stringsIn s) like-t
@@ -232,7 +236,7 @@ module _ (m : Mode) (l : Layout) (s : List ℕ) (v d : Values) (pt : PatchThen m
 
       borne : Bears l f old x
       unfolding stringsWith
-      borne = rw x-is (bears l old s ad f (rebuilds m l s v (pt .first) away))
+      borne = rw x-is (bears l old s ad f (rebuilds m l s v first away))
 
       counts : Agree s x (table.functionCount .at) (table.overflowCount .at)
       counts = x-frame .counts
@@ -274,7 +278,7 @@ module _ (m : Mode) (l : Layout) (s : List ℕ) (v d : Values) (pt : PatchThen m
       put-next n value b gets k =
           let known : n < stringsIn s = omega (arith, gets .known, sc) in
           let known-x : n < stringsIn x = rw (stringCount-same l s x counts) known in
-          let fits = fits-each l t d (record { admitted = pt .next .admitted; fits = fit }) n value gets in
+          let fits = fits-each l t d (record { admitted = bd; fits = fit }) n value gets in
           let place-t : placeAt l t n ≡ placeAt l x n = calm l x t near .storage .place n known-x in
           let own : mixed (suc n) n ≡ record { wide = false; bytes = value }
           = rw (lt-ltb n (suc n) (omega arith), gets .gets, plain l t n value fits) in
@@ -330,7 +334,7 @@ module _ (m : Mode) (l : Layout) (s : List ℕ) (v d : Values) (pt : PatchThen m
   string-now : (i : ℕ) → i < stringsIn s → stringWith l t d i ≡ stringWith l s w i
   unfolding stringWith
   string-now i h = elim (some-or-none (d i)) [
-    | inl q ↦ rw q (string-promise m l s v (pt .first) .kept .string i h)
+    | inl q ↦ rw q (string-promise m l s v first .kept .string i h)
     | inr (value, q) ↦ rw q
   ]
 
@@ -355,117 +359,160 @@ module _ (m : Mode) (l : Layout) (s : List ℕ) (v d : Values) (pt : PatchThen m
         (elim (which (fitsAll l s v)) [ inl fits ↦ fits-w ∙ rw (sym (fits-as fits) ∙ off) | inr away ↦ away-w away ])
   ]
 
-  -- ---- the patch of both is not refused
+  -- ---- the second is judged as the patch of both
 
-  y-frame : Restrung l s y
-  y-frame = restrung-then l s t y frame (changed-restrung m l t d (pt .next))
+  pub joined-length : newLength m l t d ≡ newLength m l s w
+  joined-length = changed-long m l t d bd ∙ like .long ∙ sym (changed-long m l s w ad)
 
-  joined-bytes : (i : ℕ) → i < stringsIn s → (u : List ℕ) → w i ≡ some u → AllBelow 256 u
-  joined-bytes i h u e = elim (some-or-none (d i)) [
-    | inl q ↦ pt .first .bytes i h u (rw q at e)
-    | inr (value, q) ↦ pt .next .bytes i (rw sc h) u (q ∙ rw q at e)
-  ]
-
-  -- the tail is where that patch puts it
-  tail-y : tailAt l y ≡ movesTo l s (toValues m w)
-  tail-y = omega (
+  -- the tail goes where that patch puts it, and so does every place
+  tail-same : movesTo l t (toValues m d) ≡ movesTo l s (toValues m w)
+  tail-same = omega (
     arith,
-    y-frame .long,
-    like .long,
-    changed-long m l s w ad,
+    joined-length,
+    new-length m l t d,
     new-length m l s w,
+    moved-high (tailAt l t) (movesTo l t (toValues m d)) (length t) (omega (arith, bd .room)),
     moved-high (tailAt l s) (movesTo l s (toValues m w)) (length s) (omega (arith, ad .room)),
+    frame .long,
     ad .room,
+    bd .room,
   )
 
-  joined-field : patchFits m l s w ≡ true
-  joined-field = elim (which (patchFits m l s w)) [
-    | inl t ↦ t
-    | inr n ↦
-        let (j, h, u, far) = patch-wrong m l s w n in
-        let e : funcOf l y j ≡ moveFunc (placeAfter l s (toValues m w)) (funcOf l s j)
-        = y-frame .func j h ∙ ap (λ (b : ℕ). moveFunc (moved (tailAt l s) b) (funcOf l s j)) tail-y in
-        let (begin, info) = small-most l y j (ap (λ (a : Func). a .large) e ∙ u) in
-        absurd (elim far [
-          | inl g ↦ omega (arith, ap (λ (a : Func). a .begin) e)
-          | inr g ↦ omega (arith, ap (λ (a : Func). a .info) e)
-        ])
+  func-goes : (j : ℕ) → j < functionsIn s
+      → moveFunc (placeAfter l t (toValues m d)) (funcOf l t j) ≡ moveFunc (placeAfter l s (toValues m w)) (funcOf l s j)
+  func-goes j h =
+      ap (λ (b : ℕ). moveFunc (moved (tailAt l t) b) (funcOf l t j)) tail-same
+      ∙ func-further l s t frame (movesTo l s (toValues m w)) j h
+
+  large-same : (j : ℕ) → j < functionsIn s → funcOf l t j .large ≡ funcOf l s j .large
+  large-same j h = ap (λ (f : Func). f .large) (frame .func j h)
+
+  fc : functionsIn t ≡ functionsIn s
+  fc = functions-same l s t (frame .counts)
+
+  -- a small record that cannot hold a place after the one cannot after the other
+  beyond-to : Beyond l t (placeAfter l t (toValues m d)) → Beyond l s (placeAfter l s (toValues m w))
+  beyond-to (j, h, u, far) =
+      let k : j < functionsIn s = rw fc at h in
+      let e = func-goes j k in (
+        j,
+        k,
+        sym (large-same j k) ∙ u,
+        elim far [
+          | inl g ↦ inl (omega (arith, ap (λ (f : Func). f .begin) e))
+          | inr g ↦ inr (omega (arith, ap (λ (f : Func). f .info) e))
+        ],
+      )
+
+  beyond-from : Beyond l s (placeAfter l s (toValues m w)) → Beyond l t (placeAfter l t (toValues m d))
+  beyond-from (j, k, u, far) =
+      let e = func-goes j k in (
+        j,
+        rw fc k,
+        large-same j k ∙ u,
+        elim far [
+          | inl g ↦ inl (omega (arith, ap (λ (f : Func). f .begin) e))
+          | inr g ↦ inr (omega (arith, ap (λ (f : Func). f .info) e))
+        ],
+      )
+
+  pub joined-fits : patchFits m l t d ≡ patchFits m l s w
+  joined-fits = elim (which (patchFits m l t d)) [
+    | inl a ↦ elim (which (patchFits m l s w)) [
+      | inl b ↦ a ∙ sym b
+      | inr b ↦ patch-failed m l t d (beyond-from (patch-wrong m l s w b)) ∙ sym b
+    ]
+    | inr a ↦ a ∙ sym (patch-failed m l s w (beyond-to (patch-wrong m l t d a)))
   ]
 
-  pub joined-passed : StringsPassed m l s w
-  joined-passed = record {
-    admitted = ad;
-    bytes = joined-bytes;
-    limit = omega (
-      arith,
-      changed-long m l s w ad,
-      like .long,
-      changed-long m l t d (pt .next .admitted),
-      pt .next .limit,
-    );
-    field = joined-field;
-  }
+  -- ---- the second is accepted
 
-  -- ---- and makes the same
+  module _ (next : StringsPassed m l t d) where
+    y-frame : Restrung l s y
+    y-frame = restrung-then l s t y frame (changed-restrung m l t d next)
 
-  z-frame : Restrung l s z
-  z-frame = changed-restrung m l s w joined-passed
+    joined-bytes : (i : ℕ) → i < stringsIn s → (u : List ℕ) → w i ≡ some u → AllBelow 256 u
+    joined-bytes i h u e = elim (some-or-none (d i)) [
+      | inl q ↦ first .bytes i h u (rw q at e)
+      | inr (value, q) ↦ next .bytes i (rw sc h) u (q ∙ rw q at e)
+    ]
 
-  -- with their hash slots
-  abbrev a : List ℕ
-  a = rehashed l t d y
+    -- so is the patch of both
+    both-passed : StringsPassed m l s w
+    both-passed = record {
+      admitted = ad;
+      bytes = joined-bytes;
+      limit = rw joined-length at (next .limit);
+      field = sym joined-fits ∙ next .field;
+    }
 
-  abbrev b : List ℕ
-  b = rehashed l s w z
+    -- ---- and makes the same
 
-  near-a : Nearly l y a
-  near-a = hashed-near m l t d (pt .next)
+    z-frame : Restrung l s z
+    z-frame = changed-restrung m l s w both-passed
 
-  near-b : Nearly l z b
-  near-b = hashed-near m l s w joined-passed
+    -- with their hash slots
+    abbrev a : List ℕ
+    a = rehashed l t d y
 
-  -- a byte of a hash slot
-  slot-byte : (p : ℕ) → hashesAt l s ≤ p → p < smallAt l s → getD a p 0 ≡ getD b p 0
-  slot-byte p h k =
-      ap (λ (q : List ℕ). getD q p 0) (rehashed-same l s t frame d y)
-      ∙ rehashed-byte l s ad d p y (rehashed l s v z)
-      (record {
-        left = small-within l s y y-frame;
-        right = before .right;
-        byte =
-            changed-hashes m l t d (pt .next) p (rw (hashesAt-same l s t (frame .counts)) h)
-            (rw (smallAt-same l s t (frame .counts)) k)
-            ∙ patched-hashes m l s v (pt .first) p h k ∙ before .byte;
-      })
-      .byte
-      ∙ ap (λ (q : List ℕ). getD q p 0) (sym (rehashed-joined l s v d (pt .apart) z))
-    where
-      before : SameByte l s p (rehashed l s v x) (rehashed l s v z)
-      before =
-          rehashed-byte l s ad v p x z
-          (record {
-            left = small-within l s x x-frame;
-            right = small-within l s z z-frame;
-            byte = changed-hashes m l s v (pt .first) p h k ∙ sym (changed-hashes m l s w joined-passed p h k);
-          })
+    abbrev b : List ℕ
+    b = rehashed l s w z
 
-  -- any other before the footer
-  other-byte : (p : ℕ) → Settled l s (length z) p → getD a p 0 ≡ getD b p 0
-  other-byte p se =
-      near-byte l y a near-a p (settled-in l s y y-frame (length y) p (rw (like .long) se))
-      ∙ like .byte p se
-      ∙ sym (near-byte l z b near-b p (settled-in l s z z-frame (length z) p se))
+    near-a : Nearly l y a
+    near-a = hashed-near m l t d next
+
+    near-b : Nearly l z b
+    near-b = hashed-near m l s w both-passed
+
+    -- a byte of a hash slot
+    slot-byte : (p : ℕ) → hashesAt l s ≤ p → p < smallAt l s → getD a p 0 ≡ getD b p 0
+    slot-byte p h k =
+        ap (λ (q : List ℕ). getD q p 0) (rehashed-same l s t frame d y)
+        ∙ rehashed-byte l s ad d p y (rehashed l s v z)
+        (record {
+          left = small-within l s y y-frame;
+          right = before .right;
+          byte =
+              changed-hashes m l t d next p (rw (hashesAt-same l s t (frame .counts)) h)
+              (rw (smallAt-same l s t (frame .counts)) k)
+              ∙ patched-hashes m l s v first p h k ∙ before .byte;
+        })
+        .byte
+        ∙ ap (λ (q : List ℕ). getD q p 0) (sym (rehashed-joined l s v d parted z))
+      where
+        before : SameByte l s p (rehashed l s v x) (rehashed l s v z)
+        before =
+            rehashed-byte l s ad v p x z
+            (record {
+              left = small-within l s x x-frame;
+              right = small-within l s z z-frame;
+              byte = changed-hashes m l s v first p h k ∙ sym (changed-hashes m l s w both-passed p h k);
+            })
+
+    -- any other before the footer
+    other-byte : (p : ℕ) → Settled l s (length z) p → getD a p 0 ≡ getD b p 0
+    other-byte p se =
+        near-byte l y a near-a p (settled-in l s y y-frame (length y) p (rw (like .long) se))
+        ∙ like .byte p se
+        ∙ sym (near-byte l z b near-b p (settled-in l s z z-frame (length z) p se))
+
+    then-both : patchedStrings m l t d ≡ patchedStrings m l s w
+    then-both =
+        patched-is m l t d
+        ∙ final-like a b (omega (arith, near-b .long, z-frame .admitted .least)) (near-a .long ∙ like .long ∙ sym (near-b .long))
+        (λ p h f.
+        let settled : (hashesAt l s ≤ p → smallAt l s ≤ p) → Settled l s (length z) p
+        = λ g. record { before = rw (near-b .long) at h; notLength = f; notHash = g } in
+        elim (below-or p (hashesAt l s)) [
+          | inl g ↦ other-byte p (settled (λ q. absurd (omega arith)))
+          | inr g ↦ elim (below-or p (smallAt l s)) [ inl q ↦ slot-byte p g q | inr q ↦ other-byte p (settled (λ i. q)) ]
+        ])
+        ∙ sym (patched-is m l s w)
+
+module _ (m : Mode) (l : Layout) (s : List ℕ) (v d : Values) (pt : PatchThen m l s v d) where
+  pub joined-passed : StringsPassed m l s (joined v d)
+  joined-passed = both-passed m l s v d (pt .first) (pt .apart) (pt .next)
 
   -- A PATCH AND THEN ONE OF OTHER STRINGS ARE THE ONE PATCH OF BOTH
-  pub patch-then : patchedStrings m l t d ≡ patchedStrings m l s w
-  patch-then =
-      patched-is m l t d
-      ∙ final-like a b (omega (arith, near-b .long, z-frame .admitted .least)) (near-a .long ∙ like .long ∙ sym (near-b .long))
-      (λ p h f.
-      let settled : (hashesAt l s ≤ p → smallAt l s ≤ p) → Settled l s (length z) p
-      = λ g. record { before = rw (near-b .long) at h; notLength = f; notHash = g } in
-      elim (below-or p (hashesAt l s)) [
-        | inl g ↦ other-byte p (settled (λ q. absurd (omega arith)))
-        | inr g ↦ elim (below-or p (smallAt l s)) [ inl q ↦ slot-byte p g q | inr q ↦ other-byte p (settled (λ i. q)) ]
-      ])
-      ∙ sym (patched-is m l s w)
+  pub patch-then : patchedStrings m l (patchedStrings m l s v) d ≡ patchedStrings m l s (joined v d)
+  patch-then = then-both m l s v d (pt .first) (pt .apart) (pt .next)

@@ -62,6 +62,10 @@ absent = 14
 abbrev pub job : ℕ
 job = 15
 
+-- 02, No. 1: a line outside the subset, bytes that aren't UTF-8, or a msgid given twice
+abbrev pub file : ℕ
+file = 16
+
 -- 02, No. 4: an id given twice
 abbrev pub twice : ℕ
 twice = 17

@@ -30,6 +30,10 @@ ofPass = ofImage ++ (refusals.id ∷ refusals.twice ∷ refusals.value ∷ ofRes
 abbrev pub ofStringByValue : List ℕ
 ofStringByValue = ofImage ++ (refusals.value ∷ refusals.absent ∷ ofResult)
 
+-- 02, No. 1: "1 to 6; 16 ..; 14 ..; 11 to 13"; the space that is lent for work comes right behind 1 to 6
+abbrev pub ofFile : List ℕ
+ofFile = ofImage ++ (refusals.file ∷ refusals.absent ∷ ofResult)
+
 -- "bodies 7, 9, 10"
 abbrev pub ofBody : List ℕ
 ofBody = ofImage ++ (refusals.id ∷ refusals.inside ∷ refusals.empty ∷ ofResult)

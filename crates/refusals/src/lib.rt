@@ -31,4 +31,6 @@ pub const ABSENT: u8 = 14;
 
 pub const JOB: u8 = 15;
 
+pub const FILE: u8 = 16;
+
 pub const TWICE: u8 = 17;

@@ -1,12 +1,12 @@
--- A list of edits as it is lent: what its values are, which edit comes next, and what each string gets.
-use mathlib.Core.Path.{_≡_, refl, sym, _∙_}
+-- A list of edits as it is lent: what its values are, the nearest edit, and what each string gets.
+use mathlib.Core.Path.{_≡_, refl, sym}
 use mathlib.Core.Bool.{Bool, true, false, not}
 use mathlib.Core.Logic.{inl, inr, _≢_}
 use mathlib.Core.Option.{none, some}
 use mathlib.Core.List.{List}
 use Prim.Native.Nat.{ℕ, zero, suc, _-_, _≤_, _<_}
 use native.Mathlib.Omega.{arith}
-use borrow.Author.Tests.{le-leb, lt-leb, lt-ltb, eq-eqb, ne-eqb, eqb-true, eqb-false, leb-true, not-true}
+use borrow.Author.Tests.{le-leb, lt-leb, eq-eqb, ne-eqb, eqb-true, eqb-false, leb-true, not-true}
 use lib.Dec.{leb, eqb}
 use lib.ListN.{length, getD, take, drop}
 use Rattle.bits.specs.Choice.{both}
@@ -14,8 +14,7 @@ use Rattle.bits.proofs.TestLaws.{below, below-or, both-0, both-1, both-none, al
 use Rattle.bits.proofs.ByteLaws.{bytesAt-take, length-bytesAt}
 use Rattle.string_edits.specs.declared.Next.{Next}
 use Rattle.string_edits.specs.Values.{Edit, valuesOf}
-use Rattle.string_edits.specs.Lists.{startIn, valueIn, editIn, valuesIn, isSplit, isList, isNew, allDiffer}
-use Rattle.string_edits.specs.Lists.{Listed, Within, NextOf, comingIn, Coming}
+use Rattle.string_edits.specs.Lists.{startIn, valueIn, isSplit, isList, isNew, allDiffer, Within, NearestOf}
 
 -- ---- where values stand in the text
 
@@ -102,24 +101,13 @@ module _ (ids : ℕ → ℕ) (n : ℕ) (t : allDiffer ids n ≡ true) where
     | inr l ↦ elim (below-or j i) [ inl g ↦ absurd (later j i g h (sym e)) | inr g ↦ omega arith ]
   ]
 
-pub listed : (ids text ends : List ℕ) → IsOne ids text ends → allDiffer (λ j. getD ids j 0) (length ids) ≡ true
-    → Listed ids text ends
-listed ids text ends o d =
-    let w : (j : ℕ) → j < length ids → Within text ends j = λ j h. split-within text ends (o .split) j (omega (arith, o .many)) in
-    record {
-      many = o .many;
-      rising = λ j h. w j h .rising;
-      within = λ j h. w j h .end;
-      differ = differ (λ j. getD ids j 0) (length ids) d;
-    }
+-- ---- the nearest edit
 
--- ---- the edit that comes next
-
-pub near-none : (ids : List ℕ) (from : ℕ) → from ≤ 0x100000000 → NextOf ids from 0 (record { edit = 0; id = 0x100000000 })
+pub near-none : (ids : List ℕ) (from : ℕ) → from ≤ 0x100000000 → NearestOf ids from 0 (record { edit = 0; id = 0x100000000 })
 near-none ids from h = record { past = h; least = λ j k l. absurd (omega arith); own = λ k. absurd (omega arith) }
 
-module _ (ids : List ℕ) (from j : ℕ) (best : Next) (n : NextOf ids from j best) where
-  pub near-skip : getD ids j 0 < from → NextOf ids from (suc j) best
+module _ (ids : List ℕ) (from j : ℕ) (best : Next) (n : NearestOf ids from j best) where
+  pub near-skip : getD ids j 0 < from → NearestOf ids from (suc j) best
   near-skip h = record {
     past = n .past;
     least = λ i g k. elim (below i j g) [
@@ -129,7 +117,7 @@ module _ (ids : List ℕ) (from j : ℕ) (best : Next) (n : NextOf ids from j be
     own = n .own;
   }
 
-  pub near-keep : best .id ≤ getD ids j 0 → NextOf ids from (suc j) best
+  pub near-keep : best .id ≤ getD ids j 0 → NearestOf ids from (suc j) best
   near-keep h = record {
     past = n .past;
     least = λ i g k. elim (below i j g) [ inl e ↦ rw e h | inr l ↦ n .least i l k ];
@@ -137,7 +125,7 @@ module _ (ids : List ℕ) (from j : ℕ) (best : Next) (n : NextOf ids from j be
   }
 
   pub near-take : j < length ids → (id : ℕ) → id ≡ getD ids j 0 → from ≤ id → id < best .id
-      → NextOf ids from (suc j) (record { edit = j; id = id })
+      → NearestOf ids from (suc j) (record { edit = j; id = id })
   near-take known id e h l = record {
     past = h;
     least = λ i g k. elim (below i j g) [ inl q ↦ rw (q, e) (omega arith) | inr q ↦ omega (arith, n .least i q k) ];
@@ -162,21 +150,3 @@ module _ (e : ℕ → Edit) (i : ℕ) where
     | inl z ↦ rw (← z, eq-eqb i (e j .id) (sym q))
     | inr g ↦ rw (ne-eqb i (e k .id) (λ z. last k (omega arith) g (sym z))) (values-at k j g q (λ n y. last n (omega arith)))
   ]
-
-module _ (ids text ends : List ℕ) (ls : Listed ids text ends) (from : ℕ) (n : Next) (nx : NextOf ids from (length ids) n) where
-  -- the value that comes next stands in the text
-  pub coming-within : n .id < 0x100000000 → Within text ends (n .edit)
-  coming-within h =
-      let o = nx .own h in
-      record { known = omega (arith, ls .many, o .0); rising = ls .rising (n .edit) (o .0); end = ls .within (n .edit) (o .0) }
-
-  pub coming : Coming (valuesIn ids text ends) (comingIn text ends n) from (n .id)
-  coming = record {
-    past = nx .past;
-    before = λ i h k. values-none (editIn ids text ends) i (length ids) (λ j g z. omega (arith, nx .least j g (omega arith)));
-    at = λ h.
-        let o = nx .own h in
-        rw (lt-ltb (n .id) 0x100000000 h)
-        (values-at (editIn ids text ends) (n .id) (length ids) (n .edit) (o .0) (o .1)
-        (λ i g k z. omega (arith, ls .differ i (n .edit) g (o .0) (z ∙ sym (o .1)))));
-  }

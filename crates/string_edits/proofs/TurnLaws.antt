@@ -11,7 +11,7 @@ use lib.Dec.{eqb}
 use Rattle.bits.specs.Choice.{both}
 use Rattle.bits.proofs.TestLaws.{which, below, below-or, both-0, both-1}
 use Rattle.string_edits.specs.Values.{Values, only, joined, Apart, taking, inTurn, allEdited}
-use Rattle.string_edits.specs.Lists.{Coming}
+use Rattle.string_edits.specs.Told.{Coming}
 
 -- an option is none or some
 pub some-or-none : (o : Option (List ℕ)) → (o ≡ none) ⊎ ((value : List ℕ) × (o ≡ some value))

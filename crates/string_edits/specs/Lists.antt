@@ -2,12 +2,11 @@
 -- docs/FORMAT.md: Many strings in one pass.
 use mathlib.Core.Path.{_≡_}
 use mathlib.Core.Bool.{Bool, not}
-use mathlib.Core.Option.{none, some}
-use mathlib.Core.List.{List, []}
+use mathlib.Core.List.{List}
 use Prim.Native.Nat.{ℕ, zero, suc, _-_, _≤_, _<_}
 use lib.Dec.{leb, ltb, eqb}
 use lib.ListN.{length, getD}
-use Rattle.bits.specs.Choice.{pick, both, allBelow}
+use Rattle.bits.specs.Choice.{both, allBelow}
 use Rattle.bits.specs.Bytes.{bytesAt}
 use Rattle.unicode.specs.Utf8.{isUtf8}
 use Rattle.string_edits.specs.declared.Next.{Next}
@@ -27,8 +26,8 @@ abbrev pub editIn : List ℕ → List ℕ → List ℕ → ℕ → Edit
 editIn ids text ends j = record { id = getD ids j 0; value = valueIn text ends j }
 
 -- what strings get by all
-abbrev pub valuesIn : List ℕ → List ℕ → List ℕ → Values
-valuesIn ids text ends = valuesOf (editIn ids text ends) (length ids)
+abbrev pub valuesListed : List ℕ → List ℕ → List ℕ → Values
+valuesListed ids text ends = valuesOf (editIn ids text ends) (length ids)
 
 -- ---- what is judged of a list
 
@@ -57,32 +56,14 @@ allUtf8 values k = allBelow k (λ j. isUtf8 (values j))
 
 -- ---- what the code goes by
 
--- a list that is one, with different ids
-pub record Listed (ids text ends : List ℕ) : Type 0 where
-  pub many : length ends ≡ length ids
-  pub rising : (j : ℕ) → j < length ids → startIn ends j ≤ startIn ends (suc j)
-  pub within : (j : ℕ) → j < length ids → startIn ends (suc j) ≤ length text
-  pub differ : (i j : ℕ) → i < length ids → j < length ids → getD ids i 0 ≡ getD ids j 0 → i ≡ j
-
 -- value j stands in the text
 pub record Within (text ends : List ℕ) (j : ℕ) : Type 0 where
   pub known : j < length ends
   pub rising : startIn ends j ≤ startIn ends (suc j)
   pub end : startIn ends (suc j) ≤ length text
 
--- n is the edit that comes next at string `from`, of the first k: that of the lowest id from there on; where none is left its id is past
--- those of all strings
-pub record NextOf (ids : List ℕ) (from k : ℕ) (n : Next) : Type 0 where
+-- n is the edit of the lowest id from `from` on, of the first k of a list; where there is none its id is past those of all strings
+pub record NearestOf (ids : List ℕ) (from k : ℕ) (n : Next) : Type 0 where
   pub past : from ≤ n .id
   pub least : (j : ℕ) → j < k → from ≤ getD ids j 0 → n .id ≤ getD ids j 0
   pub own : n .id < 0x100000000 → (n .edit < length ids) × (getD ids (n .edit) 0 ≡ n .id)
-
--- its value, or nothing
-abbrev pub comingIn : List ℕ → List ℕ → Next → List ℕ
-comingIn text ends n = pick (ltb (n .id) 0x100000000) (valueIn text ends (n .edit)) []
-
--- the same said of what strings get: from `from` on, the first that gets a value is id
-pub record Coming (v : Values) (value : List ℕ) (from id : ℕ) : Type 0 where
-  pub past : from ≤ id
-  pub before : (i : ℕ) → from ≤ i → i < id → v i ≡ none
-  pub at : id < 0x100000000 → v id ≡ some value

@@ -1,12 +1,22 @@
-// A list of edits of strings: ids, the values as one text, and where each value ends in it. What is
-// judged of it, and which edit comes next in the order of ids: no list is sorted or copied.
+// Edits of strings: the values as one text, where each value ends in it, and words that tell which
+// string gets which. What is judged of a list of ids, and which edit comes next in the order of ids:
+// nothing is sorted or copied.
 ghost use mathlib.Core.Path.{_≡_};
 ghost use Prim.Native.Nat.{ℕ, suc, _≤_, _<_};
 ghost use lib.ListN.{length, getD};
 ghost use Rattle.string_edits.specs.Lists.{startIn, valueIn, isSplit, isList, allKnown, isNew, allDiffer, allUtf8};
-ghost use Rattle.string_edits.specs.Lists.{Within, NextOf, comingIn};
+ghost use Rattle.string_edits.specs.Lists.{Within, NearestOf};
+ghost use Rattle.string_edits.specs.Told.{told, NextOf, comingIn};
+ghost use Rattle.string_edits.specs.declared.Form.the-variants.{Ids, Marks};
 
-// The edit that comes next: its number in the list, and its id, or NONE where none is left.
+// How words tell what strings get: by a list of ids, number j being that of edit j; or by a mark for
+// each string, one more than the number of its edit, 0 for none.
+pub enum Form {
+    Ids,
+    Marks,
+}
+
+// The edit that comes next: its number, and the id of its string, or NONE where none is left.
 pub struct Next {
     pub edit: usize,
     pub id: usize,
@@ -36,7 +46,7 @@ fn start_of(ends: &[u32], j: usize) -> usize
 }
 
 // Value `j`.
-fn value_at<'a>(text: &'a [u8], ends: &[u32], j: usize) -> &'a [u8]
+pub fn value_at<'a>(text: &'a [u8], ends: &[u32], j: usize) -> &'a [u8]
     requires { ⌜ Within (now text) (now ends) j ⌝ }
     ensures { λ r. ⌜ (now r ≡ valueIn (now (text .entry)) (now (ends .entry)) j) × (length (now r) < 4294967296) ⌝ }
 {
@@ -135,8 +145,8 @@ pub fn are_utf8(text: &[u8], ends: &[u32]) -> bool
 
 // The better of edit `j` and the best before it: from `from` on, and of the lower id.
 fn nearer(ids: &[u32], from: usize, best: Next, j: usize) -> Next
-    requires { ⌜ (j < length (now ids)) × NextOf (now ids) from j best ⌝ }
-    ensures { λ r. ⌜ NextOf (now (ids .entry)) from (suc j) r ⌝ }
+    requires { ⌜ (j < length (now ids)) × NearestOf (now ids) from j best ⌝ }
+    ensures { λ r. ⌜ NearestOf (now (ids .entry)) from (suc j) r ⌝ }
 {
     let id = wide(ids[j]);
     if id < from {
@@ -148,10 +158,10 @@ fn nearer(ids: &[u32], from: usize, best: Next, j: usize) -> Next
     Next { edit: j, id }
 }
 
-// The edit that comes next at string `from`: one look through the list.
-pub fn next_edit(ids: &[u32], from: usize) -> Next
+// The edit that comes next at string `from`, by a list of ids: one look through it.
+fn next_listed(ids: &[u32], from: usize) -> Next
     requires { ⌜ from ≤ 4294967296 ⌝ }
-    ensures { λ r. ⌜ NextOf (now (ids .entry)) from (length (now (ids .entry))) r ⌝ }
+    ensures { λ r. ⌜ NextOf (told Ids (now (ids .entry))) from r ⌝ }
 {
     let mut best = Next { edit: 0, id: NONE };
     let mut j = 0;
@@ -160,6 +170,34 @@ pub fn next_edit(ids: &[u32], from: usize) -> Next
         j += 1;
     }
     best
+}
+
+// The same by a mark for each string: the first from there on that has one, so that a pass over all
+// strings looks at each mark once.
+fn next_marked(marks: &[u32], from: usize) -> Next
+    requires { ⌜ from ≤ 4294967296 ⌝ }
+    ensures { λ r. ⌜ NextOf (told Marks (now (marks .entry))) from r ⌝ }
+{
+    let mut id = from;
+    while id < marks.len() {
+        let mark = wide(marks[id]);
+        if mark > 0 {
+            return Next { edit: mark - 1, id };
+        }
+        id += 1;
+    }
+    Next { edit: 0, id: NONE }
+}
+
+// The edit that comes next at string `from`.
+pub fn next_edit(form: Form, words: &[u32], from: usize) -> Next
+    requires { ⌜ from ≤ 4294967296 ⌝ }
+    ensures { λ r. ⌜ NextOf (told form (now (words .entry))) from r ⌝ }
+{
+    match form {
+        Form::Ids => next_listed(words, from),
+        Form::Marks => next_marked(words, from),
+    }
 }
 
 // Its value, or nothing.

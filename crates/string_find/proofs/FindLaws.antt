@@ -13,8 +13,8 @@ use lib.Seq.{ext-getD}
 use Rattle.refusals.specs.Numbers as refusals
 use Rattle.bits.specs.Choice.{pick, both}
 use Rattle.bits.specs.Bytes.{bytesAt}
-use Rattle.bits.proofs.TestLaws.{both-1}
 use Rattle.footer.specs.Footer.{same}
+use Rattle.footer.proofs.SameLaws.{longer-differs}
 use Rattle.image.specs.Sections.{stringsIn}
 use Rattle.image.specs.Strings.{unitSize, stringOf, unitsOf}
 use Rattle.unicode.specs.declared.Reading.{Reading}
@@ -35,26 +35,6 @@ use Rattle.string_find.specs.Find.{findFrom, findId, unitsAt}
 
 -- ---- lists that are the same
 
-same-length : (a b : List ℕ) → same a b ≡ true → length a ≡ length b
-unfolding same
-same-length [] [] h = refl
-same-length [] (y ∷ b) h = absurd (never h)
-  where
-    never : false ≡ true → ⊥
-    never e = let z : _≡_ {A = ℕ} 0 1 = cc in omega arith
-same-length (x ∷ a) [] h = absurd (never h)
-  where
-    never : false ≡ true → ⊥
-    never e = let z : _≡_ {A = ℕ} 0 1 = cc in omega arith
-same-length (x ∷ a) (y ∷ b) h = ap suc (same-length a b (both-1 (eqb x y) (same a b) h))
-
-longer-differs : (a b : List ℕ) → (length a ≡ length b → ⊥) → false ≡ same a b
-longer-differs a b h = go (same a b) refl
-  where
-    go : (r : Bool) → same a b ≡ r → false ≡ r
-    go true e = absurd (h (same-length a b e))
-    go false e = refl
-
 same-append : (a b c d : List ℕ) → length a ≡ length b → same (a ++ c) (b ++ d) ≡ both (same a b) (same c d)
 unfolding same
 same-append [] [] c d h = refl
@@ -69,7 +49,7 @@ same-append (x ∷ a) (y ∷ b) c d h = go (eqb x y) (same-append a b c d (omega
 
 -- ---- units where they stand
 
-length-at : (s : List ℕ) (start : ℕ) (wide : Bool) (j n : ℕ) → length (unitsAt s start wide j n) ≡ n
+pub length-at : (s : List ℕ) (start : ℕ) (wide : Bool) (j n : ℕ) → length (unitsAt s start wide j n) ≡ n
 unfolding unitsAt
 length-at s start wide j zero = refl
 length-at s start wide j (suc n) = ap suc (length-at s start wide (suc j) n)
@@ -90,7 +70,7 @@ unit-of s start wide (suc n) j zero h = rw (add-zero j)
 unit-of s start wide (suc n) j (suc i) h = rw (add-suc j i, ← suc-add j i) (unit-of s start wide n (suc j) i (omega arith))
 
 -- they are those of the string
-string-units : (s : List ℕ) (start n : ℕ) (wide : Bool)
+pub string-units : (s : List ℕ) (start n : ℕ) (wide : Bool)
     → unitsOf (record { wide = wide; bytes = bytesAt s start (n * unitSize wide) }) ≡ unitsAt s start wide 0 n
 string-units s start n wide =
     ext-getD 0 _ (unitsAt s start wide 0 n) (units-count s start n wide ∙ sym (length-at s start wide 0 n))
@@ -220,6 +200,12 @@ all-agree s value start j i wide r h x e = rw (units-end r value i h) at e
 
 -- ---- string i
 
+-- its units, where its record says that they stand
+pub units-stand : (p : Places) (s : List ℕ) → Placed p s → (i : ℕ) (r : StringRecord) → Stands p s i r
+    → unitsOf (stringOf (p .layout) s i) ≡ unitsAt s (r .start) (r .place .wide) 0 (r .place .count)
+units-stand p s h i r g =
+    ap unitsOf (sym (record-string p s h i r g)) ∙ string-units s (r .start) (r .place .count) (r .place .wide)
+
 -- r is the record of string i, and n units are sought
 pub record Sought (p : Places) (s units : List ℕ) (i : ℕ) (r : StringRecord) (n : ℕ) : Type 0 where
   pub placed : Placed p s
@@ -227,11 +213,6 @@ pub record Sought (p : Places) (s units : List ℕ) (i : ℕ) (r : StringRecord)
   pub count : n ≡ length units
 
 module _ (p : Places) (s units : List ℕ) (i : ℕ) (r : StringRecord) (n : ℕ) (h : Sought p s units i r n) where
-  found-units : unitsOf (stringOf (p .layout) s i) ≡ unitsAt s (r .start) (r .place .wide) 0 (r .place .count)
-  found-units =
-      ap unitsOf (sym (record-string p s (h .placed) i r (h .stands)))
-      ∙ string-units s (r .start) (r .place .count) (r .place .wide)
-
   pub other-count : (r .place .count ≡ n → ⊥) → false ≡ same (unitsOf (stringOf (p .layout) s i)) units
   other-count d =
       longer-differs (unitsOf (stringOf (p .layout) s i)) units
@@ -239,7 +220,7 @@ module _ (p : Places) (s units : List ℕ) (i : ℕ) (r : StringRecord) (n : ℕ
 
   pub same-count : r .place .count ≡ n
       → same (unitsAt s (r .start) (r .place .wide) 0 (length units)) units ≡ same (unitsOf (stringOf (p .layout) s i)) units
-  same-count e = rw (found-units, e, h .count)
+  same-count e = rw (units-stand p s (h .placed) i r (h .stands), e, h .count)
 
   pub units-in : r .place .count ≡ n → r .start + length units * unitSize (r .place .wide) ≤ length s
   units-in e = units-inside p s (h .placed) i r (h .stands) (length units) (omega (arith, h .count))

@@ -54,7 +54,7 @@ fn are_units(image: &[u8], start: usize, wide: bool, value: &[u8]) -> bool
 }
 
 // Whether string `i` has the units of the value, which are `count`.
-fn has_units(
+pub fn has_units(
     image: &[u8],
     p: Places,
     i: usize,

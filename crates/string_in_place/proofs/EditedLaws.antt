@@ -7,7 +7,6 @@ use Prim.Native.Nat.{ℕ, suc, _+_, _≤_, _<_}
 use native.Mathlib.Numerals.{add-one}
 use native.Mathlib.Omega.{arith}
 use borrow.Author.Tests.{not-true, not-false}
-use lib.ListN.{length}
 use Rattle.bits.specs.Choice.{both}
 use Rattle.bits.proofs.TestLaws.{both-of}
 use Rattle.image.specs.Sections.{stringsIn}
@@ -18,16 +17,17 @@ use Rattle.string_walk.specs.declared.Visited.{Visited}
 use Rattle.string_walk.specs.Places.{Stands, CursorOf, VisitedOf}
 use Rattle.string_edits.specs.declared.Next.{Next}
 use Rattle.string_edits.specs.Values.{Values, inTurn, allEdited}
-use Rattle.string_edits.specs.Lists.{editIn, valuesIn, Within, NextOf, comingIn, Coming}
+use Rattle.string_edits.specs.Lists.{Within}
+use Rattle.string_edits.specs.Told.{Told, valuesIn, NextOf, comingIn, Coming}
 use Rattle.string_edits.proofs.TurnLaws.{turn-start, turn-skip, turn-next, turn-last, edited-not}
-use Rattle.string_edits.proofs.ListLaws.{values-none, coming, coming-within}
+use Rattle.string_edits.proofs.ToldLaws.{told-none, coming, coming-within}
 use Rattle.string_in_place.specs.Known.{Given}
 
 -- the pass stands at a string, and the next edit from there on is known
-pub record Edge (p : Places) (s ids : List ℕ) (c : Cursor) (n : Next) : Type 0 where
+pub record Edge (p : Places) (s : List ℕ) (edits : Told) (c : Cursor) (n : Next) : Type 0 where
   pub cursor : CursorOf p s c
   pub most : c .id ≤ p .strings
-  pub next : NextOf ids (c .id) (length ids) n
+  pub next : NextOf edits (c .id) n
 
 -- the pass has come to the next edited string, and has visited it
 pub record Met (p : Places) (s : List ℕ) (n : Next) (at : Cursor) (r : Visited) : Type 0 where
@@ -35,9 +35,9 @@ pub record Met (p : Places) (s : List ℕ) (n : Next) (at : Cursor) (r : Visited
   pub here : at .id ≡ n .id
   pub visits : VisitedOf p s at r
 
-module _ (p : Places) (s ids text ends : List ℕ) (from : Cursor) (g : Given p s ids text ends from) where
+module _ (p : Places) (s : List ℕ) (edits : Told) (text ends : List ℕ) (from : Cursor) (g : Given p s edits text ends from) where
   abbrev gets : Values
-  gets = valuesIn ids text ends
+  gets = valuesIn edits text ends
 
   pub strings-few : p .strings ≤ 16777216
   strings-few = let z : Sectioned p s = sectioned p s (g .laid .placed) in omega arith
@@ -46,25 +46,25 @@ module _ (p : Places) (s ids text ends : List ℕ) (from : Cursor) (g : Given p 
   counts = sectioned p s (g .laid .placed) .strings
 
   -- at its start, before all edits
-  pub edge-first : (n : Next) → NextOf ids (from .id) (length ids) n → Edge p s ids from n
+  pub edge-first : (n : Next) → NextOf edits (from .id) n → Edge p s edits from n
   edge-first n h = record { cursor = g .from .cursor; most = g .from .most; next = h }
 
   pub turn-first : {A : Type 0} (turn : ℕ → List ℕ → A → A) (a : A) → inTurn gets turn (from .id) a ≡ a
   turn-first turn a =
       turn-skip gets turn a 0 (from .id) (omega arith)
-      (λ j h k. values-none (editIn ids text ends) j (length ids) (λ i m e. omega (arith, g .from .first i m)))
+      (λ i h k. told-none text ends i edits (λ j t. omega (arith, g .from .first i j t)))
       ∙ turn-start gets turn a
 
-  module _ (c : Cursor) (n : Next) (e : Edge p s ids c n) where
+  module _ (c : Cursor) (n : Next) (e : Edge p s edits c n) where
     come : Coming gets (comingIn text ends n) (c .id) (n .id)
-    come = coming ids text ends (g .listed) (c .id) n (e .next)
+    come = coming edits text ends (g .listed) (c .id) n (e .next)
 
     -- the next edit is of a string, and its value stands in the text
     pub edge-known : n .id < 4294967296 → n .id < p .strings
-    edge-known h = let o = e .next .own h in omega (arith, g .known (n .edit) (o .0), o .1)
+    edge-known h = g .known (n .id) (n .edit) (e .next .own h)
 
     pub edge-within : n .id < 4294967296 → Within text ends (n .edit)
-    edge-within = coming-within ids text ends (g .listed) (c .id) n (e .next)
+    edge-within = coming-within edits text ends (g .listed) (c .id) n (e .next)
 
     -- with none left, all have had their turn
     pub turn-end : {A : Type 0} (turn : ℕ → List ℕ → A → A) (a : A) → 4294967296 ≤ n .id
@@ -88,7 +88,7 @@ module _ (p : Places) (s ids text ends : List ℕ) (from : Cursor) (g : Given p 
       met-gets = come .at (m .edit)
 
       -- one further
-      pub edge-next : (k : Next) → NextOf ids (r .next .id) (length ids) k → Edge p s ids (r .next) k
+      pub edge-next : (k : Next) → NextOf edits (r .next .id) k → Edge p s edits (r .next) k
       edge-next k h =
           record { cursor = m .visits .next; most = omega (arith, behind, edge-known (m .edit)); next = h }
 

@@ -35,7 +35,7 @@ use Rattle.string_walk.specs.Places.{Stands}
 use Rattle.string_walk.proofs.RecordLaws.{start-is, record-inside}
 use Rattle.string_walk.specs.declared.Cursor.{Cursor}
 use Rattle.string_edits.specs.Values.{Values, allEdited}
-use Rattle.string_edits.specs.Lists.{valuesIn}
+use Rattle.string_edits.specs.Told.{Told, valuesIn}
 use Rattle.string_edits.proofs.TurnLaws.{turn-keeps, edited-at, edited-of}
 use Rattle.string_in_place.specs.Known.{sizedAt, tested, Overwritten, Finishable}
 use Rattle.string_in_place.specs.Patch.{fitsInPlace, fitsAll, overOld, inPlace, changed, finished, patchedInPlace, patchedStrings}
@@ -79,6 +79,14 @@ module _ (l : Layout) (s : List ℕ) (id : ℕ) (value : List ℕ) where
       go true true c = refl
       go true false c = refl
       go false b c = refl
+
+  -- by what the code answers for each
+  module _ (a : Bool) (e : a ≡ isSized l s id value) where
+    pub not-sized : not a ≡ true → false ≡ fitsInPlace l s id value
+    not-sized f = rw (← fits-is, ← e, not-true a f)
+
+    pub sized-then : not a ≡ false → (b : Bool) → b ≡ isOwn l s id value → b ≡ fitsInPlace l s id value
+    sized-then f b g = rw (← fits-is, ← e, not-false a f) g
 
   fits-sized : fitsInPlace l s id value ≡ true → isSized l s id value ≡ true
   fits-sized t = both-0 (isSized l s id value) (isOwn l s id value) (fits-is ∙ t)
@@ -168,9 +176,9 @@ length-over l s v out =
 
 -- ---- the whole
 
-module _ (p : Places) (s ids text ends : List ℕ) (c : Cursor) (ov : Overwritten p s ids text ends c) where
+module _ (p : Places) (s : List ℕ) (edits : Told) (text ends : List ℕ) (c : Cursor) (ov : Overwritten p s edits text ends c) where
   abbrev gets : Values
-  gets = valuesIn ids text ends
+  gets = valuesIn edits text ends
 
   abbrev done : List ℕ
   done = patchedInPlace (p .layout) s gets

@@ -4,7 +4,7 @@ use mathlib.Core.Bool.{Bool, true, not}
 use mathlib.Core.List.{List}
 use Prim.Native.Nat.{ℕ, _+_, _≤_, _<_}
 use lib.Dec.{eqb}
-use lib.ListN.{length, getD}
+use lib.ListN.{length}
 use lib.Seq.{sets}
 use Rattle.bits.specs.Choice.{pick, both}
 use Rattle.bits.specs.Bytes.{ascii}
@@ -22,21 +22,21 @@ use Rattle.string_walk.specs.declared.Rank.{Rank}
 use Rattle.string_walk.specs.declared.Rank.the-variants.{At, Plain}
 use Rattle.string_walk.specs.declared.Cursor.{Cursor}
 use Rattle.string_walk.specs.Places.{CursorOf}
-use Rattle.string_edits.specs.Lists.{valuesIn, Listed}
+use Rattle.string_edits.specs.Told.{Told, Tells, valuesIn, Listed}
 use Rattle.string_in_place.specs.Patch.{fitsAll}
 
 -- a cursor that stands at or before the first edited string of an image
-pub record FirstOf (p : Places) (s ids : List ℕ) (c : Cursor) : Type 0 where
+pub record FirstOf (p : Places) (s : List ℕ) (edits : Told) (c : Cursor) : Type 0 where
   pub cursor : CursorOf p s c
   pub most : c .id ≤ p .strings
-  pub first : (j : ℕ) → j < length ids → c .id ≤ getD ids j 0
+  pub first : (id j : ℕ) → Tells edits id j → c .id ≤ id
 
--- a list of edits of an admitted image, each of a string that it has, and where a pass over the edited strings starts
-pub record Given (p : Places) (s ids text ends : List ℕ) (c : Cursor) : Type 0 where
+-- edits of an admitted image, each of a string that it has, and where a pass over the edited strings starts
+pub record Given (p : Places) (s : List ℕ) (edits : Told) (text ends : List ℕ) (c : Cursor) : Type 0 where
   pub laid : Laid p s
-  pub listed : Listed ids text ends
-  pub known : (j : ℕ) → j < length ids → getD ids j 0 < p .strings
-  pub from : FirstOf p s ids c
+  pub listed : Listed edits text ends
+  pub known : (id j : ℕ) → Tells edits id j → id < p .strings
+  pub from : FirstOf p s edits c
 
 -- ---- in place
 
@@ -49,9 +49,9 @@ abbrev pub tested : Bool → Layout → List ℕ → ℕ → List ℕ → Bool
 tested overlaps l s id value = pick overlaps (isAlone l s id) (sizedAt (placeAt l s id) value)
 
 -- every value goes over its string's bytes
-pub record Overwritten (p : Places) (s ids text ends : List ℕ) (c : Cursor) : Type 0 where
-  pub given : Given p s ids text ends c
-  pub fits : fitsAll (p .layout) s (valuesIn ids text ends) ≡ true
+pub record Overwritten (p : Places) (s : List ℕ) (edits : Told) (text ends : List ℕ) (c : Cursor) : Type 0 where
+  pub given : Given p s edits text ends c
+  pub fits : fitsAll (p .layout) s (valuesIn edits text ends) ≡ true
 
 -- ---- the end of a patch, by the rank that a record carries
 

@@ -2,6 +2,7 @@
 // case in which every value goes over its string's own bytes.
 use bits::Answer;
 use sections::Places;
+use string_edits::Form;
 use string_tables::Place;
 use string_walk::Cursor;
 use string_walk::Rank;
@@ -9,7 +10,7 @@ use string_walk::StringRecord;
 ghost use mathlib.Core.Path.{_≡_};
 ghost use mathlib.Core.Bool.{true};
 ghost use Prim.Native.Nat.{ℕ, _<_};
-ghost use lib.ListN.{length, getD};
+ghost use lib.ListN.{length};
 ghost use Rattle.bits.specs.Outcome.{Answers, made, roomed};
 ghost use Rattle.unicode.specs.Utf8.{utf16};
 ghost use Rattle.image.specs.Sections.{stringsIn};
@@ -17,17 +18,17 @@ ghost use Rattle.sections.specs.Places.{Laid};
 ghost use Rattle.string_tables.specs.Strings.{asPlace};
 ghost use Rattle.string_walk.specs.Places.{Stands};
 ghost use Rattle.string_edits.specs.Values.{allEdited};
-ghost use Rattle.string_edits.specs.Lists.{valuesIn};
+ghost use Rattle.string_edits.specs.Told.{told, Tells, valuesIn};
 ghost use Rattle.string_in_place.specs.Known.{FirstOf, Given, sizedAt, tested, Overwritten, slotted, SlotFits, Finishable};
-ghost use Rattle.string_in_place.specs.Patch.{fitsAll, inPlace, rehashed, finished, patchedInPlace};
+ghost use Rattle.string_in_place.specs.Patch.{fitsInPlace, fitsAll, inPlace, rehashed, finished, patchedInPlace};
 
 // Where a pass over the edited strings starts: at the first of them.
-pub fn first_edited(image: &[u8], p: Places, ids: &[u32]) -> Cursor
+pub fn first_edited(image: &[u8], p: Places, form: Form, words: &[u32]) -> Cursor
     requires { ⌜ Laid p (now image) ⌝ }
-    requires { ⌜ ((j : ℕ) → j < length (now ids) → getD (now ids) j 0 < p .strings) ⌝ }
-    ensures { λ r. ⌜ FirstOf p (now (image .entry)) (now (ids .entry)) r ⌝ }
+    requires { ⌜ ((id j : ℕ) → Tells (told form (now words)) id j → id < p .strings) ⌝ }
+    ensures { λ r. ⌜ FirstOf p (now (image .entry)) (told form (now (words .entry))) r ⌝ }
 {
-    let next = string_edits::next_edit(ids, 0);
+    let next = string_edits::next_edit(form, words, 0);
     let first = string_walk::first_string();
     if next.id < string_edits::NONE {
         return string_walk::string_from(image, p, first, next.id);
@@ -55,16 +56,17 @@ fn put_hashes(
     image: &[u8],
     p: Places,
     from: Cursor,
-    ids: &[u32],
+    form: Form,
+    words: &[u32],
     text: &[u8],
     ends: &[u32],
 )
-    requires { ⌜ Given p (now image) (now ids) (now text) (now ends) from × Finishable p (length (now out)) ⌝ }
+    requires { ⌜ Given p (now image) (told form (now words)) (now text) (now ends) from × Finishable p (length (now out)) ⌝ }
     ensures { λ _. ⌜ now (out .exit) ≡ rehashed (p .layout) (now (image .entry))
-        (valuesIn (now (ids .entry)) (now (text .entry)) (now (ends .entry))) (now (out .entry)) ⌝ }
+        (valuesIn (told form (now (words .entry))) (now (text .entry)) (now (ends .entry))) (now (out .entry)) ⌝ }
 {
     let mut c = from;
-    let mut due = string_edits::next_edit(ids, c.id);
+    let mut due = string_edits::next_edit(form, words, c.id);
     while due.id < string_edits::NONE {
         let at = string_walk::string_from(image, p, c, due.id);
         let step = string_walk::string_at(image, p, at);
@@ -77,7 +79,7 @@ fn put_hashes(
             string_edits::value_of(text, ends, due),
         );
         c = step.next;
-        due = string_edits::next_edit(ids, c.id);
+        due = string_edits::next_edit(form, words, c.id);
     }
 }
 
@@ -87,16 +89,17 @@ pub fn finish(
     image: &[u8],
     p: Places,
     from: Cursor,
-    ids: &[u32],
+    form: Form,
+    words: &[u32],
     text: &[u8],
     ends: &[u32],
 ) -> Answer
-    requires { ⌜ Given p (now image) (now ids) (now text) (now ends) from × Finishable p (length (now out)) ⌝ }
+    requires { ⌜ Given p (now image) (told form (now words)) (now text) (now ends) from × Finishable p (length (now out)) ⌝ }
     ensures { λ r. ⌜ Answers (made (finished (p .layout) (now (image .entry))
-        (valuesIn (now (ids .entry)) (now (text .entry)) (now (ends .entry))) (now (out .entry)))) r (now (out .entry))
+        (valuesIn (told form (now (words .entry))) (now (text .entry)) (now (ends .entry))) (now (out .entry)))) r (now (out .entry))
         (now (out .exit)) ⌝ }
 {
-    put_hashes(out, image, p, from, ids, text, ends);
+    put_hashes(out, image, p, from, form, words, text, ends);
     footer::finalize_raw_image(out)
 }
 
@@ -136,22 +139,35 @@ fn passes(
     is_sized(own.place, value)
 }
 
+// Whether a value may go over the bytes of string `id`, whose record is `own`.
+pub fn fits_in_place(image: &[u8], p: Places, id: usize, own: StringRecord, value: &[u8]) -> bool
+    requires { ⌜ Laid p (now image) ⌝ }
+    requires { ⌜ Stands p (now image) id own ⌝ }
+    ensures { λ r. ⌜ r ≡ fitsInPlace (p .layout) (now (image .entry)) id (now (value .entry)) ⌝ }
+{
+    if !passes(image, p, id, own, value, false) {
+        return false;
+    }
+    passes(image, p, id, own, value, true)
+}
+
 // Whether each edit passes that test.
 fn all_pass(
     image: &[u8],
     p: Places,
     from: Cursor,
-    ids: &[u32],
+    form: Form,
+    words: &[u32],
     text: &[u8],
     ends: &[u32],
     overlaps: bool,
 ) -> bool
-    requires { ⌜ Given p (now image) (now ids) (now text) (now ends) from ⌝ }
-    ensures { λ r. ⌜ r ≡ allEdited (valuesIn (now (ids .entry)) (now (text .entry)) (now (ends .entry)))
+    requires { ⌜ Given p (now image) (told form (now words)) (now text) (now ends) from ⌝ }
+    ensures { λ r. ⌜ r ≡ allEdited (valuesIn (told form (now (words .entry))) (now (text .entry)) (now (ends .entry)))
         (tested overlaps (p .layout) (now (image .entry))) (stringsIn (now (image .entry))) ⌝ }
 {
     let mut c = from;
-    let mut next = string_edits::next_edit(ids, c.id);
+    let mut next = string_edits::next_edit(form, words, c.id);
     while next.id < string_edits::NONE {
         let at = string_walk::string_from(image, p, c, next.id);
         let step = string_walk::string_at(image, p, at);
@@ -161,24 +177,32 @@ fn all_pass(
             return false;
         }
         c = step.next;
-        next = string_edits::next_edit(ids, c.id);
+        next = string_edits::next_edit(form, words, c.id);
     }
     true
 }
 
 // Whether no edited string overlaps another: one pass tells it of all strings that stand in a row; else
-// each is held to all others. For one edit the first pass would spare nothing.
-fn are_alone(image: &[u8], p: Places, from: Cursor, ids: &[u32], text: &[u8], ends: &[u32]) -> bool
-    requires { ⌜ Given p (now image) (now ids) (now text) (now ends) from ⌝ }
-    ensures { λ r. ⌜ r ≡ allEdited (valuesIn (now (ids .entry)) (now (text .entry)) (now (ends .entry)))
+// each is held to all others. For a list of one edit the first pass would spare nothing.
+fn are_alone(
+    image: &[u8],
+    p: Places,
+    from: Cursor,
+    form: Form,
+    words: &[u32],
+    text: &[u8],
+    ends: &[u32],
+) -> bool
+    requires { ⌜ Given p (now image) (told form (now words)) (now text) (now ends) from ⌝ }
+    ensures { λ r. ⌜ r ≡ allEdited (valuesIn (told form (now (words .entry))) (now (text .entry)) (now (ends .entry)))
         (tested true (p .layout) (now (image .entry))) (stringsIn (now (image .entry))) ⌝ }
 {
-    if ids.len() > 1 {
+    if words.len() > 1 {
         if string_overlap::are_in_row(image, p) {
             return true;
         }
     }
-    all_pass(image, p, from, ids, text, ends, true)
+    all_pass(image, p, from, form, words, text, ends, true)
 }
 
 // Whether every edit could be in place on the image as given. The sizes of all come first: one edit
@@ -187,18 +211,19 @@ pub fn fits_all(
     image: &[u8],
     p: Places,
     from: Cursor,
-    ids: &[u32],
+    form: Form,
+    words: &[u32],
     text: &[u8],
     ends: &[u32],
 ) -> bool
-    requires { ⌜ Given p (now image) (now ids) (now text) (now ends) from ⌝ }
+    requires { ⌜ Given p (now image) (told form (now words)) (now text) (now ends) from ⌝ }
     ensures { λ r. ⌜ r ≡ fitsAll (p .layout) (now (image .entry))
-        (valuesIn (now (ids .entry)) (now (text .entry)) (now (ends .entry))) ⌝ }
+        (valuesIn (told form (now (words .entry))) (now (text .entry)) (now (ends .entry))) ⌝ }
 {
-    if !all_pass(image, p, from, ids, text, ends, false) {
+    if !all_pass(image, p, from, form, words, text, ends, false) {
         return false;
     }
-    are_alone(image, p, from, ids, text, ends)
+    are_alone(image, p, from, form, words, text, ends)
 }
 
 // The values over the old bytes, in a buffer of the image's length.
@@ -207,23 +232,25 @@ fn put_values(
     image: &[u8],
     p: Places,
     from: Cursor,
-    ids: &[u32],
+    form: Form,
+    words: &[u32],
     text: &[u8],
     ends: &[u32],
 )
-    requires { ⌜ Overwritten p (now image) (now ids) (now text) (now ends) from × (length (now out) ≡ length (now image)) ⌝ }
+    requires { ⌜ Overwritten p (now image) (told form (now words)) (now text) (now ends) from
+        × (length (now out) ≡ length (now image)) ⌝ }
     ensures { λ _. ⌜ now (out .exit) ≡ inPlace (p .layout) (now (image .entry))
-        (valuesIn (now (ids .entry)) (now (text .entry)) (now (ends .entry))) (now (out .entry)) ⌝ }
+        (valuesIn (told form (now (words .entry))) (now (text .entry)) (now (ends .entry))) (now (out .entry)) ⌝ }
 {
     let mut c = from;
-    let mut next = string_edits::next_edit(ids, c.id);
+    let mut next = string_edits::next_edit(form, words, c.id);
     while next.id < string_edits::NONE {
         let at = string_walk::string_from(image, p, c, next.id);
         let step = string_walk::string_at(image, p, at);
         let own = step.string;
         bits::put_bytes(out, own.start, string_edits::value_of(text, ends, next));
         c = step.next;
-        next = string_edits::next_edit(ids, c.id);
+        next = string_edits::next_edit(form, words, c.id);
     }
 }
 
@@ -233,17 +260,19 @@ fn put_in_place(
     image: &[u8],
     p: Places,
     from: Cursor,
-    ids: &[u32],
+    form: Form,
+    words: &[u32],
     text: &[u8],
     ends: &[u32],
 ) -> Answer
-    requires { ⌜ Overwritten p (now image) (now ids) (now text) (now ends) from × (length (now out) ≡ length (now image)) ⌝ }
+    requires { ⌜ Overwritten p (now image) (told form (now words)) (now text) (now ends) from
+        × (length (now out) ≡ length (now image)) ⌝ }
     ensures { λ r. ⌜ Answers (made (patchedInPlace (p .layout) (now (image .entry))
-        (valuesIn (now (ids .entry)) (now (text .entry)) (now (ends .entry))))) r (now (out .entry)) (now (out .exit)) ⌝ }
+        (valuesIn (told form (now (words .entry))) (now (text .entry)) (now (ends .entry))))) r (now (out .entry)) (now (out .exit)) ⌝ }
 {
     bits::put_bytes(out, 0, image);
-    put_values(out, image, p, from, ids, text, ends);
-    finish(out, image, p, from, ids, text, ends)
+    put_values(out, image, p, from, form, words, text, ends);
+    finish(out, image, p, from, form, words, text, ends)
 }
 
 // The same in a buffer of any length. 11 and 12 never come up, and the mode does not matter: nothing
@@ -253,17 +282,18 @@ pub fn patch_in_place(
     image: &[u8],
     p: Places,
     from: Cursor,
-    ids: &[u32],
+    form: Form,
+    words: &[u32],
     text: &[u8],
     ends: &[u32],
 ) -> Answer
-    requires { ⌜ Overwritten p (now image) (now ids) (now text) (now ends) from ⌝ }
+    requires { ⌜ Overwritten p (now image) (told form (now words)) (now text) (now ends) from ⌝ }
     ensures { λ r. ⌜ Answers (roomed (length (now (out .entry))) (made (patchedInPlace (p .layout) (now (image .entry))
-        (valuesIn (now (ids .entry)) (now (text .entry)) (now (ends .entry)))))) r (now (out .entry)) (now (out .exit)) ⌝ }
+        (valuesIn (told form (now (words .entry))) (now (text .entry)) (now (ends .entry)))))) r (now (out .entry)) (now (out .exit)) ⌝ }
 {
     let n = image.len();
     if out.len() < n {
         return Answer::Refused(refusals::ROOM);
     }
-    put_in_place(&mut out[0..n], image, p, from, ids, text, ends)
+    put_in_place(&mut out[0..n], image, p, from, form, words, text, ends)
 }

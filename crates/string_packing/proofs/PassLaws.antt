@@ -32,7 +32,7 @@ use Rattle.string_walk.specs.declared.Cursor.{Cursor}
 use Rattle.string_walk.specs.declared.Visited.{Visited}
 use Rattle.string_edits.specs.declared.Next.{Next}
 use Rattle.string_edits.specs.Values.{Values, only}
-use Rattle.string_edits.specs.Lists.{Coming}
+use Rattle.string_edits.specs.Told.{Coming}
 use Rattle.string_packing.specs.declared.Stretch.{Stretch}
 use Rattle.string_packing.specs.declared.Packer.{Packer}
 use Rattle.string_packing.specs.declared.Turn.{Turn}
@@ -140,6 +140,18 @@ module _ (l : Layout) (s : List ℕ) (v : Values) (value : List ℕ) (from strin
     λ t. subst⁻¹ (Shaped (r .new)) (stretch-string i h k) (rw t (st .shaped)),
     λ t. stretch-string i h k ∙ rw t,
   )
+
+-- whatever strings get outside of the stretch: what is packed at its start is packed on, up to d
+abbrev pub PackedOn : Mode → Places → List ℕ → Stretch → Packer → Packer → Type 0
+PackedOn m p s r c d =
+    (v : Values) (value : List ℕ) → StretchOf v value (c .old .id) (p .strings) r → Reached m p s (stringWith (p .layout) s v) c
+    → Reached m p s (stringWith (p .layout) s v) d
+
+pub packed-next : (m : Mode) (p : Places) (s : List ℕ) (r : Stretch) (c d : Packer) (t : Turn) → PackedOn m p s r c d
+    → c .old .id ≤ d .old .id → d .old .id < r .end → Turned m p s (r .next .id) (r .new) d t → PackedOn m p s r c (t .next)
+packed-next m p s r c d t on h k tu v value st rc =
+    turned-reached m p s (r .next .id) (r .new) (stringWith (p .layout) s v) d t tu (on v value st rc)
+    (stretch-held (p .layout) s v value (c .old .id) (p .strings) r st (d .old .id) h k)
 
 -- the next edit is of a string, or of none
 module _ (v : Values) (value : List ℕ) (from strings : ℕ) (next : Next) (new : Shape) (c : Coming v value from (next .id))

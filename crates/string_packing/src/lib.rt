@@ -1,6 +1,7 @@
 // The strings of an image, some of them with other values: what each is, and how much room they take.
 use format::Mode;
 use sections::Places;
+use string_edits::Form;
 use string_edits::Next;
 use string_tables::Place;
 use string_walk::Cursor;
@@ -20,7 +21,8 @@ ghost use Rattle.sections.specs.declared.Places.{Places};
 ghost use Rattle.sections.specs.Places.{Placed, Laid};
 ghost use Rattle.string_tables.specs.Strings.{asPlace};
 ghost use Rattle.string_packing.specs.declared.Shape.{Shape};
-ghost use Rattle.string_edits.specs.Lists.{valuesIn, comingIn, Listed, Within};
+ghost use Rattle.string_edits.specs.Lists.{Within};
+ghost use Rattle.string_edits.specs.Told.{told, valuesIn, comingIn, Listed};
 ghost use Rattle.string_packing.specs.Strings.{asString, stringWith, Shaped, placeWith};
 ghost use Rattle.string_packing.specs.Pass.{stringMost, Reached, InTurn, Turned, StretchOf, Measured};
 
@@ -154,14 +156,21 @@ pub fn take_turn(image: &[u8], p: Places, mode: Mode, id: usize, new: Shape, c: 
 }
 
 // The strings from `from` on up to the next that gets a value, that one too, or to the last.
-pub fn next_stretch(ids: &[u32], text: &[u8], ends: &[u32], from: usize, strings: usize) -> Stretch
-    requires { ⌜ Listed (now ids) (now text) (now ends) ⌝ }
+pub fn next_stretch(
+    form: Form,
+    words: &[u32],
+    text: &[u8],
+    ends: &[u32],
+    from: usize,
+    strings: usize,
+) -> Stretch
+    requires { ⌜ Listed (told form (now words)) (now text) (now ends) ⌝ }
     requires { ⌜ (from < strings) × (strings ≤ sizeLimit) ⌝ }
-    ensures { λ r. ⌜ StretchOf (valuesIn (now (ids .entry)) (now (text .entry)) (now (ends .entry)))
+    ensures { λ r. ⌜ StretchOf (valuesIn (told form (now (words .entry))) (now (text .entry)) (now (ends .entry)))
         (comingIn (now (text .entry)) (now (ends .entry)) (r .next)) from strings r ⌝ }
     ensures { λ r. ⌜ (r .next .id < 4294967296 → Within (now (text .entry)) (now (ends .entry)) (r .next .edit)) ⌝ }
 {
-    let next = string_edits::next_edit(ids, from);
+    let next = string_edits::next_edit(form, words, from);
     let new = shape_of(string_edits::value_of(text, ends, next));
     if next.id < strings {
         return Stretch {
@@ -182,18 +191,20 @@ fn measure_stretch(
     image: &[u8],
     p: Places,
     mode: Mode,
-    ids: &[u32],
+    form: Form,
+    words: &[u32],
     text: &[u8],
     ends: &[u32],
     from: Packer,
 ) -> Packer
-    requires { ⌜ Laid p (now image) × Listed (now ids) (now text) (now ends) × (from .old .id < p .strings) ⌝ }
-    requires { ⌜ Reached mode p (now image) (stringWith (p .layout) (now image) (valuesIn (now ids) (now text) (now ends))) from ⌝ }
+    requires { ⌜ Laid p (now image) × Listed (told form (now words)) (now text) (now ends) × (from .old .id < p .strings) ⌝ }
+    requires { ⌜ Reached mode p (now image) (stringWith (p .layout) (now image)
+        (valuesIn (told form (now words)) (now text) (now ends))) from ⌝ }
     ensures { λ r. ⌜ Reached mode p (now (image .entry)) (stringWith (p .layout) (now (image .entry))
-        (valuesIn (now (ids .entry)) (now (text .entry)) (now (ends .entry)))) r ⌝ }
+        (valuesIn (told form (now (words .entry))) (now (text .entry)) (now (ends .entry)))) r ⌝ }
     ensures { λ r. ⌜ (from .old .id < r .old .id) × (r .old .id ≤ p .strings) ⌝ }
 {
-    let s = next_stretch(ids, text, ends, from.old.id, p.strings);
+    let s = next_stretch(form, words, text, ends, from.old.id, p.strings);
     let next = s.next;
     let new = s.new;
     let mut c = from;
@@ -204,15 +215,23 @@ fn measure_stretch(
 }
 
 // How much room the strings take with their new values: one pass, exact sums.
-pub fn measure(image: &[u8], p: Places, mode: Mode, ids: &[u32], text: &[u8], ends: &[u32]) -> Sizes
+pub fn measure(
+    image: &[u8],
+    p: Places,
+    mode: Mode,
+    form: Form,
+    words: &[u32],
+    text: &[u8],
+    ends: &[u32],
+) -> Sizes
     requires { ⌜ Laid p (now image) ⌝ }
-    requires { ⌜ Listed (now ids) (now text) (now ends) ⌝ }
+    requires { ⌜ Listed (told form (now words)) (now text) (now ends) ⌝ }
     ensures { λ r. ⌜ Measured mode p (stringWith (p .layout) (now (image .entry))
-        (valuesIn (now (ids .entry)) (now (text .entry)) (now (ends .entry)))) r ⌝ }
+        (valuesIn (told form (now (words .entry))) (now (text .entry)) (now (ends .entry)))) r ⌝ }
 {
     let mut c = nothing_packed();
     while c.old.id < p.strings {
-        c = measure_stretch(image, p, mode, ids, text, ends, c);
+        c = measure_stretch(image, p, mode, form, words, text, ends, c);
     }
     Sizes {
         storage: c.at,

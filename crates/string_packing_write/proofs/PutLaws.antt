@@ -30,7 +30,7 @@ use Rattle.string_packing.specs.declared.Shape.{Shape}
 use Rattle.string_packing.specs.declared.Packer.{Packer}
 use Rattle.string_packing.specs.declared.Turn.{Turn}
 use Rattle.string_edits.specs.Values.{Values, only}
-use Rattle.string_edits.specs.Lists.{valuesIn}
+use Rattle.string_edits.specs.Told.{Told, valuesIn}
 use Rattle.string_packing.specs.Strings.{asString, newString, stringWith, stringsWith, Shaped, Held}
 use Rattle.string_packing.specs.declared.Sizes.{Sizes}
 use Rattle.string_walk.proofs.RecordLaws.{record-small, record-inside, record-string}
@@ -39,7 +39,7 @@ use Rattle.string_packing.proofs.ShapeLaws.{place-is, size-is, place-next, sums
 use Rattle.string_packing.proofs.PassLaws.{storage-is, overflows-are}
 use Rattle.string_packing_write.specs.declared.RegionPlaces.{RegionPlaces}
 use Rattle.string_packing_write.specs.Region.{putEntry, putString, regionPut, EntryFits, StringFits, Roomy, sourceOf, storedBytes}
-use Rattle.string_packing_write.specs.Written.{Behind, Writable, Sized}
+use Rattle.string_packing_write.specs.Written.{Behind, Sized}
 use Rattle.string_packing_write.proofs.RegionLaws.{laid-next, Joined, Filled, region-padded}
 
 -- the bytes of a value, by its width
@@ -174,12 +174,6 @@ pub record Filling (m : Mode) (p : Places) (s : List ℕ) (f : ℕ → Str) (c :
   pub reached : Reached m p s f c
   pub roomy : Roomy to (p .strings) (packed m f (stringsIn s)) n
 
-pub filling : (m : Mode) (p : Places) (s ids text ends : List ℕ) (to : RegionPlaces) (n : ℕ) → Writable m p s ids text ends to n
-    → (c : Packer) → c .old .id < p .strings → Reached m p s (stringWith (p .layout) s (valuesIn ids text ends)) c
-    → Filling m p s (stringWith (p .layout) s (valuesIn ids text ends)) c to n
-unfolding stringsWith
-filling m p s ids text ends to n w c h r = record { placed = w .laid .placed; known = h; reached = r; roomy = w .roomy }
-
 module _ (m : Mode) (p : Places) (s : List ℕ) (f : ℕ → Str) (c : Packer) (to : RegionPlaces) (n : ℕ)
     (q : Filling m p s f c to n) where
   abbrev from : ℕ
@@ -248,20 +242,20 @@ unfolding stringsWith
 all-strings m p s pl v i e to out o1 h = rw (← sectioned p s pl .strings) (rw e at h)
 
 -- the region of strings that were measured
-module _ (m : Mode) (p : Places) (s ids text ends : List ℕ) (z : Sizes) (n : ℕ) (q : Sized m p s ids text ends z n)
-    (storage : ℕ) (e : storage ≡ p .«over_at» + z .overflows * 8) where
+module _ (m : Mode) (p : Places) (s : List ℕ) (edits : Told) (text ends : List ℕ) (z : Sizes) (n : ℕ)
+    (q : Sized m p s edits text ends z n) (storage : ℕ) (e : storage ≡ p .«over_at» + z .overflows * 8) where
   abbrev target : RegionPlaces
   target = record { «small_at» = p .«small_at»; «over_at» = p .«over_at»; «storage_at» = storage }
 
   abbrev every : Packed
-  every = stringsWith m (p .layout) s (valuesIn ids text ends)
+  every = stringsWith m (p .layout) s (valuesIn edits text ends)
 
   store-is : z .storage ≡ length (every .store)
-  store-is = storage-is m p s (q .laid .placed) (valuesIn ids text ends) z (q .measured)
+  store-is = storage-is m p s (q .laid .placed) (valuesIn edits text ends) z (q .measured)
 
   pairs-are : z .overflows ≡ overs (every .place) (p .strings)
   pairs-are =
-      overflows-are m p s (q .laid .placed) (valuesIn ids text ends) z (q .measured)
+      overflows-are m p s (q .laid .placed) (valuesIn edits text ends) z (q .measured)
       ∙ ap (overs (every .place)) (sym (sectioned p s (q .laid .placed) .strings))
 
   pub roomy : Roomy target (p .strings) every n

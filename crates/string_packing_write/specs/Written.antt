@@ -13,7 +13,7 @@ use Rattle.image.specs.Strings.{Str}
 use Rattle.edits.specs.Packing.{gapOf, standing, packed}
 use Rattle.sections.specs.declared.Places.{Places}
 use Rattle.sections.specs.Places.{Laid}
-use Rattle.string_edits.specs.Lists.{valuesIn, Listed}
+use Rattle.string_edits.specs.Told.{Told, valuesIn, Listed}
 use Rattle.string_packing.specs.declared.Packer.{Packer}
 use Rattle.string_packing.specs.declared.Sizes.{Sizes}
 use Rattle.string_packing.specs.Strings.{stringWith, stringsWith}
@@ -34,15 +34,16 @@ LaidOn m to f i j old new =
     (out : List ℕ) → old ≡ regionPut to i (packed m f i) out → new ≡ regionPut to j (packed m f j) out
 
 -- a list of edits of an admitted image, and where all strings go in a buffer of n bytes
-pub record Writable (m : Mode) (p : Places) (s ids text ends : List ℕ) (to : RegionPlaces) (n : ℕ) : Type 0 where
+pub record Writable (m : Mode) (p : Places) (s : List ℕ) (edits : Told) (text ends : List ℕ) (to : RegionPlaces)
+    (n : ℕ) : Type 0 where
   pub laid : Laid p s
-  pub listed : Listed ids text ends
-  pub roomy : Roomy to (p .strings) (stringsWith m (p .layout) s (valuesIn ids text ends)) n
+  pub listed : Listed edits text ends
+  pub roomy : Roomy to (p .strings) (stringsWith m (p .layout) s (valuesIn edits text ends)) n
 
 -- the same, where all strings were measured: the region ends in a buffer of n bytes
-pub record Sized (m : Mode) (p : Places) (s ids text ends : List ℕ) (z : Sizes) (n : ℕ) : Type 0 where
+pub record Sized (m : Mode) (p : Places) (s : List ℕ) (edits : Told) (text ends : List ℕ) (z : Sizes) (n : ℕ) : Type 0 where
   pub laid : Laid p s
-  pub listed : Listed ids text ends
-  pub measured : Measured m p (stringWith (p .layout) s (valuesIn ids text ends)) z
+  pub listed : Listed edits text ends
+  pub measured : Measured m p (stringWith (p .layout) s (valuesIn edits text ends)) z
   pub room : up4 (entryAt (p .«over_at») overflowEntry (z .overflows) + z .storage) ≤ n
   pub limit : entryAt (p .«over_at») overflowEntry (z .overflows) + z .storage ≤ sizeLimit

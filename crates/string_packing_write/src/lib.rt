@@ -2,6 +2,7 @@
 // the new values at their ids.
 use format::Mode;
 use sections::Places;
+use string_edits::Form;
 use string_packing::Packer;
 use string_packing::Shape;
 use string_packing::Sizes;
@@ -14,7 +15,7 @@ ghost use Rattle.bits.specs.Choice.{both};
 ghost use Rattle.string_tables.specs.Strings.{asPlace};
 ghost use Rattle.edits.specs.Rebuild.{region, padded};
 ghost use Rattle.string_edits.specs.Values.{only};
-ghost use Rattle.string_edits.specs.Lists.{valuesIn};
+ghost use Rattle.string_edits.specs.Told.{told, valuesIn};
 ghost use Rattle.string_packing.specs.Strings.{asString, stringWith, stringsWith, Shaped};
 ghost use Rattle.string_packing.specs.Pass.{Reached, InTurn};
 ghost use Rattle.string_packing_write.specs.Region.{putEntry, putString, regionPut, EntryFits, StringFits, sourceOf, storedBytes};
@@ -139,21 +140,24 @@ fn put_stretch<'a>(
     p: Places,
     mode: Mode,
     to: RegionPlaces,
-    ids: &[u32],
+    form: Form,
+    words: &[u32],
     text: &'a [u8],
     ends: &[u32],
     from: Packer,
 ) -> Packer
-    requires { ⌜ Writable mode p (now image) (now ids) (now text) (now ends) to (length (now out)) × (from .old .id < p .strings) ⌝ }
-    requires { ⌜ Reached mode p (now image) (stringWith (p .layout) (now image) (valuesIn (now ids) (now text) (now ends))) from ⌝ }
+    requires { ⌜ Writable mode p (now image) (told form (now words)) (now text) (now ends) to (length (now out))
+        × (from .old .id < p .strings) ⌝ }
+    requires { ⌜ Reached mode p (now image) (stringWith (p .layout) (now image)
+        (valuesIn (told form (now words)) (now text) (now ends))) from ⌝ }
     ensures { λ r. ⌜ Reached mode p (now (image .entry)) (stringWith (p .layout) (now (image .entry))
-        (valuesIn (now (ids .entry)) (now (text .entry)) (now (ends .entry)))) r ⌝ }
+        (valuesIn (told form (now (words .entry))) (now (text .entry)) (now (ends .entry)))) r ⌝ }
     ensures { λ r. ⌜ (from .old .id < r .old .id) × (r .old .id ≤ p .strings) ⌝ }
     ensures { λ r. ⌜ LaidOn mode to (stringWith (p .layout) (now (image .entry))
-        (valuesIn (now (ids .entry)) (now (text .entry)) (now (ends .entry)))) (from .old .id) (r .old .id) (now (out .entry))
-        (now (out .exit)) ⌝ }
+        (valuesIn (told form (now (words .entry))) (now (text .entry)) (now (ends .entry)))) (from .old .id) (r .old .id)
+        (now (out .entry)) (now (out .exit)) ⌝ }
 {
-    let s = string_packing::next_stretch(ids, text, ends, from.old.id, p.strings);
+    let s = string_packing::next_stretch(form, words, text, ends, from.old.id, p.strings);
     let next = s.next;
     let new = s.new;
     let value = string_edits::value_of(text, ends, next);
@@ -171,17 +175,18 @@ fn put_strings<'a>(
     p: Places,
     mode: Mode,
     to: RegionPlaces,
-    ids: &[u32],
+    form: Form,
+    words: &[u32],
     text: &'a [u8],
     ends: &[u32],
 )
-    requires { ⌜ Writable mode p (now image) (now ids) (now text) (now ends) to (length (now out)) ⌝ }
+    requires { ⌜ Writable mode p (now image) (told form (now words)) (now text) (now ends) to (length (now out)) ⌝ }
     ensures { λ _. ⌜ now (out .exit) ≡ regionPut to (p .strings) (stringsWith mode (p .layout) (now (image .entry))
-        (valuesIn (now (ids .entry)) (now (text .entry)) (now (ends .entry)))) (now (out .entry)) ⌝ }
+        (valuesIn (told form (now (words .entry))) (now (text .entry)) (now (ends .entry)))) (now (out .entry)) ⌝ }
 {
     let mut c = string_packing::nothing_packed();
     while c.old.id < p.strings {
-        c = put_stretch(out, image, p, mode, to, ids, text, ends, c);
+        c = put_stretch(out, image, p, mode, to, form, words, text, ends, c);
     }
 }
 
@@ -192,15 +197,16 @@ pub fn put_region<'a>(
     image: &'a [u8],
     p: Places,
     mode: Mode,
-    ids: &[u32],
+    form: Form,
+    words: &[u32],
     text: &'a [u8],
     ends: &[u32],
     sizes: Sizes,
 )
-    requires { ⌜ Sized mode p (now image) (now ids) (now text) (now ends) sizes (length (now out)) ⌝ }
+    requires { ⌜ Sized mode p (now image) (told form (now words)) (now text) (now ends) sizes (length (now out)) ⌝ }
     ensures { λ _. ⌜ now (out .exit) ≡ sets (now (out .entry)) (p .«small_at») (padded (p .«small_at»)
         (region (p .strings) (stringsWith mode (p .layout) (now (image .entry))
-        (valuesIn (now (ids .entry)) (now (text .entry)) (now (ends .entry)))))) ⌝ }
+        (valuesIn (told form (now (words .entry))) (now (text .entry)) (now (ends .entry)))))) ⌝ }
 {
     let storage_at = sections::entry_at(p.over_at, sizes.overflows, format::OVERFLOW_ENTRY);
     let to = RegionPlaces {
@@ -208,7 +214,7 @@ pub fn put_region<'a>(
         over_at: p.over_at,
         storage_at,
     };
-    put_strings(out, image, p, mode, to, ids, text, ends);
+    put_strings(out, image, p, mode, to, form, words, text, ends);
     let end = storage_at + sizes.storage;
     bits::put_zeros(out, end, bits::up4(end) - end);
 }

@@ -27,7 +27,7 @@ use Rattle.relocate.proofs.EditLaws.{spliced-is, rebuilding, rebuild-is}
 use Rattle.relocate.proofs.MovableLaws.{rebuild-movable}
 use Rattle.string_walk.specs.declared.Cursor.{Cursor}
 use Rattle.string_edits.specs.Values.{Values}
-use Rattle.string_edits.specs.Lists.{valuesIn}
+use Rattle.string_edits.specs.Told.{Told, valuesIn}
 use Rattle.string_packing.specs.declared.Sizes.{Sizes}
 use Rattle.string_packing.specs.Strings.{stringsWith}
 use Rattle.string_packing.proofs.PassLaws.{storage-is, overflows-are, tail-is}
@@ -54,10 +54,10 @@ pub record Rewritten (m : Mode) (p : Places) (s : List ℕ) (v : Values) (z : Si
   pub places : o₄ ≡ relocated (p .layout) s (moveTail p to) o₃
   pub long : length o₄ ≡ length out
 
-module _ (m : Mode) (p : Places) (s ids text ends : List ℕ) (c : Cursor) (z : Sizes) (to room : ℕ)
-    (rd : Ready m p s ids text ends c z to room) where
+module _ (m : Mode) (p : Places) (s : List ℕ) (edits : Told) (text ends : List ℕ) (c : Cursor) (z : Sizes) (to room : ℕ)
+    (rd : Ready m p s edits text ends c z to room) where
   abbrev gets : Values
-  gets = valuesIn ids text ends
+  gets = valuesIn edits text ends
 
   laid : Laid p s
   laid = rd .asked .given .laid

@@ -24,7 +24,9 @@ use Rattle.admission.specs.declared.Admission.the-variants as answer
 use Rattle.admission.specs.Admission.{admission, numberOf}
 use Rattle.admission.proofs.AnswerLaws.{laid-then}
 use Rattle.string_edits.specs.Values.{Values, only, valuesOf}
-use Rattle.string_edits.specs.Lists.{startIn, editIn, valueIn, valuesIn, isList, allKnown, allDiffer, allUtf8, Listed}
+use Rattle.string_edits.specs.declared.Form.the-variants.{Ids}
+use Rattle.string_edits.specs.Lists.{startIn, editIn, valueIn, valuesListed, isList, allKnown, allDiffer, allUtf8}
+use Rattle.string_edits.specs.Told.{told, Tells, Listed}
 use Rattle.string_edits.proofs.ListLaws.{IsOne, is-one}
 use Rattle.string_in_place.specs.Patch.{resultChecks, patchedStrings, patchKnown}
 use Rattle.strings.specs.Pass.{passRefusal, patchInPass, patchStrings}
@@ -49,7 +51,7 @@ module _ (m : Mode) (l : Layout) (s ids text ends out : List ℕ) where
     pub list-refused : (r : Admission) → r ≡ admission l s → (k n : ℕ) → r ≡ answer.Refused k → n ≡ numberOf r
         → Answers (roomed (length out) (patchStrings m l s ids text ends)) (Refused n) out out
     unfolding patchInPass passRefusal
-    list-refused r a k n f g = rw a-list (refused-all l s r a _ (patchedStrings m l s (valuesIn ids text ends)) out k n f g)
+    list-refused r a k n f g = rw a-list (refused-all l s r a _ (patchedStrings m l s (valuesListed ids text ends)) out k n f g)
 
 -- the three are a list of edits, and the image is admitted
 pub record Judging (l : Layout) (s ids text ends : List ℕ) (r : Admission) (p : Places) (b : Bool) : Type 0 where
@@ -72,12 +74,12 @@ module _ (m : Mode) (l : Layout) (s ids text ends out : List ℕ) (r : Admission
   valid-is = t .values ∙ ap (allUtf8 (valueIn text ends)) (list-one m l s ids text ends out b (j .list) (j .one) .many)
 
   behind : patchStrings m l s ids text ends
-      ≡ outcomeFor (judge (check 7 (not c) ∷ check 17 (not d) ∷ check 8 (not g) ∷ resultChecks m l s (valuesIn ids text ends)))
-      (patchedStrings m l s (valuesIn ids text ends))
+      ≡ outcomeFor (judge (check 7 (not c) ∷ check 17 (not d) ∷ check 8 (not g) ∷ resultChecks m l s (valuesListed ids text ends)))
+      (patchedStrings m l s (valuesListed ids text ends))
   unfolding patchInPass passRefusal
   behind =
       a-list m l s ids text ends out b (j .list) (j .one) ∙ rw (known-is, t .twice, valid-is)
-      (ap (λ (n : ℕ). outcomeFor n (patchedStrings m l s (valuesIn ids text ends)))
+      (ap (λ (n : ℕ). outcomeFor n (patchedStrings m l s (valuesListed ids text ends)))
       (laid-then l s r (j .admits .is) p (j .admits .laid) _))
 
   pub not-known : not c ≡ true → Answers (roomed (length out) (patchStrings m l s ids text ends)) (Refused 7) out out
@@ -96,32 +98,35 @@ module _ (m : Mode) (l : Layout) (s ids text ends out : List ℕ) (r : Admission
 
       -- nothing is wrong with the list
       pub list-known : not g ≡ false → (a : Answer) (o : List ℕ)
-          → Answers (roomed (length out) (patchKnown m (p .layout) s (valuesIn ids text ends))) a out o
+          → Answers (roomed (length out) (patchKnown m (p .layout) s (valuesListed ids text ends))) a out o
           → Answers (roomed (length out) (patchStrings m l s ids text ends)) a out o
       unfolding judge patchKnown
       list-known w a o k = rw (behind, u, v, w) (rw (layout-is l s r p (j .admits)) at k)
 
 -- each id is one of the strings
 pub ids-known : (ids : List ℕ) (n : ℕ) (b : Bool) → b ≡ allKnown (λ j. getD ids j 0) (length ids) n → not b ≡ false
-    → (j : ℕ) → j < length ids → getD ids j 0 < n
-ids-known ids n b e t j h =
-    ltb-true (getD ids j 0) n (all-at (λ i. ltb (getD ids i 0) n) (length ids) j (sym e ∙ not-false b t) h)
+    → (id j : ℕ) → Tells (told Ids ids) id j → id < n
+ids-known ids n b e f id j t =
+    rw (← t .1) (ltb-true (getD ids j 0) n (all-at (λ i. ltb (getD ids i 0) n) (length ids) j (sym e ∙ not-false b f) (t .0)))
 
 -- ---- the list of one
 
-pub one-listed : (id : ℕ) (value : List ℕ) → Listed (id ∷ []) value (length value ∷ [])
+pub one-listed : (id : ℕ) (value : List ℕ) → Listed (told Ids (id ∷ [])) value (length value ∷ [])
 unfolding startIn
 one-listed id value = record {
-  many = refl;
-  rising = λ j h. let e : j ≡ 0 = omega arith in rw e (omega arith);
-  within = λ j h. let e : j ≡ 0 = omega arith in rw e (omega arith);
-  differ = λ i j h k e. omega arith;
+  within = λ i j t.
+      let e : j ≡ 0 = omega (arith, t .0) in
+      rw e (record { known = omega arith; rising = omega arith; end = omega arith });
+  one = λ i j k t u. omega (arith, t .0, u .0);
 }
 
-pub one-known : (id n : ℕ) → id < n → (j : ℕ) → j < length (id ∷ []) → getD (id ∷ []) j 0 < n
-one-known id n h j k = let e : j ≡ 0 = omega arith in rw e h
+pub one-known : (id n : ℕ) → id < n → (i j : ℕ) → Tells (told Ids (id ∷ [])) i j → i < n
+one-known id n h i j t =
+    let e : j ≡ 0 = omega (arith, t .0) in
+    let q : id ≡ i = rw e at (t .1) in
+    omega arith
 
-one-values : (id : ℕ) (value : List ℕ) → valuesIn (id ∷ []) value (length value ∷ []) ≡ only id value
+one-values : (id : ℕ) (value : List ℕ) → valuesListed (id ∷ []) value (length value ∷ []) ≡ only id value
 unfolding valuesOf valueIn startIn
 one-values id value =
     let e : length value - 0 ≡ length value = omega arith in
@@ -129,7 +134,7 @@ one-values id value =
 
 -- so an answer for the list is one for the string
 pub one-answers : (m : Mode) (l : Layout) (s : List ℕ) (id : ℕ) (value out : List ℕ) (a : Answer) (o : List ℕ)
-    → Answers (roomed (length out) (patchKnown m l s (valuesIn (id ∷ []) value (length value ∷ [])))) a out o
+    → Answers (roomed (length out) (patchKnown m l s (valuesListed (id ∷ []) value (length value ∷ [])))) a out o
     → Answers (roomed (length out) (patchKnown m l s (only id value))) a out o
 one-answers m l s id value out a o h =
     subst (λ (v : Values). Answers (roomed (length out) (patchKnown m l s v)) a out o) (one-values id value) h

@@ -5,15 +5,16 @@ use bits::Answer;
 use format::Layout;
 use format::Mode;
 use sections::Places;
+use string_edits::Form;
 use string_walk::Location;
 ghost use mathlib.Core.Path.{_≡_};
 ghost use mathlib.Core.Bool.{true};
 ghost use Prim.Native.Nat.{ℕ, _<_};
-ghost use lib.ListN.{length, getD};
+ghost use lib.ListN.{length};
 ghost use Rattle.bits.specs.Outcome.{Answers, roomed};
 ghost use Rattle.sections.specs.Places.{Laid};
 ghost use Rattle.string_edits.specs.Values.{only};
-ghost use Rattle.string_edits.specs.Lists.{valuesIn, Listed};
+ghost use Rattle.string_edits.specs.Told.{told, Tells, valuesIn, Listed};
 ghost use Rattle.unicode.specs.Utf8.{isUtf8};
 ghost use Rattle.string_in_place.specs.Patch.{patchKnown};
 ghost use Rattle.strings.specs.Patch.{patchById, patchByValue};
@@ -22,26 +23,28 @@ ghost use Rattle.strings.specs.Pass.{patchStrings};
 // A value of more bytes is longer than any image, as a string too.
 const LONGEST: usize = 4294967295;
 
-// Strings of an admitted image get values: in place where each fits there, else by one rebuild.
-fn patch_known<'a>(
+// Strings of an admitted image get the values that words tell: in place where each fits there, else
+// by one rebuild.
+pub fn patch_known<'a>(
     out: &mut [u8],
     image: &'a [u8],
     p: Places,
     mode: Mode,
-    ids: &[u32],
+    form: Form,
+    words: &[u32],
     text: &'a [u8],
     ends: &[u32],
 ) -> Answer
-    requires { ⌜ Laid p (now image) × Listed (now ids) (now text) (now ends) ⌝ }
-    requires { ⌜ ((j : ℕ) → j < length (now ids) → getD (now ids) j 0 < p .strings) ⌝ }
+    requires { ⌜ Laid p (now image) × Listed (told form (now words)) (now text) (now ends) ⌝ }
+    requires { ⌜ ((id j : ℕ) → Tells (told form (now words)) id j → id < p .strings) ⌝ }
     ensures { λ r. ⌜ Answers (roomed (length (now (out .entry))) (patchKnown mode (p .layout) (now (image .entry))
-        (valuesIn (now (ids .entry)) (now (text .entry)) (now (ends .entry))))) r (now (out .entry)) (now (out .exit)) ⌝ }
+        (valuesIn (told form (now (words .entry))) (now (text .entry)) (now (ends .entry))))) r (now (out .entry)) (now (out .exit)) ⌝ }
 {
-    let from = string_in_place::first_edited(image, p, ids);
-    if string_in_place::fits_all(image, p, from, ids, text, ends) {
-        return string_in_place::patch_in_place(out, image, p, from, ids, text, ends);
+    let from = string_in_place::first_edited(image, p, form, words);
+    if string_in_place::fits_all(image, p, from, form, words, text, ends) {
+        return string_in_place::patch_in_place(out, image, p, from, form, words, text, ends);
     }
-    string_rebuild::rebuild(out, image, p, mode, from, ids, text, ends)
+    string_rebuild::rebuild(out, image, p, mode, from, form, words, text, ends)
 }
 
 // One string gets a value: the list of one.
@@ -63,7 +66,7 @@ fn patch_one<'a>(
     }
     let ids = [id as u32; 1];
     let ends = [value.len() as u32; 1];
-    patch_known(out, image, p, mode, &ids, value, &ends)
+    patch_known(out, image, p, mode, Form::Ids, &ids, value, &ends)
 }
 
 // String `id` gets a value. Answers the new length; the image is at the front of `out`. Refused with
@@ -157,5 +160,5 @@ pub fn patch_strings<'a>(
     if !string_edits::are_utf8(text, ends) {
         return Answer::Refused(refusals::VALUE);
     }
-    patch_known(out, image, p, mode, ids, text, ends)
+    patch_known(out, image, p, mode, Form::Ids, ids, text, ends)
 }

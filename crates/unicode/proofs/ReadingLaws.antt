@@ -1,5 +1,5 @@
 -- A reading, byte by byte: each way through the table, and the bound that the code's sums need.
-use mathlib.Core.Path.{_≡_, refl, ap, sym, _∙_, subst}
+use mathlib.Core.Path.{_≡_, refl, ap, sym, _∙_}
 use mathlib.Core.Bool.{Bool, true, false}
 use mathlib.Core.List.{List, [], _∷_}
 use Prim.Native.Nat.{ℕ, zero, suc, _+_, _-_, _*_, _/_, _%_, _^_, _≤_, _<_}
@@ -10,9 +10,10 @@ use borrow.Author.Tests.{lt-ltb, le-ltb, le-leb, lt-leb, eq-eqb, ne-eqb}
 use lib.Dec.{eqb}
 use lib.ListN.{length, getD, drop, drop-of-length-le}
 use lib.Seq.{drop-cons}
-use Rattle.bits.specs.Choice.{pick, both}
+use Rattle.bits.specs.Choice.{pick}
 use Rattle.unicode.specs.declared.Reading.{Reading}
-use Rattle.unicode.specs.Utf8.{Small, further, between, wrong, opens, goesOn, nextByte, readingOf, unitsOfPoint, completes, isUtf8}
+use Rattle.unicode.specs.Utf8.{Small, further, between, wrong, opens, goesOn, nextByte, readingOf}
+use Rattle.unicode.specs.Utf8.{unitsOfPoint, completes, isUtf8, isWell}
 
 pub small-wrong : Small wrong
 small-wrong = record { few = omega arith; low = omega arith; from = omega arith; to = omega arith }
@@ -24,7 +25,7 @@ small-between = record { few = omega arith; low = omega arith; from = omega arit
 abbrev pub Reads : Reading → Reading → Type 0
 Reads q r = (q ≡ r) × Small q
 
-pick-from : (t : Bool) (a b k : ℕ) → k ≤ a → k ≤ b → k ≤ pick t a b
+pub pick-from : (t : Bool) (a b k : ℕ) → k ≤ a → k ≤ b → k ≤ pick t a b
 pick-from true a b k h g = h
 pick-from false a b k h g = g
 
@@ -172,18 +173,18 @@ module _ (r : Reading) where
 
 -- ---- the judge's two ways out
 
-module _ (r : Reading) (s : List ℕ) (i : ℕ) (h : length s ≤ i) (e : readingOf r (drop i s) ≡ readingOf between s) where
-  last : r ≡ readingOf between s
-  last = sym (reading-end r s i h) ∙ e
+-- bytes are judged by the reading from the first on
+pub judged-first : (s : List ℕ) → isWell (readingOf between s) ≡ isUtf8 s
+unfolding isUtf8
+judged-first s = refl
+
+-- and so by the last one
+module _ (r : Reading) (s : List ℕ) (i : ℕ) (h : length s ≤ i) (e : isWell (readingOf r (drop i s)) ≡ isUtf8 s) where
+  last : isWell r ≡ isUtf8 s
+  last = rw (← reading-end r s i h) e
 
   pub judged-ok : r .ok ≡ true → eqb (r .need) 0 ≡ isUtf8 s
-  unfolding isUtf8
-  judged-ok t =
-      subst (λ (q : Reading). q .ok ≡ true → eqb (q .need) 0 ≡ both (readingOf between s .ok) (eqb (readingOf between s .need) 0))
-      (sym last) (λ k. rw k) t
+  judged-ok t = rw t at last
 
   pub judged-wrong : r .ok ≡ false → false ≡ isUtf8 s
-  unfolding isUtf8
-  judged-wrong t =
-      subst (λ (q : Reading). q .ok ≡ false → false ≡ both (readingOf between s .ok) (eqb (readingOf between s .need) 0)) (sym last)
-      (λ k. rw k) t
+  judged-wrong t = rw t at last

@@ -1,10 +1,12 @@
 -- Well-formed UTF-8 and its UTF-16 units, one byte at a time. The Unicode Standard, Table 3-7, Well-Formed UTF-8 Byte Sequences,
 -- and Table 3-5, UTF-16 Bit Distribution.
 -- docs/FORMAT.md: Values.
+use mathlib.Core.Path.{_≡_}
 use mathlib.Core.Bool.{Bool, true, false}
 use mathlib.Core.List.{List, [], _∷_, _++_}
 use Prim.Native.Nat.{ℕ, _+_, _-_, _*_, _/_, _%_, _^_, _≤_}
 use lib.Dec.{leb, ltb, eqb}
+use lib.ListN.{length, drop}
 use Rattle.bits.specs.Choice.{pick, both}
 use Rattle.bits.specs.Bytes.{bytesOf}
 use Rattle.unicode.specs.declared.Reading.{Reading}
@@ -82,6 +84,22 @@ pub record Small (r : Reading) : Type 0 where
   pub low : (r .point + 1) * 64 ^ r .need ≤ 2097152
   pub from : 128 ≤ r .lo
   pub to : r .hi ≤ 191
+
+-- no wrong byte was read, and no code point is begun
+abbrev pub isWell : Reading → Bool
+isWell r = both (r .ok) (eqb (r .need) 0)
+
+-- what is left from `end` on is judged, by a given reading, as what is left from `from` on
+pub record GoesOn (s : List ℕ) (from : ℕ) (r : Reading) (end : ℕ) : Type 0 where
+  pub onward : from ≤ end
+  pub within : end ≤ length s
+  pub same : isWell (readingOf r (drop end s)) ≡ isWell (readingOf r (drop from s))
+
+-- the same by each reading that is between two code points
+pub record Skipped (s : List ℕ) (from end : ℕ) : Type 0 where
+  pub onward : from ≤ end
+  pub within : end ≤ length s
+  pub same : (r : Reading) → r .ok ≡ true → r .need ≡ 0 → isWell (readingOf r (drop end s)) ≡ isWell (readingOf r (drop from s))
 
 -- the units of the code's answer
 abbrev pub listOf : Units → List ℕ

@@ -9,7 +9,9 @@
 
 // What is known of a file: of its fields those are named that are used.
 struct stat {
-    unsigned long int before[3];
+    unsigned long int st_dev;
+    unsigned long int st_ino;
+    unsigned long int before;
     mode_t st_mode;
     uid_t st_uid;
     gid_t st_gid;

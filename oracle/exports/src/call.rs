@@ -18,9 +18,11 @@ pub enum Export {
     PatchById,
     PatchByValue,
     PatchInPass,
+    ReadPo,
+    WritePo,
 }
 
-/// A call, but for its lent buffer. What an export does not take is 0 or empty.
+/// A call, but for its lent buffers. What an export does not take is 0 or empty.
 pub struct Call<'a> {
     pub export: Export,
     pub layout: u8,
@@ -31,11 +33,19 @@ pub struct Call<'a> {
     pub inputs: [&'a [u8]; 4],
 }
 
+/// The output, and what is lent for work: the text, the ends, the words.
+pub type Lent<'a> = [&'a mut [u8]; 4];
+
 impl Call<'_> {
+    /// With an output alone.
     pub fn make(&self, out: &mut [u8]) -> u64 {
+        self.make_in(&mut [out, &mut [], &mut [], &mut []])
+    }
+
+    pub fn make_in(&self, lent: &mut Lent) -> u64 {
         static PROGRAM: LazyLock<Mutex<Child>> = LazyLock::new(|| Mutex::new(start()));
         let mut program = PROGRAM.lock().unwrap();
-        self.ask(&mut program, out).unwrap_or_else(|error| {
+        self.ask(&mut program, lent).unwrap_or_else(|error| {
             let ended =
                 program.wait().map_or_else(|error| error.to_string(), |end| end.to_string());
             panic!("the program of {COMMAND} does not answer: {error}; it ended with {ended}")
@@ -43,28 +53,28 @@ impl Call<'_> {
     }
 
     /// The whole call is written, and then the whole answer read: the program does it the other way round.
-    fn ask(&self, program: &mut Child, out: &mut [u8]) -> io::Result<u64> {
+    fn ask(&self, program: &mut Child, lent: &mut Lent) -> io::Result<u64> {
         let mut calls = BufWriter::new(program.stdin.as_mut().unwrap());
-        calls.write_all(&self.head(out.len()))?;
-        for part in self.inputs {
-            calls.write_all(part)?;
-        }
-        calls.write_all(out)?;
+        self.write(&mut calls, lent)?;
         calls.flush()?;
 
         let answers = program.stdout.as_mut().unwrap();
         let mut answer = [0; 8];
         answers.read_exact(&mut answer)?;
-        answers.read_exact(out)?;
+        lent.iter_mut().try_for_each(|part| answers.read_exact(part))?;
         Ok(u64::from_le_bytes(answer))
     }
 
-    fn head(&self, room: usize) -> Vec<u8> {
-        let mut head = vec![self.export as u8, self.layout, self.mode, 0];
-        head.extend(self.number.to_le_bytes());
-        let lengths = self.inputs.iter().map(|input| input.len()).chain([room]);
-        head.extend(lengths.flat_map(|length| (length as u64).to_le_bytes()));
-        head
+    /// The frame of the call.
+    pub fn write(&self, to: &mut impl Write, lent: &Lent) -> io::Result<()> {
+        to.write_all(&[self.export as u8, self.layout, self.mode, 0])?;
+        to.write_all(&self.number.to_le_bytes())?;
+        let lengths = self.inputs.iter().map(|part| part.len());
+        for length in lengths.chain(lent.iter().map(|part| part.len())) {
+            to.write_all(&(length as u64).to_le_bytes())?;
+        }
+        self.inputs.iter().try_for_each(|part| to.write_all(part))?;
+        lent.iter().try_for_each(|part| to.write_all(part))
     }
 }
 

@@ -1,6 +1,7 @@
 //! The exports of crate `hbc`, as hbc.h has them, each made by the program in `calls.c`.
 
 mod call;
+pub mod po;
 
 use call::{Call, Export};
 use oracle::job::packing::Mode;

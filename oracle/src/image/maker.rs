@@ -16,18 +16,21 @@ pub struct Shape {
     pub wide: u64,
     pub functions: usize,
     pub body: usize,
+    /// What strings say that share no bytes with one before, where it is not any bytes.
+    pub word: Option<fn(&mut Random) -> Vec<u16>>,
 }
 
-pub const SMALL: Shape = Shape { strings: 6, string_length: 8, wide: 3, functions: 4, body: 12 };
+pub const SMALL: Shape =
+    Shape { strings: 6, string_length: 8, wide: 3, functions: 4, body: 12, word: None };
 pub const MIDDLE: Shape =
-    Shape { strings: 40, string_length: 30, wide: 3, functions: 20, body: 80 };
+    Shape { strings: 40, string_length: 30, functions: 20, body: 80, ..SMALL };
 pub const LARGE: Shape =
-    Shape { strings: 400, string_length: 50, wide: 3, functions: 100, body: 300 };
+    Shape { strings: 400, string_length: 50, functions: 100, body: 300, ..SMALL };
 /// Many wide strings among narrow ones, so that a rebuild puts many at odd places.
-pub const ODD: Shape = Shape { strings: 20, string_length: 3, wide: 2, functions: 4, body: 12 };
+pub const ODD: Shape = Shape { strings: 20, string_length: 3, wide: 2, ..SMALL };
 /// About as long as a call can carry.
 pub const HUGE: Shape =
-    Shape { strings: 3000, string_length: 20, wide: 3, functions: 700, body: 60 };
+    Shape { strings: 3000, string_length: 20, functions: 700, body: 60, ..SMALL };
 
 /// An image, and what was put into it.
 pub struct Made {
@@ -185,6 +188,10 @@ fn fresh(random: &mut Random, shape: Shape, storage: &mut Vec<u8>) -> (bool, usi
         let gap = random.within(1..4);
         storage.extend(random.bytes(gap));
     }
+    if let Some(word) = shape.word {
+        let units = word(random);
+        return said(random, shape, &units, storage);
+    }
     let wide = random.one_in(shape.wide);
     let count = match random.below(32) {
         0 => random.within(253..258),
@@ -197,6 +204,21 @@ fn fresh(random: &mut Random, shape: Shape, storage: &mut Vec<u8>) -> (bool, usi
     let bytes = random.bytes(if wide { 2 * count } else { count });
     storage.extend(bytes.iter().map(|byte| if wide { *byte } else { byte & 0x7f }));
     (wide, offset, count)
+}
+
+/// These units at the end of storage: wide where they have to be, and at times besides.
+fn said(
+    random: &mut Random,
+    shape: Shape,
+    units: &[u16],
+    storage: &mut Vec<u8>,
+) -> (bool, usize, usize) {
+    let wide = units.iter().any(|unit| *unit > 0x7f) || random.one_in(shape.wide);
+    let offset = storage.len();
+    storage.extend(
+        units.iter().flat_map(|unit| unit.to_le_bytes().into_iter().take(1 + usize::from(wide))),
+    );
+    (wide, offset, units.len())
 }
 
 /// Runs that cover the strings in order, some of them split or of count 0.

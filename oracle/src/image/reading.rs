@@ -2,6 +2,8 @@
 //! Rust has none. It is written for being read, from the paper's sentences: bytes that are shared are
 //! found in a map of who holds each byte.
 
+use std::num::NonZeroU32;
+
 use super::layout::*;
 use crate::leaves::record::{self, Field};
 
@@ -208,7 +210,9 @@ pub const TESTS: [Test; 18] = [
                     end += 1;
                 }
                 (function.body.0..end.min(r.length())).any(|at| match held[at as usize] {
-                    Some(id) => !(r.slips(Slip::OwnBodyMayShare) && id == function.id),
+                    Some(id) => {
+                        !(r.slips(Slip::OwnBodyMayShare) && Some(id) == held_by(function.id))
+                    }
                     None => false,
                 })
             })
@@ -265,10 +269,14 @@ pub struct Function {
 
 /// Which bytes of an image the words of large headers hold.
 struct Held {
-    /// For each byte the id of the record.
-    by: Vec<Option<usize>>,
+    /// For each byte one more than the id of the record.
+    by: Vec<Option<NonZeroU32>>,
     /// Two records hold one byte.
     is_shared: bool,
+}
+
+fn held_by(id: usize) -> Option<NonZeroU32> {
+    NonZeroU32::new(id as u32 + 1)
 }
 
 impl Reading<'_> {
@@ -452,7 +460,8 @@ impl Reading<'_> {
             }
             seen.push(start);
             for at in start..end.min(self.image.len() as u64) {
-                held.is_shared |= held.by[at as usize].replace(function.id).is_some();
+                let by = std::mem::replace(&mut held.by[at as usize], held_by(function.id));
+                held.is_shared |= by.is_some();
             }
         }
         held

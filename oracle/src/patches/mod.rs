@@ -12,7 +12,7 @@ pub mod parsed;
 pub mod pass;
 mod rust;
 pub mod small;
-mod texts;
+pub mod texts;
 
 use crate::family::Argument::*;
 use crate::family::{Answered, Family, Function};

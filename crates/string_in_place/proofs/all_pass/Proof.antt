@@ -7,17 +7,18 @@ use mathlib.Core.List.{List}
 use Prim.Native.Nat.{ℕ, _-_}
 use native.Mathlib.Omega.{arith}
 use Rattle.string_edits.specs.Values.{allEdited}
-use Rattle.string_edits.specs.Lists.{valuesIn, comingIn}
+use Rattle.string_edits.specs.Told.{told, valuesIn, comingIn}
 use Rattle.string_in_place.specs.Known.{tested}
 use Rattle.string_in_place.proofs.EditedLaws.{Edge, Met, strings-few, edge-first, turn-first, edge-known, edge-within}
 use Rattle.string_in_place.proofs.EditedLaws.{met-stands, edge-next, edge-past, behind, test-stop, test-next, test-end}
 
 abbrev Inv-loop : tie.InvT-loop
-Inv-loop image p ids text ends overlaps c₀ next₀ c next =
-    Edge p image ids c next × (allEdited (valuesIn ids text ends) (tested overlaps (p .layout) image) (c .id) ≡ true)
+Inv-loop image p form words text ends overlaps c₀ next₀ c next =
+    Edge p image (told form words) c next
+    × (allEdited (valuesIn (told form words) text ends) (tested overlaps (p .layout) image) (c .id) ≡ true)
 
 abbrev μ-loop : tie.MeasureT-loop
-μ-loop image p ids text ends overlaps c₀ next₀ c next = p .strings - c .id
+μ-loop image p form words text ends overlaps c₀ next₀ c next = p .strings - c .id
 
 next-edit-requires : tie.Need-next-edit-requires Inv-loop μ-loop
 next-edit-requires c κs =
@@ -82,7 +83,8 @@ returns c =
     let at-loop = at-string .before .before .before .before in
     let start = at-loop .before .before .before .before .before .before in
     let a = start .args in
-    test-stop (a .p) (a .image .now) (a .ids .now) (a .text .now) (a .ends .now) (a .from) (start .pre) _ _ (at-loop .loop .inv .0) _ _
+    let edits = told (a .form) (a .words .now) in
+    test-stop (a .p) (a .image .now) edits (a .text .now) (a .ends .now) (a .from) (start .pre) _ _ (at-loop .loop .inv .0) _ _
     (met at-string) (tested (a .overlaps) (a .p .layout) (a .image .now)) _ (answer at-test) (c .if2 .taken)
 
 next-edit-requires-2 : tie.Need-next-edit-requires-2 Inv-loop μ-loop
@@ -118,10 +120,11 @@ loop-again c =
     let at-loop = at-string .before .before .before .before in
     let start = at-loop .before .before .before .before .before .before in
     let a = start .args in
+    let edits = told (a .form) (a .words .now) in
     let e = at-loop .loop .inv .0 in (
-      edge-next (a .p) (a .image .now) (a .ids .now) (a .text .now) (a .ends .now) (a .from) (start .pre) _ _ e _ _ (met at-string) _
+      edge-next (a .p) (a .image .now) edits (a .text .now) (a .ends .now) (a .from) (start .pre) _ _ e _ _ (met at-string) _
           (c .next-edit2 .ensures),
-      test-next (a .p) (a .image .now) (a .ids .now) (a .text .now) (a .ends .now) (a .from) (start .pre) _ _ e _ _ (met at-string)
+      test-next (a .p) (a .image .now) edits (a .text .now) (a .ends .now) (a .from) (start .pre) _ _ e _ _ (met at-string)
           (tested (a .overlaps) (a .p .layout) (a .image .now)) _ (answer at-test) (c .before .before .if2 .left) (at-loop .loop .inv .1),
     )
 
@@ -130,7 +133,8 @@ returns-2 c =
     let at-loop = c .before .before in
     let start = at-loop .before .before .before .before .before .before in
     let a = start .args in
-    test-end (a .p) (a .image .now) (a .ids .now) (a .text .now) (a .ends .now) (a .from) (start .pre) _ _ (at-loop .loop .inv .0)
+    let edits = told (a .form) (a .words .now) in
+    test-end (a .p) (a .image .now) edits (a .text .now) (a .ends .now) (a .from) (start .pre) _ _ (at-loop .loop .inv .0)
     (tested (a .overlaps) (a .p .layout) (a .image .now)) (c .if1 .left) (at-loop .loop .inv .1)
 
 pub all-pass-spec : {M : Type 1} → statement M

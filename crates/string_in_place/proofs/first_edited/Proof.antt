@@ -9,21 +9,19 @@ string-from-requires c κs =
     let at-first = c .before .before in
     let q = at-first .before .before .before .before .pre in
     let n = at-first .before .next-edit .ensures in
-    let o = n .own (c .if1 .taken) in
     let f = at-first .first-string .ensures in
-    (q .0, (f .0 _ _ (q .0 .placed), omega (arith, f .1), omega (arith, q .1 _ (o .0), o .1)))
+    (q .0, (f .0 _ _ (q .0 .placed), omega (arith, f .1), q .1 _ _ (n .own (c .if1 .taken))))
 
 returns : tie.Need-returns
 returns c =
     let at-first = c .before .before .before in
     let q = at-first .before .before .before .before .pre in
     let n = at-first .before .next-edit .ensures in
-    let o = n .own (c .before .if1 .taken) in
     let e = c .string-from .ensures in
     record {
       cursor = e .0;
-      most = omega (arith, e .1, q .1 _ (o .0), o .1);
-      first = λ j h. omega (arith, e .1, n .least j h (omega arith));
+      most = omega (arith, e .1, q .1 _ _ (n .own (c .before .if1 .taken)));
+      first = λ id j t. omega (arith, e .1, n .least id j t (omega arith));
     }
 
 returns-2 : tie.Need-returns-2
@@ -31,7 +29,7 @@ returns-2 c =
     let at-first = c .before .before in
     let q = at-first .before .before .before .before .pre in
     let f = at-first .first-string .ensures in
-    record { cursor = f .0 _ _ (q .0 .placed); most = omega (arith, f .1); first = λ j h. omega (arith, f .1) }
+    record { cursor = f .0 _ _ (q .0 .placed); most = omega (arith, f .1); first = λ id j t. omega (arith, f .1) }
 
 pub first-edited-spec : {M : Type 1} → statement M
 first-edited-spec =

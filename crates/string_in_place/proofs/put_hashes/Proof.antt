@@ -7,7 +7,7 @@ use Prim.Native.Nat.{ℕ, _-_}
 use native.Mathlib.Omega.{arith}
 use lib.ListN.{length}
 use Rattle.string_edits.specs.Values.{inTurn}
-use Rattle.string_edits.specs.Lists.{valuesIn}
+use Rattle.string_edits.specs.Told.{told, valuesIn}
 use Rattle.string_in_place.specs.Known.{Finishable}
 use Rattle.string_in_place.specs.Patch.{hashed, rehashed}
 use Rattle.string_in_place.proofs.FinishLaws.{Slotted, slot-fits, slotted-is}
@@ -15,11 +15,11 @@ use Rattle.string_in_place.proofs.EditedLaws.{Edge, Met, strings-few, e
 use Rattle.string_in_place.proofs.EditedLaws.{met-stands, edge-next, edge-past, behind, turn-met, turn-end}
 
 abbrev Inv-loop : tie.InvT-loop
-Inv-loop out₀ image p ids text ends c₀ due₀ out c due = Edge p image ids c due × (length out ≡ length out₀)
-    × (out ≡ inTurn (valuesIn ids text ends) (hashed (p .layout) image) (c .id) out₀)
+Inv-loop out₀ image p form words text ends c₀ due₀ out c due = Edge p image (told form words) c due × (length out ≡ length out₀)
+    × (out ≡ inTurn (valuesIn (told form words) text ends) (hashed (p .layout) image) (c .id) out₀)
 
 abbrev μ-loop : tie.MeasureT-loop
-μ-loop out₀ image p ids text ends c₀ due₀ out c due = p .strings - c .id
+μ-loop out₀ image p form words text ends c₀ due₀ out c due = p .strings - c .id
 
 next-edit-requires : tie.Need-next-edit-requires Inv-loop μ-loop
 next-edit-requires c κs =
@@ -109,9 +109,10 @@ loop-again c =
     let at-loop = at-string .before .before .before .before in
     let start = at-loop .before .before .before .before .before .before .before in
     let a = start .args in
+    let edits = told (a .form) (a .words .now) in
     let g = start .pre .0 in
     let e = at-loop .loop .inv .0 in (
-      edge-next (a .p) (a .image .now) (a .ids .now) (a .text .now) (a .ends .now) (a .from) g _ _ e _ _ (met at-string) _
+      edge-next (a .p) (a .image .now) edits (a .text .now) (a .ends .now) (a .from) g _ _ e _ _ (met at-string) _
           (c .next-edit2 .ensures),
       at-put .put-hash .kept .0 ∙ at-loop .loop .inv .1,
       at-put .put-hash .ensures
@@ -119,7 +120,7 @@ loop-again c =
           ∙ ap (λ (x : List ℕ). hashed (a .p .layout) (a .image .now) (at-loop .loop .due .id) x (at-loop .loop .out))
           (at-put .before .value-of .ensures .0)
           ∙ ap (hashed (a .p .layout) (a .image .now) (at-loop .loop .due .id) _) (at-loop .loop .inv .2)
-          ∙ sym (turn-met (a .p) (a .image .now) (a .ids .now) (a .text .now) (a .ends .now) (a .from) g _ _ e _ _ (met at-string)
+          ∙ sym (turn-met (a .p) (a .image .now) edits (a .text .now) (a .ends .now) (a .from) g _ _ e _ _ (met at-string)
           (hashed (a .p .layout) (a .image .now)) (a .out .now)),
     )
 
@@ -133,7 +134,7 @@ returns c =
     let start = at-loop .before .before .before .before .before .before .before in
     let a = start .args in
     at-loop .loop .inv .2
-    ∙ sym (turn-end (a .p) (a .image .now) (a .ids .now) (a .text .now) (a .ends .now) (a .from) (start .pre .0) _ _
+    ∙ sym (turn-end (a .p) (a .image .now) (told (a .form) (a .words .now)) (a .text .now) (a .ends .now) (a .from) (start .pre .0) _ _
     (at-loop .loop .inv .0) (hashed (a .p .layout) (a .image .now)) (a .out .now) (c .if1 .left))
 
 pub put-hashes-spec : {M : Type 1} → statement M

@@ -3,6 +3,7 @@ use borrow.Author.Needs.{needs}
 use Rattle.string_in_place.proofs.put_in_place.Statement.{statement}
 use Rattle.string_in_place.proofs.put_in_place.Tie as tie
 use mathlib.Core.Path.{_∙_, subst⁻¹}
+use Rattle.string_edits.specs.Told.{told}
 use Rattle.string_in_place.specs.Known.{Finishable}
 use Rattle.string_in_place.proofs.InPlaceLaws.{finishable, in-place}
 
@@ -27,8 +28,9 @@ returns c =
     let at-bytes = at-values .before .before .before .before in
     let start = at-bytes .before .before .before .before .before .before .before in
     let a = start .args in
+    let edits = told (a .form) (a .words .now) in
     let q = start .pre in
-    in-place (a .p) (a .image .now) (a .ids .now) (a .text .now) (a .ends .now) (a .from) (q .0) (a .out .now) _ _ _ _ (q .1)
+    in-place (a .p) (a .image .now) edits (a .text .now) (a .ends .now) (a .from) (q .0) (a .out .now) _ _ _ _ (q .1)
     (at-bytes .put-bytes .ensures) (at-values .put-values .ensures) (c .before .before .finish .ensures)
 
 pub put-in-place-spec : {M : Type 1} → statement M

@@ -7,18 +7,19 @@ use Prim.Native.Nat.{ℕ, _-_}
 use native.Mathlib.Omega.{arith}
 use lib.ListN.{length}
 use Rattle.string_edits.specs.Values.{inTurn}
-use Rattle.string_edits.specs.Lists.{valuesIn, comingIn}
+use Rattle.string_edits.specs.Told.{told, valuesIn, comingIn}
 use Rattle.string_in_place.specs.Patch.{overOld, inPlace}
 use Rattle.string_in_place.proofs.InPlaceLaws.{value-size, over-own, own-within}
 use Rattle.string_in_place.proofs.EditedLaws.{Edge, Met, strings-few, edge-first, turn-first, edge-known, edge-within}
 use Rattle.string_in_place.proofs.EditedLaws.{met-stands, edge-next, edge-past, met-known, met-gets, behind, turn-met, turn-end}
 
 abbrev Inv-loop : tie.InvT-loop
-Inv-loop out₀ image p ids text ends c₀ next₀ out c next = Edge p image ids c next × (length out ≡ length out₀)
-    × (out ≡ inTurn (valuesIn ids text ends) (overOld (p .layout) image) (c .id) out₀)
+Inv-loop out₀ image p form words text ends c₀ next₀ out c next = Edge p image (told form words) c next
+    × (length out ≡ length out₀)
+    × (out ≡ inTurn (valuesIn (told form words) text ends) (overOld (p .layout) image) (c .id) out₀)
 
 abbrev μ-loop : tie.MeasureT-loop
-μ-loop out₀ image p ids text ends c₀ next₀ out c next = p .strings - c .id
+μ-loop out₀ image p form words text ends c₀ next₀ out c next = p .strings - c .id
 
 next-edit-requires : tie.Need-next-edit-requires Inv-loop μ-loop
 next-edit-requires c κs =
@@ -63,13 +64,14 @@ put-bytes-requires c κs =
     let at-loop = at-string .before .before .before .before in
     let start = at-loop .before .before .before .before .before .before .before in
     let a = start .args in
+    let edits = told (a .form) (a .words .now) in
     let q = start .pre in
     let g = q .0 .given in
     let e = at-loop .loop .inv .0 in
     let n = at-loop .loop .next in
     let value = comingIn (a .text .now) (a .ends .now) n in
     let st = met-stands _ _ _ _ _ _ g _ _ e _ _ (met at-string) in
-    let x = value-size (a .p .layout) (a .image .now) (valuesIn (a .ids .now) (a .text .now) (a .ends .now)) (q .0 .fits) (n .id) value
+    let x = value-size (a .p .layout) (a .image .now) (valuesIn edits (a .text .now) (a .ends .now)) (q .0 .fits) (n .id) value
     (met-known _ _ _ _ _ _ g _ _ e _ _ (met at-string)) (met-gets _ _ _ _ _ _ g _ _ e _ _ (met at-string)) in
     omega (
       arith,
@@ -112,10 +114,11 @@ loop-again c =
     let at-loop = at-string .before .before .before .before in
     let start = at-loop .before .before .before .before .before .before .before in
     let a = start .args in
+    let edits = told (a .form) (a .words .now) in
     let g = start .pre .0 .given in
     let e = at-loop .loop .inv .0 in
-    let st = met-stands (a .p) (a .image .now) (a .ids .now) (a .text .now) (a .ends .now) (a .from) g _ _ e _ _ (met at-string) in (
-      edge-next (a .p) (a .image .now) (a .ids .now) (a .text .now) (a .ends .now) (a .from) g _ _ e _ _ (met at-string) _
+    let st = met-stands (a .p) (a .image .now) edits (a .text .now) (a .ends .now) (a .from) g _ _ e _ _ (met at-string) in (
+      edge-next (a .p) (a .image .now) edits (a .text .now) (a .ends .now) (a .from) g _ _ e _ _ (met at-string) _
           (c .next-edit2 .ensures),
       at-put .put-bytes .kept .0 ∙ at-loop .loop .inv .1,
       at-put .put-bytes .ensures
@@ -123,7 +126,7 @@ loop-again c =
           ∙ ap (λ (x : List ℕ). overOld (a .p .layout) (a .image .now) (at-loop .loop .next .id) x (at-loop .loop .out))
           (at-put .before .value-of .ensures .0)
           ∙ ap (overOld (a .p .layout) (a .image .now) (at-loop .loop .next .id) _) (at-loop .loop .inv .2)
-          ∙ sym (turn-met (a .p) (a .image .now) (a .ids .now) (a .text .now) (a .ends .now) (a .from) g _ _ e _ _ (met at-string)
+          ∙ sym (turn-met (a .p) (a .image .now) edits (a .text .now) (a .ends .now) (a .from) g _ _ e _ _ (met at-string)
           (overOld (a .p .layout) (a .image .now)) (a .out .now)),
     )
 
@@ -136,8 +139,9 @@ returns c =
     let at-loop = c .before .before in
     let start = at-loop .before .before .before .before .before .before .before in
     let a = start .args in
+    let edits = told (a .form) (a .words .now) in
     at-loop .loop .inv .2
-    ∙ sym (turn-end (a .p) (a .image .now) (a .ids .now) (a .text .now) (a .ends .now) (a .from) (start .pre .0 .given) _ _
+    ∙ sym (turn-end (a .p) (a .image .now) edits (a .text .now) (a .ends .now) (a .from) (start .pre .0 .given) _ _
     (at-loop .loop .inv .0) (overOld (a .p .layout) (a .image .now)) (a .out .now) (c .if1 .left))
 
 pub put-values-spec : {M : Type 1} → statement M

@@ -4,17 +4,17 @@ use Rattle.string_packing.proofs.measure.Statement.{statement}
 use Rattle.string_packing.proofs.measure.Tie as tie
 use Prim.Native.Nat.{_≤_, _-_}
 use native.Mathlib.Omega.{arith}
-use Rattle.string_edits.specs.Lists.{valuesIn}
+use Rattle.string_edits.specs.Told.{told, valuesIn}
 use Rattle.string_packing.specs.Strings.{stringWith}
 use Rattle.string_packing.specs.Pass.{Reached}
 use Rattle.string_packing.proofs.PassLaws.{measured}
 
 abbrev Inv-loop : tie.InvT-loop
-Inv-loop image p mode ids text ends c₀ c =
-    (c .old .id ≤ p .strings) × Reached mode p image (stringWith (p .layout) image (valuesIn ids text ends)) c
+Inv-loop image p mode form words text ends c₀ c =
+    (c .old .id ≤ p .strings) × Reached mode p image (stringWith (p .layout) image (valuesIn (told form words) text ends)) c
 
 abbrev μ-loop : tie.MeasureT-loop
-μ-loop image p mode ids text ends c₀ c = p .strings - c .old .id
+μ-loop image p mode form words text ends c₀ c = p .strings - c .old .id
 
 loop-holds : tie.Need-loop-holds Inv-loop μ-loop
 loop-holds c =

@@ -5,8 +5,9 @@ use Rattle.string_packing.proofs.next_stretch.Tie as tie
 use mathlib.Core.Path.{subst}
 use mathlib.Core.List.{List}
 use Prim.Native.Nat.{ℕ, _<_}
-use Rattle.string_edits.specs.Lists.{comingIn, valuesIn, Within, Coming}
-use Rattle.string_edits.proofs.ListLaws.{coming, coming-within}
+use Rattle.string_edits.specs.Lists.{Within}
+use Rattle.string_edits.specs.Told.{told, comingIn, valuesIn, Coming}
+use Rattle.string_edits.proofs.ToldLaws.{coming, coming-within}
 use Rattle.string_packing.specs.Strings.{asString, Shaped}
 use Rattle.string_packing.proofs.PassLaws.{shape-small, stretch-to, stretch-rest}
 
@@ -16,7 +17,7 @@ stands : (c : tie.After-next-edit) → let a = c .before .before .before .before
 stands c =
     let start = c .before .before .before .before in
     let a = start .args in
-    coming-within (a .ids .now) (a .text .now) (a .ends .now) (start .pre .0) (a .from) _ (c .next-edit .ensures)
+    coming-within (told (a .form) (a .words .now)) (a .text .now) (a .ends .now) (start .pre .0) (a .from) _ (c .next-edit .ensures)
 
 value-of-requires : tie.Need-value-of-requires
 value-of-requires c κs = stands c
@@ -26,8 +27,8 @@ comes : (c : tie.After-shape-of) → let at-next = c .before .before in
     let a = at-next .before .before .before .before .args in
     let next = at-next .next-edit .result in
     let value = comingIn (a .text .now) (a .ends .now) next in
-    Coming (valuesIn (a .ids .now) (a .text .now) (a .ends .now)) value (a .from) (next .id) × Shaped (c .shape-of .result)
-    (asString value)
+    Coming (valuesIn (told (a .form) (a .words .now)) (a .text .now) (a .ends .now)) value (a .from) (next .id)
+    × Shaped (c .shape-of .result) (asString value)
     × (c .shape-of .result .count < 4294967296)
 comes c =
     let at-value = c .before in
@@ -35,7 +36,7 @@ comes c =
     let start = at-next .before .before .before .before in
     let a = start .args in
     let e = at-value .value-of .ensures in (
-      coming (a .ids .now) (a .text .now) (a .ends .now) (start .pre .0) (a .from) _ (at-next .next-edit .ensures),
+      coming (told (a .form) (a .words .now)) (a .text .now) (a .ends .now) (start .pre .0) (a .from) _ (at-next .next-edit .ensures),
       subst (λ (v : List ℕ). Shaped (c .shape-of .result) (asString v)) (e .0) (c .shape-of .ensures),
       shape-small _ _ (c .shape-of .ensures) (e .1),
     )

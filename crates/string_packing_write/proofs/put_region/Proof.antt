@@ -2,6 +2,7 @@
 use borrow.Author.Needs.{needs}
 use Rattle.string_packing_write.proofs.put_region.Statement.{statement}
 use Rattle.string_packing_write.proofs.put_region.Tie as tie
+use Rattle.string_edits.specs.Told.{told}
 use Rattle.string_packing_write.proofs.PutLaws.{roomy, region-put}
 
 put-strings-requires : tie.Need-put-strings-requires
@@ -18,7 +19,7 @@ returns c =
     let start = at-entry-at .before .before .before .before .before .before in
     let a = start .args in
     let q = start .pre in
-    region-put (a .mode) (a .p) (a .image .now) (a .ids .now) (a .text .now) (a .ends .now) (a .sizes) _ q _
+    region-put (a .mode) (a .p) (a .image .now) (told (a .form) (a .words .now)) (a .text .now) (a .ends .now) (a .sizes) _ q _
     (at-entry-at .entry-at .ensures) _ (a .out .now) _ _
     (record {
       strings = at-put-strings .put-strings .ensures;

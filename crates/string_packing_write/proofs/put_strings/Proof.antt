@@ -7,7 +7,7 @@ use Prim.Native.Nat.{_≤_, _-_}
 use native.Mathlib.Omega.{arith}
 use lib.ListN.{length}
 use Rattle.edits.specs.Packing.{packed}
-use Rattle.string_edits.specs.Lists.{valuesIn}
+use Rattle.string_edits.specs.Told.{told, valuesIn}
 use Rattle.string_packing.specs.Strings.{stringWith}
 use Rattle.string_packing.specs.Pass.{Reached}
 use Rattle.string_packing_write.specs.Region.{regionPut}
@@ -15,13 +15,14 @@ use Rattle.string_packing_write.proofs.RegionLaws.{laid-none}
 use Rattle.string_packing_write.proofs.PutLaws.{all-strings}
 
 abbrev Inv-loop : tie.InvT-loop
-Inv-loop out₀ image p mode to ids text ends c₀ out c =
+Inv-loop out₀ image p mode to form words text ends c₀ out c =
     (c .old .id ≤ p .strings) × (length out ≡ length out₀)
-    × Reached mode p image (stringWith (p .layout) image (valuesIn ids text ends)) c
-    × (out ≡ regionPut to (c .old .id) (packed mode (stringWith (p .layout) image (valuesIn ids text ends)) (c .old .id)) out₀)
+    × Reached mode p image (stringWith (p .layout) image (valuesIn (told form words) text ends)) c
+    × (out ≡ regionPut to (c .old .id) (packed mode (stringWith (p .layout) image (valuesIn (told form words) text ends)) (c .old .id))
+    out₀)
 
 abbrev μ-loop : tie.MeasureT-loop
-μ-loop out₀ image p mode to ids text ends c₀ out c = p .strings - c .old .id
+μ-loop out₀ image p mode to form words text ends c₀ out c = p .strings - c .old .id
 
 loop-holds : tie.Need-loop-holds Inv-loop μ-loop
 loop-holds c =
@@ -32,7 +33,7 @@ loop-holds c =
       refl,
       e .0 _ _ _ (start .pre .laid .placed) _,
       rw (e .1) (laid-none (a .mode) (a .to) (stringWith (a .p .layout) (a .image .now)
-          (valuesIn (a .ids .now) (a .text .now) (a .ends .now))) (a .out .now)),
+          (valuesIn (told (a .form) (a .words .now)) (a .text .now) (a .ends .now))) (a .out .now)),
     )
 
 put-stretch-requires : tie.Need-put-stretch-requires Inv-loop μ-loop

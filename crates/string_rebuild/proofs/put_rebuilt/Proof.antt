@@ -3,22 +3,25 @@ use borrow.Author.Needs.{needs}
 use Rattle.string_rebuild.proofs.put_rebuilt.Statement.{statement}
 use Rattle.string_rebuild.proofs.put_rebuilt.Tie as tie
 use mathlib.Core.Path.{refl, _∙_}
+use Rattle.string_edits.specs.Told.{told}
 use Rattle.string_rebuild.proofs.RebuildLaws.{around-room, region-room, header-room, ends-room, movable, patch-put}
 
 copy-around-requires : tie.Need-copy-around-requires
 copy-around-requires c κs =
     let start = c .before .before .before .before .before .before in
     let a = start .args in
+    let edits = told (a .form) (a .words .now) in
     let q = start .pre in
-    around-room (a .mode) (a .p) (a .image .now) (a .ids .now) (a .text .now) (a .ends .now) (a .from) (a .sizes) (a .tail) _ q
+    around-room (a .mode) (a .p) (a .image .now) edits (a .text .now) (a .ends .now) (a .from) (a .sizes) (a .tail) _ q
 
 put-region-requires : tie.Need-put-region-requires
 put-region-requires c κs =
     let at-copy-around = c .before .before .before in
     let start = at-copy-around .before .before .before .before .before .before .before in
     let a = start .args in
+    let edits = told (a .form) (a .words .now) in
     let q = start .pre in
-    let r = region-room (a .mode) (a .p) (a .image .now) (a .ids .now) (a .text .now) (a .ends .now) (a .from) (a .sizes) (a .tail) _ q in
+    let r = region-room (a .mode) (a .p) (a .image .now) edits (a .text .now) (a .ends .now) (a .from) (a .sizes) (a .tail) _ q in
     record {
       laid = q .asked .given .laid;
       listed = q .asked .given .listed;
@@ -33,9 +36,10 @@ put-counts-requires c κs =
     let at-copy-around = at-put-region .before .before .before .before in
     let start = at-copy-around .before .before .before .before .before .before .before in
     let a = start .args in
+    let edits = told (a .form) (a .words .now) in
     let q = start .pre in
     rw (at-put-region .put-region .kept .0, at-copy-around .copy-around .kept .0)
-    (header-room (a .mode) (a .p) (a .image .now) (a .ids .now) (a .text .now) (a .ends .now) (a .from) (a .sizes) (a .tail) _ q)
+    (header-room (a .mode) (a .p) (a .image .now) edits (a .text .now) (a .ends .now) (a .from) (a .sizes) (a .tail) _ q)
 
 relocate-requires : tie.Need-relocate-requires
 relocate-requires c κs =
@@ -44,9 +48,10 @@ relocate-requires c κs =
     let at-copy-around = at-put-region .before .before .before .before in
     let start = at-copy-around .before .before .before .before .before .before .before in
     let a = start .args in
+    let edits = told (a .form) (a .words .now) in
     let q = start .pre in
     rw (at-put-counts .put-counts .kept .0, at-put-region .put-region .kept .0, at-copy-around .copy-around .kept .0)
-    (movable (a .mode) (a .p) (a .image .now) (a .ids .now) (a .text .now) (a .ends .now) (a .from) (a .sizes) (a .tail) _ q)
+    (movable (a .mode) (a .p) (a .image .now) edits (a .text .now) (a .ends .now) (a .from) (a .sizes) (a .tail) _ q)
 
 finish-requires : tie.Need-finish-requires
 finish-requires c κs =
@@ -56,6 +61,7 @@ finish-requires c κs =
     let at-copy-around = at-put-region .before .before .before .before in
     let start = at-copy-around .before .before .before .before .before .before .before in
     let a = start .args in
+    let edits = told (a .form) (a .words .now) in
     let q = start .pre in (
       q .asked .given,
       rw (
@@ -64,7 +70,7 @@ finish-requires c κs =
         at-put-region .put-region .kept .0,
         at-copy-around .copy-around .kept .0,
       )
-          (ends-room (a .mode) (a .p) (a .image .now) (a .ids .now) (a .text .now) (a .ends .now) (a .from) (a .sizes) (a .tail) _ q),
+          (ends-room (a .mode) (a .p) (a .image .now) edits (a .text .now) (a .ends .now) (a .from) (a .sizes) (a .tail) _ q),
     )
 
 returns : tie.Need-returns
@@ -75,8 +81,9 @@ returns c =
     let at-copy-around = at-put-region .before .before .before .before in
     let start = at-copy-around .before .before .before .before .before .before .before in
     let a = start .args in
+    let edits = told (a .form) (a .words .now) in
     let q = start .pre in
-    patch-put (a .mode) (a .p) (a .image .now) (a .ids .now) (a .text .now) (a .ends .now) (a .from) (a .sizes) (a .tail) _ q
+    patch-put (a .mode) (a .p) (a .image .now) edits (a .text .now) (a .ends .now) (a .from) (a .sizes) (a .tail) _ q
     (record {
       fits = refl;
       around = at-copy-around .copy-around .ensures;

@@ -3,12 +3,13 @@ use borrow.Author.Needs.{needs}
 use Rattle.strings.proofs.patch_known.Statement.{statement}
 use Rattle.strings.proofs.patch_known.Tie as tie
 use mathlib.Core.Path.{sym, _∙_}
+use Rattle.string_edits.specs.Told.{told}
 use Rattle.string_in_place.specs.Known.{Given, Overwritten}
 use Rattle.string_in_place.proofs.InPlaceLaws.{known-in-place}
 
 -- the edits, and where the pass over them starts
 given : (c : tie.After-first-edited) → let a = c .before .before .before .before .before .before .args in
-    Given (a .p) (a .image .now) (a .ids .now) (a .text .now) (a .ends .now) (c .first-edited .result)
+    Given (a .p) (a .image .now) (told (a .form) (a .words .now)) (a .text .now) (a .ends .now) (c .first-edited .result)
 given c =
     let q = c .before .before .before .before .before .before .pre in
     record { laid = q .0 .0; listed = q .0 .1; known = q .1; from = c .first-edited .ensures }
@@ -21,7 +22,8 @@ fits-all-requires c κs = given c
 
 -- the values go over their strings' bytes
 overwritten : (c : tie.Then1) → let a = c .before .before .before .before .before .before .before .before .args in
-    Overwritten (a .p) (a .image .now) (a .ids .now) (a .text .now) (a .ends .now) (c .before .before .first-edited .result)
+    Overwritten (a .p) (a .image .now) (told (a .form) (a .words .now)) (a .text .now) (a .ends .now)
+    (c .before .before .first-edited .result)
 overwritten c = record { given = given (c .before .before); fits = sym (c .before .fits-all .ensures) ∙ c .if1 .taken }
 
 patch-in-place-requires : tie.Need-patch-in-place-requires

@@ -8,7 +8,8 @@ use borrow.Author.Tests.{not-false}
 use lib.ListN.{getD}
 use Rattle.sections.specs.Places.{Laid}
 use Rattle.admission.proofs.AnswerLaws.{is-laid}
-use Rattle.string_edits.proofs.ListLaws.{split-within, listed}
+use Rattle.string_edits.proofs.ListLaws.{split-within}
+use Rattle.string_edits.proofs.ToldLaws.{listed}
 use Rattle.strings.proofs.PassLaws.{no-list, list-one, list-refused, Judging, ids-known}
 use Rattle.strings.proofs.PassLaws.{not-known, given-twice, not-valid, list-known}
 

@@ -1,0 +1,4 @@
+pub mod Lines
+pub mod Quoted
+pub mod Kinds
+pub mod Taken

@@ -1,0 +1,10 @@
+pub mod OrderLaws
+pub mod HeldLaws
+pub mod TurnLaws
+pub mod PairLaws
+pub mod ValueLaws
+pub mod TellLaws
+pub mod EscapeLaws
+pub mod RoundLaws
+pub mod UnitRoundLaws
+pub mod ExampleLaws

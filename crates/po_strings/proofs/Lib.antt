@@ -1,0 +1,3 @@
+pub mod PointLaws
+pub mod UnitLaws
+pub mod StringLaws

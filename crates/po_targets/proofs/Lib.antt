@@ -1,0 +1,2 @@
+pub mod PairLaws
+pub mod MarkLaws

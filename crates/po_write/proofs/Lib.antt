@@ -1,0 +1,9 @@
+pub mod FirstLaws
+pub mod FileLaws
+pub mod WorkLaws
+pub mod WalkLaws
+pub mod TextLaws
+pub mod TurnLaws
+pub mod WriteLaws
+pub mod RoundLaws
+pub mod ExampleLaws

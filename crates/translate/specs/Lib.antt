@@ -1,0 +1,3 @@
+pub mod Translate
+pub mod Space
+pub mod Faults
