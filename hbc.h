@@ -94,9 +94,32 @@ uint64_t nepuladrim_write_po(const uint8_t *image, size_t image_length, uint8_t 
 uint64_t nepuladrim_patch_function_bytes(const uint8_t *image, size_t image_length, uint8_t layout, uint32_t id,
                                          const uint8_t *body, size_t body_length, uint8_t *out, size_t out_length);
 
+// An index of an image's strings, from which each of them is told without a walk over the tables: three runs of words, in each run one
+// word for each string, by id. The first run has where strings start in storage, counted from its start; the second their lengths as the
+// table counts them, in bytes where a string is narrow and in units of 16 bits where it is wide; the third their flags. `index_length`
+// counts words. Those behind the three runs stay as they are. The answer is the number of strings.
+// Refused with 15, 1 to 6; and 13 where the index has fewer than three words for each string. Then no word of it is written.
+uint64_t nepuladrim_fill_index(const uint8_t *image, size_t image_length, uint8_t layout, uint32_t *index, size_t index_length);
+
+// The words of a string in an index, in the order of the runs, and as they are put at the front of what is lent for them.
+enum nepuladrim_index_word { NEPULADRIM_INDEX_OFFSET, NEPULADRIM_INDEX_LENGTH, NEPULADRIM_INDEX_FLAGS, NEPULADRIM_INDEX_WORDS };
+
+// The bits of its flags; all others are 0.
+enum nepuladrim_index_flag { NEPULADRIM_INDEX_WIDE = 1, NEPULADRIM_INDEX_IDENTIFIER = 2 };
+
+// What an index for `count` strings holds of string `id`: NEPULADRIM_INDEX_WORDS words at the front of `out`, which is also the answer.
+// `index_length` and `out_length` count words. An index is valid only for the image that it was filled from, and with the count that
+// filling answered. Nothing tells whether it is so: of any other content, what the three runs hold is answered as it is.
+// Refused with 7 for an id that is not below the count; then 13 where the index has fewer than three words for each of so many strings,
+// however many are stated; then 13 where `out` has fewer than NEPULADRIM_INDEX_WORDS words.
+uint64_t nepuladrim_look_up(const uint32_t *index, size_t index_length, size_t count, uint32_t id, uint32_t *out, size_t out_length);
+
 // A part of the listing of an image, from byte `from` on: its strings and functions as text, as much as there is room for, at most
-// 67,108,864 bytes. A part that is shorter than both is the last. Refused with 15, 1 to 6.
-uint64_t nepuladrim_list(const uint8_t *image, size_t image_length, uint8_t layout, size_t from, uint8_t *out, size_t out_length);
+// 67,108,864 bytes. A part that is shorter than both is the last. `index` is lent for it, three words for each string of the image, and
+// `index_length` counts words: each part fills it anew, so that it is afterwards as nepuladrim_fill_index leaves it, also where nothing is
+// listed. Refused with 15, 1 to 6; and 13 where the index is shorter, of which nothing is written then.
+uint64_t nepuladrim_list(const uint8_t *image, size_t image_length, uint8_t layout, size_t from, uint32_t *index, size_t index_length,
+                         uint8_t *out, size_t out_length);
 
 // What is known of an image, as NEPULADRIM_IMAGE_FACTS numbers at the front of `out`, in the order of the names below. Section K
 // reaches from its start to that of the next; the last one, the footer, to the image's end. Refused with 15, 1 to 6, 13.

@@ -6,7 +6,8 @@
 
 typedef int command(char **words);
 
-command demo, extract, help, list, locate, patch, translate, verify;
+// The one of `hbc index` is called otherwise: the C library has an `index`.
+command demo, extract, help, index_strings, list, locate, patch, translate, verify;
 
 // What `hbc help` prints.
 void print_usage(FILE *to);

@@ -28,6 +28,15 @@ static const char EXTRACT[] =
     "file of translations up to a new image, extract to another name and have msgmerge put the two together. Where FILE.po is -, the\n"
     "file goes to standard output, and the numbers to standard error.\n";
 
+static const char INDEX[] =
+    "usage: hbc index IMAGE [ID...] [--layout LAYOUT]\n"
+    "Fills an index of the image's strings, once, and prints what it holds: of the strings of the ids, in the order in which they are\n"
+    "given, or with none of every string. A line has the names of the columns; then a line for each string:\n"
+    "  ID OFFSET LENGTH n|w s|i    where it starts, counted from the start of storage; its length in bytes where it is narrow (n)\n"
+    "                              and in units of 16 bits where it is wide (w); s plain or i identifier\n"
+    "It is for programs that ask for many strings: no string is walked to. hbc locate counts what a walk visits, and hbc verify tells\n"
+    "where storage starts. Where there is no string of an id, nothing is printed of the others.\n";
+
 static const char LIST[] =
     "usage: hbc list IMAGE [--layout LAYOUT] [--text]\n"
     "       hbc list IMAGE LAYOUT\n"
@@ -117,8 +126,8 @@ static const char HELP[] = "usage: hbc help [COMMAND]\nPrints the commands, or w
 static const struct {
     const char *name, *text;
 } TEXTS[] = {
-    {"demo", DEMO},     {"extract", EXTRACT}, {"help", HELP},           {"install", INSTALL}, {"list", LIST},
-    {"locate", LOCATE}, {"patch", PATCH},     {"translate", TRANSLATE}, {"verify", VERIFY},
+    {"demo", DEMO}, {"extract", EXTRACT}, {"help", HELP},   {"index", INDEX},         {"install", INSTALL},
+    {"list", LIST}, {"locate", LOCATE},   {"patch", PATCH}, {"translate", TRANSLATE}, {"verify", VERIFY},
 };
 
 void print_usage(FILE *to) {

@@ -3,6 +3,7 @@
 #include "../hbc.h"
 #include "print.h"
 #include "refusals.h"
+#include "string_index.h"
 #include "text.h"
 
 #include <stdbool.h>
@@ -10,15 +11,17 @@
 #include <string.h>
 
 unsigned list_image(struct bytes image, uint8_t layout, part_taker *take, void *with) {
+    struct string_index index = room_for_index(image);
     uint8_t *part = room_for(IMAGE_MOST);
     uint64_t length = IMAGE_MOST;
     // a shorter part is the last
     for (size_t from = 0; length == IMAGE_MOST; from += length) {
-        length = nepuladrim_list(image.at, image.length, layout, from, part, IMAGE_MOST);
+        length = nepuladrim_list(image.at, image.length, layout, from, index.words, index.length, part, IMAGE_MOST);
         if (is_refused(length)) break;
         take(with, part, length);
     }
     free(part);
+    free(index.words);
     return is_refused(length) ? refusal_of(length) : 0;
 }
 

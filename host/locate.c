@@ -48,13 +48,10 @@ static void print_located(struct bytes image, uint32_t id, const uint64_t *facts
     print_number("overflow entries visited", facts[NEPULADRIM_STRING_OVERFLOW_VISITED]);
 }
 
-static void print_no_string(struct bytes image, uint8_t layout, uint32_t id) {
-    char who[40];
+static void print_not_located(struct bytes image, uint8_t layout, uint32_t id) {
     uint64_t facts[NEPULADRIM_IMAGE_FACTS];
     nepuladrim_image_facts(image.at, image.length, layout, facts, NEPULADRIM_IMAGE_FACTS);
-    snprintf(who, sizeof who, "string %u", id);
-    print_refusal(who, NO_SUCH_ID);
-    print_ids(facts[NEPULADRIM_STRINGS], "string");
+    print_no_string(id, facts[NEPULADRIM_STRINGS]);
 }
 
 // Answers 0, or the number of the refusal.
@@ -65,7 +62,7 @@ static unsigned locate_one(struct bytes image, uint8_t layout, uint32_t id) {
         print_located(image, id, facts);
         return 0;
     }
-    if (refusal_of(answer) == NO_SUCH_ID) print_no_string(image, layout, id);
+    if (refusal_of(answer) == NO_SUCH_ID) print_not_located(image, layout, id);
     return refusal_of(answer);
 }
 

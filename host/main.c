@@ -11,8 +11,8 @@ static const struct {
     const char *name;
     command *run;
 } COMMANDS[] = {
-    {"demo", demo},   {"extract", extract},     {"help", help},     {"list", list},   {"locate", locate},
-    {"patch", patch}, {"translate", translate}, {"verify", verify}, {"--help", help}, {"-h", help},
+    {"demo", demo},   {"extract", extract},     {"help", help},     {"index", index_strings}, {"list", list}, {"locate", locate},
+    {"patch", patch}, {"translate", translate}, {"verify", verify}, {"--help", help},         {"-h", help},
 };
 
 int main(int count, char **words) {

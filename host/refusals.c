@@ -41,6 +41,13 @@ void print_ids(uint64_t count, const char *what) {
     print(stderr, ")\n");
 }
 
+void print_no_string(uint32_t id, uint64_t count) {
+    char who[40];
+    snprintf(who, sizeof who, "string %u", id);
+    print_refusal(who, NO_SUCH_ID);
+    print_ids(count, "string");
+}
+
 void print_refused_image(const char *name, struct bytes image, uint8_t layout, unsigned number) {
     print_refusal(input_name(name), number);
     print(stderr, " (it has %s%zu bytes, and was read as %s", image.length > IMAGE_MOST ? "over " : "",

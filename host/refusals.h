@@ -25,6 +25,9 @@ void print_refusal(const char *who, unsigned number);
 // Says how many strings or functions there are, with an end of line: behind an id that is refused.
 void print_ids(uint64_t count, const char *what);
 
+// Says that a string is refused since there is none of its id, and how many there are.
+void print_no_string(uint32_t id, uint64_t count);
+
 // Says that an image is refused, how long it is, and under which other layouts it would be taken.
 void print_refused_image(const char *name, struct bytes image, uint8_t layout, unsigned number);
 

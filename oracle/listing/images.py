@@ -220,6 +220,13 @@ def stretched(image, length):
     return image + bytes(length - len(image))
 
 
+def fullest():
+    """As many strings as an image of 65,536 bytes can have, one kind for all: what the program's index is made for."""
+    image = Maker(0, storage=b"", placed=[(i % 3 == 0, 0, 0) for i in range(16346)]).build()
+    assert len(image) == 65536
+    return "as many strings as there can be", record(image)
+
+
 def malformed():
     """Inputs that are refused with 15, a name and the input."""
     image = row_j()

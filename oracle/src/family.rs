@@ -4,7 +4,7 @@ use std::panic::{catch_unwind, AssertUnwindSafe};
 
 use crate::random::Random;
 use crate::stream::{Answer, Call, ARGUMENTS};
-use crate::{builder, image, leaves, patches};
+use crate::{builder, image, index, leaves, patches};
 
 pub const DONE: u32 = 0;
 /// The Rust stopped with a panic.
@@ -38,7 +38,7 @@ pub enum Argument {
     Flag(&'static str),
     /// The 32 bits of a signed number.
     Delta,
-    /// The two halves of a place or a length, always arguments 0 and 1.
+    /// The two halves of a place, a length, a count or an id, one behind the other.
     LongLow(&'static str),
     LongHigh(&'static str),
 }
@@ -60,8 +60,8 @@ pub struct Departure {
     pub explains: fn(&Call, &Answer, &Answer) -> bool,
 }
 
-pub static FAMILIES: [&Family; 4] =
-    [&leaves::FAMILY, &builder::FAMILY, &image::FAMILY, &patches::FAMILY];
+pub static FAMILIES: [&Family; 5] =
+    [&leaves::FAMILY, &builder::FAMILY, &image::FAMILY, &patches::FAMILY, &index::FAMILY];
 
 impl Family {
     /// The family that the program's first argument names, and the arguments after it.
@@ -94,10 +94,15 @@ const _: () = assert!(usize::BITS == 64);
 
 /// Arguments 0 and 1 as one number.
 pub fn long(arguments: &[u32; ARGUMENTS]) -> usize {
-    (u64::from(arguments[1]) << 32 | u64::from(arguments[0])) as usize
+    long_at(arguments, 0) as usize
 }
 
-/// A number as arguments 0 and 1.
+/// An argument and the one behind it as one number.
+pub fn long_at(arguments: &[u32; ARGUMENTS], i: usize) -> u64 {
+    u64::from(arguments[i + 1]) << 32 | u64::from(arguments[i])
+}
+
+/// A number as two arguments.
 pub fn halves(long: u64) -> [u32; 2] {
     [long as u32, (long >> 32) as u32]
 }

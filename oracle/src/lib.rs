@@ -4,6 +4,7 @@
 pub mod builder;
 pub mod family;
 pub mod image;
+pub mod index;
 pub mod job;
 pub mod leaves;
 pub mod patches;

@@ -110,20 +110,39 @@ int main(void) {
     // the listing, whole and in parts
     const char lines[] = "image 220 2 1\ns 0 n s 1 0061 -\ns 1 n s 2 00620063 -\nf 0 o 156 4\n";
     const size_t all = sizeof lines - 1;
+    uint32_t strings[3 * 2];
     memset(out, 0xa5, sizeof out);
-    is(nepuladrim_list(image, 220, 5, 0, out, sizeof out) == refused(15));
-    is(nepuladrim_list(image, 147, 0, 0, out, sizeof out) == refused(1));
-    is(nepuladrim_list(image, 220, 0, all, out, sizeof out) == 0);
-    is(nepuladrim_list(image, 220, 0, SIZE_MAX, out, sizeof out) == 0);
-    is(nepuladrim_list(image, 220, 0, 0, out, 0) == 0);
+    is(nepuladrim_list(image, 220, 5, 0, strings, 6, out, sizeof out) == refused(15));
+    is(nepuladrim_list(image, 147, 0, 0, strings, 6, out, sizeof out) == refused(1));
+    is(nepuladrim_list(image, 220, 0, 0, strings, 5, out, sizeof out) == refused(13));
+    is(nepuladrim_list(image, 220, 0, all, strings, 6, out, sizeof out) == 0);
+    is(nepuladrim_list(image, 220, 0, SIZE_MAX, strings, 6, out, sizeof out) == 0);
+    is(nepuladrim_list(image, 220, 0, 0, strings, 6, out, 0) == 0);
     is(untouched());
-    is(nepuladrim_list(image, 220, 0, 0, out, sizeof out) == all && memcmp(out, lines, all) == 0 && out[all] == 0xa5);
+    is(nepuladrim_list(image, 220, 0, 0, strings, 6, out, sizeof out) == all && memcmp(out, lines, all) == 0 && out[all] == 0xa5);
     memset(out, 0xa5, sizeof out);
     for (size_t from = 0; from < all; from += 7) {
         const size_t left = all - from < 7 ? all - from : 7;
-        is(nepuladrim_list(image, 220, 0, from, out + from, 7) == left);
+        is(nepuladrim_list(image, 220, 0, from, strings, 6, out + from, 7) == left);
     }
     is(memcmp(out, lines, all) == 0 && out[all] == 0xa5);
+
+    // an index of the strings, and one of them looked up in it
+    const uint32_t filled[] = {0, 1, 1, 2, 0, 0}, second[] = {1, 2, 0};
+    uint32_t index[3 * 2 + 1], found[NEPULADRIM_INDEX_WORDS + 1];
+    memset(index, 0xa5, sizeof index);
+    memset(found, 0xa5, sizeof found);
+    is(nepuladrim_fill_index(image, 220, 5, index, 6) == refused(15));
+    is(nepuladrim_fill_index(image, 147, 0, index, 6) == refused(1));
+    is(nepuladrim_fill_index(image, 220, 0, index, 5) == refused(13));
+    is(index[0] == 0xa5a5a5a5);
+    is(nepuladrim_fill_index(image, 220, 0, index, 7) == 2 && memcmp(index, filled, sizeof filled) == 0 && index[6] == 0xa5a5a5a5);
+    is(memcmp(strings, filled, sizeof filled) == 0);
+    is(nepuladrim_look_up(index, 6, 2, 2, found, 3) == refused(7));
+    is(nepuladrim_look_up(index, 5, 2, 1, found, 3) == refused(13));
+    is(nepuladrim_look_up(index, 6, 2, 1, found, 2) == refused(13));
+    is(found[0] == 0xa5a5a5a5);
+    is(nepuladrim_look_up(index, 6, 2, 1, found, 4) == 3 && memcmp(found, second, sizeof second) == 0 && found[3] == 0xa5a5a5a5);
 
     // what is known of the image and of its strings
     uint64_t facts[NEPULADRIM_IMAGE_FACTS + 1], known[NEPULADRIM_STRING_FACTS + 1];

@@ -3,6 +3,8 @@
 // nothing behind.
 //
 // An input is words, a line each, up to an empty line, and the file that the word `image` names; with no words, the bytes of a listing.
+// Of the file it is also tried, in every layout, whether an index of its strings holds what the walk to each of them finds.
+#include "../../hbc.h"
 #include "../../host/listing.h"
 
 #include <setjmp.h>
@@ -84,6 +86,49 @@ static void tell(const uint8_t *listing, size_t length) {
     free_all();
 }
 
+// ---- an index of the strings
+
+// An input has so many bytes, as tests/fuzz/run has it, and a string takes 4 of them.
+#define MOST_BYTES 4096
+#define MOST_STRINGS (MOST_BYTES / 4)
+#define EMPTY 0xa5a5a5a5
+
+static uint32_t words_of_index[NEPULADRIM_INDEX_WORDS * MOST_STRINGS + 1];
+
+static void expect(bool is_so) {
+    if (!is_so) abort();
+}
+
+// What an index has of a string is in its row of what is known of all strings.
+static void hold_string(const uint32_t *index, uint64_t count, uint32_t id, const uint64_t *row, uint64_t storage_at) {
+    uint32_t found[NEPULADRIM_INDEX_WORDS];
+    const size_t asked = NEPULADRIM_INDEX_WORDS * count;
+    expect(nepuladrim_look_up(index, asked, count, id, found, NEPULADRIM_INDEX_WORDS) == NEPULADRIM_INDEX_WORDS);
+    expect(found[NEPULADRIM_INDEX_OFFSET] + storage_at == row[NEPULADRIM_STRING_AT]);
+    expect(found[NEPULADRIM_INDEX_LENGTH] == row[NEPULADRIM_STRING_UNITS]);
+    expect(found[NEPULADRIM_INDEX_FLAGS] == (row[NEPULADRIM_STRING_IS_WIDE] ? NEPULADRIM_INDEX_WIDE : 0u) +
+                                                (row[NEPULADRIM_STRING_IS_IDENTIFIER] ? NEPULADRIM_INDEX_IDENTIFIER : 0u));
+    expect(nepuladrim_look_up(index, asked - 1, count, id, found, NEPULADRIM_INDEX_WORDS) == NEPULADRIM_REFUSED + 13);
+}
+
+// As many words as are asked for, of which none is written where the bytes are no image.
+static void hold_index(const uint8_t *image, size_t length, uint8_t layout) {
+    static uint64_t rows[NEPULADRIM_STRING_FACTS * MOST_STRINGS];
+    uint64_t facts[NEPULADRIM_IMAGE_FACTS] = {0};
+    uint32_t *index = words_of_index;
+    unsigned refusal = nepuladrim_admit(image, length, layout);
+    nepuladrim_image_facts(image, length, layout, facts, NEPULADRIM_IMAGE_FACTS);
+    const size_t asked = NEPULADRIM_INDEX_WORDS * facts[NEPULADRIM_STRINGS];
+    index[0] = index[asked] = EMPTY;
+    uint64_t count = nepuladrim_fill_index(image, length, layout, index, asked);
+    expect(count == (refusal ? NEPULADRIM_REFUSED + refusal : facts[NEPULADRIM_STRINGS]) && index[asked] == EMPTY);
+    if (refusal) return;
+    if (asked) expect(nepuladrim_fill_index(image, length, layout, index, asked - 1) == NEPULADRIM_REFUSED + 13);
+    nepuladrim_string_facts_from(image, length, layout, 0, rows, NEPULADRIM_STRING_FACTS * MOST_STRINGS);
+    for (uint32_t id = 0; id < count; id++)
+        hold_string(index, count, id, rows + id * NEPULADRIM_STRING_FACTS, facts[NEPULADRIM_STORAGE_AT]);
+}
+
 int LLVMFuzzerTestOneInput(const uint8_t *data, size_t length) {
     char *text = malloc(length + 1), *words[MOST_WORDS + 2] = {"hbc"};
     memcpy(text, data, length);
@@ -92,6 +137,7 @@ int LLVMFuzzerTestOneInput(const uint8_t *data, size_t length) {
     size_t rest = cut_words(text, length, words, &count);
     store(text + rest, length - rest);
     words[count] = NULL;
+    for (uint8_t layout = 0; layout < 5 && length <= MOST_BYTES; layout++) hold_index((uint8_t *)text + rest, length - rest, layout);
     if (count == 1) tell(data, length);
     // the demonstration takes nothing of an input, and starts another program
     else if (strcmp(words[1], "demo") != 0) run(count, words);

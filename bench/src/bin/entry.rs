@@ -1,9 +1,10 @@
 // Calls a function of hbc.h on an image laid out as compilers lay them out, with as many strings as functions:
-//   entry admission|listing|table|first|last modern|mixed|pairs|names COUNT REPEATS
+//   entry admission|listing|index|look-ups|table|first|last modern|mixed|pairs|names COUNT REPEATS
 // modern: every record has a large header. mixed: legacy, every second record has one. pairs: mixed, and every fourth
-// string has an overflow pair. names: mixed, and identifiers come by twos. table: what is known of all strings; first,
-// last: of one. Prints 0, or the number of a refusal, and the length of what was gone over: the image, its listing, the
-// bytes of the table, or the table entries visited to find the string.
+// string has an overflow pair. names: mixed, and identifiers come by twos. index: it is filled; look-ups: of the last
+// string, in an index that is filled once, before. table: what is known of all strings; first, last: of one. Prints 0, or
+// the number of a refusal, and the length of what was gone over: the image, its listing, the strings of the index, the
+// look-ups, the bytes of the table, or the table entries visited to find the string.
 
 #[path = "../image.rs"]
 mod image;
@@ -17,7 +18,24 @@ extern "C" {
         length: usize,
         layout: u8,
         from: usize,
+        index: *mut u32,
+        words: usize,
         out: *mut u8,
+        room: usize,
+    ) -> u64;
+    fn nepuladrim_fill_index(
+        image: *const u8,
+        length: usize,
+        layout: u8,
+        index: *mut u32,
+        words: usize,
+    ) -> u64;
+    fn nepuladrim_look_up(
+        index: *const u32,
+        words: usize,
+        count: usize,
+        id: u32,
+        out: *mut u32,
         room: usize,
     ) -> u64;
     fn nepuladrim_string_facts(
@@ -41,6 +59,10 @@ extern "C" {
 // The numbers that are known of a string; the last two count the entries visited.
 const FACTS: usize = 7;
 
+// The words of an index for each string, and how many look-ups are made at a time: one takes too little to be counted.
+const WORDS: usize = 3;
+const LOOK_UPS: usize = 1000;
+
 const REFUSED: u64 = 1 << 32;
 
 fn admission(image: &[u8], layout: u8) -> (u64, usize) {
@@ -52,10 +74,27 @@ fn refusal(answer: u64) -> u64 {
     answer.saturating_sub(REFUSED)
 }
 
-fn listing(image: &[u8], layout: u8, out: &mut [u8]) -> (u64, usize) {
+fn listing(image: &[u8], layout: u8, index: &mut [u32], out: &mut [u8]) -> (u64, usize) {
     let (from, to) = ((image.as_ptr(), image.len()), (out.as_mut_ptr(), out.len()));
-    let answer = unsafe { nepuladrim_list(from.0, from.1, layout, 0, to.0, to.1) };
+    let lent = (index.as_mut_ptr(), index.len());
+    let answer = unsafe { nepuladrim_list(from.0, from.1, layout, 0, lent.0, lent.1, to.0, to.1) };
     (refusal(answer), answer as usize)
+}
+
+fn fill(image: &[u8], layout: u8, index: &mut [u32]) -> (u64, usize) {
+    let (from, lent) = ((image.as_ptr(), image.len()), (index.as_mut_ptr(), index.len()));
+    let answer = unsafe { nepuladrim_fill_index(from.0, from.1, layout, lent.0, lent.1) };
+    (refusal(answer), answer as usize)
+}
+
+fn look_ups(index: &[u32], count: usize, id: usize) -> (u64, usize) {
+    let mut found = [0; WORDS];
+    let (from, to) = ((index.as_ptr(), index.len()), found.as_mut_ptr());
+    let mut answer = 0;
+    for _ in 0..LOOK_UPS {
+        answer = unsafe { nepuladrim_look_up(from.0, from.1, count, id as u32, to, WORDS) };
+    }
+    (refusal(answer), LOOK_UPS)
 }
 
 fn table(image: &[u8], layout: u8, out: &mut [u64]) -> (u64, usize) {
@@ -79,15 +118,21 @@ fn main() {
     let repeats: usize = words[4].parse().unwrap();
     let mut out = vec![0; 16 * image.len()];
     let mut numbers = vec![0; FACTS * count];
+    let mut index = vec![0; WORDS * count];
     let mut answer = (0, 0);
+    if words[1] == "look-ups" {
+        fill(&image, shape.layout, &mut index);
+    }
     for _ in 0..repeats {
         let image = std::hint::black_box(&image);
         answer = match &words[1][..] {
             "admission" => admission(image, shape.layout),
+            "index" => fill(image, shape.layout, &mut index),
+            "look-ups" => look_ups(&index, count, count - 1),
             "table" => table(image, shape.layout, &mut numbers),
             "first" => string(image, shape.layout, 0),
             "last" => string(image, shape.layout, count - 1),
-            _ => listing(image, shape.layout, &mut out),
+            _ => listing(image, shape.layout, &mut index, &mut out),
         };
     }
     println!("{} {}", answer.0, answer.1);

@@ -50,8 +50,13 @@ use Rattle.patches.proofs.StepLaws.{made-of, patch-promise}
 use Rattle.listing_pieces.specs.Listing.{listed, partRoom, listingPart}
 use Rattle.listing_pieces.proofs.PartLaws.{part-short, part-fits}
 use Rattle.input_records.specs.Heads.{layoutOf}
-use Rattle.hbc.specs.Numbers.{coded, Codes, stated, modeOf, chosen}
-use Rattle.hbc.specs.Reads.{stringReading, bodyReading}
+use Rattle.string_index.specs.declared.Filled.{Filled}
+use Rattle.string_index.specs.declared.Filled.the-variants as filled-is
+use Rattle.string_index.specs.declared.Lookup.{Lookup}
+use Rattle.string_index.specs.declared.Lookup.the-variants as lookup-is
+use Rattle.string_index.specs.Index.{fillRefusal, filledAs}
+use Rattle.hbc.specs.Numbers.{coded, Codes, stated, modeOf, chosen, countNumbered}
+use Rattle.hbc.specs.Reads.{stringReading, bodyReading, lookedUp}
 
 -- the length of what is made fits 32 bits
 abbrev pub Short : Outcome → Type 0
@@ -213,10 +218,10 @@ module _ (m : Mode) (l : Layout) (s : List ℕ) (room : ℕ) (file : List ℕ) (
       go false true h = tt
       go false false h = tt
 
-pub short-list : (room from : ℕ) (l : Layout) (s : List ℕ) → Short (listingPart (partRoom room) from l s)
+pub short-list : (room from : ℕ) (l : Layout) (s : List ℕ) (words : ℕ) → Short (listingPart (partRoom room) from l s words)
 unfolding listingPart
-short-list room from l s =
-    short-judged (refusal l s) _ (λ e. omega (arith, part-short from (partRoom room) (listed l s), part-fits room .1))
+short-list room from l s words =
+    short-judged (fillRefusal l s words) _ (λ e. omega (arith, part-short from (partRoom room) (listed l s), part-fits room .1))
 
 pub short-image-facts : (l : Layout) (s : List ℕ) → Short (imageFacts l s)
 unfolding imageFacts factsOf
@@ -233,3 +238,33 @@ short-facts-from l s bytes room id = short-judged (refusal l s) _ (λ e.
     let a : Admitted l s = admitted l s bytes e in
     let n = stringsTold room (stringsIn s) id in
     omega (arith, facts-length l s id n, told-most room (stringsIn s) id, counted a .strings, a .most))
+
+-- ---- the index of an image
+
+pub short-looked-up : (x : Lookup) → Short (lookedUp x)
+short-looked-up (lookup-is.Found e) = omega arith
+short-looked-up (lookup-is.Refused n) = tt
+
+-- the strings that are counted fit 32 bits, so that a count is told from a refusal too
+abbrev pub Few : Filled → Type 0
+Few (filled-is.Strings n) = n < 4294967296
+Few (filled-is.Refused n) = Unit {0}
+
+pub counts-apart : (f g : Filled) → Few f → Few g → countNumbered f ≡ countNumbered g → f ≡ g
+counts-apart (filled-is.Strings n) (filled-is.Strings m) h k e = ap filled-is.Strings e
+counts-apart (filled-is.Strings n) (filled-is.Refused m) h k e = absurd (omega (arith, h))
+counts-apart (filled-is.Refused n) (filled-is.Strings m) h k e = absurd (omega (arith, k))
+counts-apart (filled-is.Refused n) (filled-is.Refused m) h k e = ap filled-is.Refused (let z : n ≡ m = omega arith in z)
+
+pub few-filled : (l : Layout) (s : List ℕ) → ((i : ℕ) → getD s i 0 < 256) → (words : ℕ) → Few (filledAs l s words)
+unfolding filledAs fillRefusal
+few-filled l s bytes words = go (fillRefusal l s words) (λ e. judged-none l s _ e .0)
+  where
+    go : (n : ℕ) → (n ≡ 0 → refusal l s ≡ 0) → Few (pick (eqb n 0) (filled-is.Strings (stringsIn s)) (filled-is.Refused n))
+    go n f = by (eqb n 0) refl
+      where
+        by : (b : Bool) → eqb n 0 ≡ b → Few (pick b (filled-is.Strings (stringsIn s)) (filled-is.Refused n))
+        by true e =
+            let a : Admitted l s = admitted l s bytes (f (eqb-true n 0 e)) in
+            omega (arith, counted a .strings, a .most)
+        by false e = tt

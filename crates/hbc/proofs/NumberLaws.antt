@@ -17,7 +17,9 @@ use Rattle.bits.specs.Outcome.{Outcome, roomed, Answers}
 use Rattle.bits.specs.declared.Answer.{Answer}
 use Rattle.bits.specs.declared.Answer.the-variants.{Refused}
 use Rattle.translate.specs.Space.{LeavesSpace}
-use Rattle.hbc.specs.Numbers.{admitNumber, numbered, Codes, stated, modeOf, chosen, usedBy, workBy}
+use Rattle.string_index.specs.declared.Filled.{Filled}
+use Rattle.string_index.specs.declared.Filled.the-variants as filled-is
+use Rattle.hbc.specs.Numbers.{admitNumber, numbered, Codes, stated, modeOf, chosen, usedBy, workBy, countNumbered, countStated}
 
 -- the byte states this layout
 pub record States (byte : ℕ) (l : Layout) : Type 0 where
@@ -133,3 +135,18 @@ module _ (layout : ℕ) (after : Layout → List ℕ) (old : List ℕ) where
   pub layout-work : (l : Layout) → States layout l → (new : List ℕ) → new ≡ after l → new ≡ workBy layout after old
   unfolding workBy
   layout-work l y new e = e ∙ ap after (y .is) ∙ rw (le-ltb 4 layout (y .known))
+
+-- ---- an answer that counts strings
+
+pub refused-count : (a : Filled) (n r : ℕ) → a ≡ filled-is.Refused n → r ≡ n → 4294967296 + r ≡ countNumbered a
+refused-count a n r e f = ap (λ (x : ℕ). 4294967296 + x) f ∙ sym (ap countNumbered e)
+
+module _ (layout : ℕ) (f : Layout → Filled) where
+  pub no-layout-count : 4 < layout → 4294967311 ≡ countStated layout f
+  unfolding countStated
+  no-layout-count h = rw (lt-ltb 4 layout h)
+
+  pub layout-count : (l : Layout) → States layout l → (a : Filled) (r : ℕ) → a ≡ f l → r ≡ countNumbered a
+      → r ≡ countStated layout f
+  unfolding countStated
+  layout-count l y a r e g = g ∙ ap countNumbered (e ∙ ap f (y .is)) ∙ rw (le-ltb 4 layout (y .known))

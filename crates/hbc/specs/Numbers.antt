@@ -15,6 +15,8 @@ use Rattle.format.specs.declared.Mode.{Mode}
 use Rattle.format.specs.declared.Mode.the-variants.{Plain, Even}
 use Rattle.image.specs.Admission.{refusal}
 use Rattle.input_records.specs.Heads.{layoutOf}
+use Rattle.string_index.specs.declared.Filled.{Filled}
+use Rattle.string_index.specs.declared.Filled.the-variants as filled-is
 
 -- admission under a layout byte: 0 where the bytes are admitted. 01, refusal 15: "layout byte over 4"
 unfoldable pub admitNumber : ℕ → List ℕ → ℕ
@@ -45,12 +47,23 @@ modeOf byte = pick (eqb byte 0) Plain Even
 unfoldable pub chosen : ℕ → (Mode → Outcome) → Outcome
 chosen byte o = pick (ltb 1 byte) (refused refusals.job) (o (modeOf byte))
 
+-- ---- an answer that counts strings
+
+-- as one number likewise. 02, No. 13, as docs/DECISIONS.md reads it: filling answers the string count
+abbrev pub countNumbered : Filled → ℕ
+countNumbered (filled-is.Strings n) = n
+countNumbered (filled-is.Refused n) = 4294967296 + n
+
+-- under the layout that a byte states
+unfoldable pub countStated : ℕ → (Layout → Filled) → ℕ
+countStated byte f = pick (ltb 4 byte) (4294967296 + refusals.job) (countNumbered (f (layoutOf byte)))
+
 -- ---- space that is lent for work: not used where a byte states no layout or no mode
 
 -- whether the three of a file are used
 unfoldable pub usedBy : ℕ → ℕ → (Layout → Bool) → Bool
 usedBy layout mode used = pick (ltb 4 layout) false (pick (ltb 1 mode) false (used (layoutOf layout)))
 
--- the one of the writer, afterwards
+-- the one of the writer, or an index, afterwards
 unfoldable pub workBy : ℕ → (Layout → List ℕ) → List ℕ → List ℕ
 workBy layout after old = pick (ltb 4 layout) old (after (layoutOf layout))

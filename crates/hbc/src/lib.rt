@@ -5,6 +5,9 @@ use format::Layout;
 use format::Mode;
 use function_table::FunctionRead;
 use reader::StringRead;
+use string_index::Entry;
+use string_index::Filled;
+use string_index::Lookup;
 ghost use mathlib.Core.Path.{_≡_};
 ghost use Prim.Native.Nat.{_+_, _≤_};
 ghost use lib.ListN.{length};
@@ -19,9 +22,11 @@ ghost use Rattle.translate.specs.Space.{lent, isRead, readPo, LeavesSpace};
 ghost use Rattle.po_write.specs.File.{writePo, workAfter};
 ghost use Rattle.functions.specs.Patch.{patchBody};
 ghost use Rattle.listing_pieces.specs.Listing.{partRoom, listingPart};
+ghost use Rattle.string_index.specs.Index.{filledAs, indexAfter, lookUp};
 ghost use Rattle.facts.specs.Facts.{imageFacts, stringFacts, stringFactsFrom};
-ghost use Rattle.hbc.specs.Reads.{stringReading, bodyReading};
+ghost use Rattle.hbc.specs.Reads.{stringReading, bodyReading, entryWords, lookedUp};
 ghost use Rattle.hbc.specs.Numbers.{admitNumber, numbered, modeOf, Codes, stated, chosen, usedBy, workBy};
+ghost use Rattle.hbc.specs.Numbers.{countNumbered, countStated};
 
 // A layout byte is at most that.
 const LAST_LAYOUT: u8 = 4;
@@ -332,16 +337,86 @@ pub extern "C" fn nepuladrim_body(image: &[u8], layout: u8, id: u32, out: &mut [
     number(read_body(image, input_records::layout_of(layout), id as usize, out))
 }
 
-// A part of the listing of an image: from byte `from` on, as much as there is room for.
+// A part of the listing of an image: from byte `from` on, as much as there is room for. The index is lent,
+// and filled anew.
 #[no_mangle]
-pub extern "C" fn nepuladrim_list(image: &[u8], layout: u8, from: usize, out: &mut [u8]) -> u64
-    ensures { λ r. ⌜ Codes (stated layout (λ l. listingPart (partRoom (length (now (out .entry)))) from l (now (image .entry)))) r
-        (now (out .entry)) (now (out .exit)) ⌝ }
+pub extern "C" fn nepuladrim_list(
+    image: &[u8],
+    layout: u8,
+    from: usize,
+    index: &mut [u32],
+    out: &mut [u8],
+) -> u64
+    ensures { λ r. ⌜ Codes (stated layout (λ l. listingPart (partRoom (length (now (out .entry)))) from l (now (image .entry))
+        (length (now (index .entry))))) r (now (out .entry)) (now (out .exit)) ⌝ }
+    ensures { λ _. ⌜ now (index .exit) ≡ workBy layout (λ l. indexAfter l (now (image .entry)) (now (index .entry)))
+        (now (index .entry)) ⌝ }
 {
     if LAST_LAYOUT < layout {
         return REFUSED_JOB;
     }
-    number(listing_pieces::list(image, input_records::layout_of(layout), from, out))
+    number(listing_pieces::list(image, input_records::layout_of(layout), from, index, out))
+}
+
+// ---- the index of an image's strings
+
+// The number of an answer: how many strings there are, or 2^32 and the refusal's number.
+fn count_number(filled: Filled) -> u64
+    ensures { λ r. ⌜ r ≡ countNumbered filled ⌝ }
+{
+    match filled {
+        Filled::Strings(count) => count as u64,
+        Filled::Refused(n) => REFUSED + bits::wide(n),
+    }
+}
+
+// Fills an index: three runs of words, with the offset, the length and the flags of each string. Answers how
+// many strings there are.
+#[no_mangle]
+pub extern "C" fn nepuladrim_fill_index(image: &[u8], layout: u8, index: &mut [u32]) -> u64
+    ensures { λ r. ⌜ r ≡ countStated layout (λ l. filledAs l (now (image .entry)) (length (now (index .entry)))) ⌝ }
+    ensures { λ _. ⌜ now (index .exit) ≡ workBy layout (λ l. indexAfter l (now (image .entry)) (now (index .entry)))
+        (now (index .entry)) ⌝ }
+{
+    if LAST_LAYOUT < layout {
+        return REFUSED_JOB;
+    }
+    count_number(string_index::fill_index(image, input_records::layout_of(layout), index))
+}
+
+// How many words an entry has.
+const ENTRY: usize = 3;
+
+// The words of an entry at the front of a buffer.
+fn put_entry(entry: Entry, out: &mut [u32]) -> Answer
+    ensures { λ r. ⌜ Answers (roomed (length (now (out .entry))) (made (entryWords entry))) r (now (out .entry)) (now (out .exit)) ⌝ }
+{
+    if out.len() < ENTRY {
+        return Answer::Refused(refusals::ROOM);
+    }
+    out[0] = entry.offset;
+    out[1] = entry.length;
+    out[2] = entry.flags;
+    Answer::Length(ENTRY)
+}
+
+// The same of a look-up, or its refusal.
+fn put_looked_up(looked: Lookup, out: &mut [u32]) -> Answer
+    ensures { λ r. ⌜ Answers (roomed (length (now (out .entry))) (lookedUp looked)) r (now (out .entry)) (now (out .exit)) ⌝ }
+{
+    match looked {
+        Lookup::Found(entry) => put_entry(entry, out),
+        Lookup::Refused(n) => Answer::Refused(n),
+    }
+}
+
+// What an index for `count` strings holds of string `id`.
+#[no_mangle]
+pub extern "C" fn nepuladrim_look_up(index: &[u32], count: usize, id: u32, out: &mut [u32]) -> u64
+    ensures { λ r. ⌜ Codes (roomed (length (now (out .entry))) (lookedUp (lookUp (now (index .entry)) count id))) r (now (out .entry))
+        (now (out .exit)) ⌝ }
+{
+    number(put_looked_up(string_index::look_up(index, count, id as usize), out))
 }
 
 // ---- facts: what is known of an image, or of its strings, as numbers

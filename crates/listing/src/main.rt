@@ -21,8 +21,9 @@ fn main() {
         io::write_all(STDERR_FILENO, b"standard input cannot be read\n");
         return;
     }
+    let mut index = [0u32; listing_pieces::INDEX];
     let mut room = [0u8; listing_pieces::ROOM];
-    if !listing_io::print(&input[0..n], &mut room) {
+    if !listing_io::print(&input[0..n], &mut index, &mut room) {
         io::write_all(STDERR_FILENO, b"standard output cannot be written\n");
     }
 }

@@ -16,10 +16,12 @@ use Rattle.format.specs.declared.Layout.{Layout}
 use Rattle.image.specs.Admission.{refusal}
 use Rattle.sections.specs.declared.Places.{Places}
 use Rattle.sections.specs.Places.{placesOf, Laid}
+use Rattle.sections.proofs.SectionLaws.{sectioned}
 use Rattle.admission.specs.declared.Admission.{Admission}
 use Rattle.admission.specs.declared.Admission.the-variants as admission-is
 use Rattle.admission.specs.Admission.{admission, numberOf}
 use Rattle.admission.proofs.AnswerLaws.{is-laid}
+use Rattle.string_index.specs.Index.{wordsFor}
 use Rattle.listing_lines.specs.Lines.{refusedLine}
 use Rattle.input_records.specs.declared.ImageHead.{ImageHead}
 use Rattle.input_records.specs.declared.ImageHead.the-variants as head-is
@@ -66,6 +68,15 @@ listing-in-pieces input p n e h =
     let k : listing input ≡ listed (p .layout) (drop 7 input) = listing-printed input ∙ ap (printed (drop 7 input)) e in
     in-pieces (p .layout) (drop 7 input) n (omega (arith, ap length k)) ∙ sym k
 
+-- ---- an image has at most 65,536 bytes
+
+head-most : (input : List ℕ) → imageHeadGood input ≡ true → wordAt input 3 ≤ 65_536
+unfolding imageHeadGood
+head-most input e =
+    leb-true (wordAt input 3) 65_536
+    (both-1 (leb (getD input 2 0) 4) (leb (wordAt input 3) 65_536)
+    (both-1 (marked input 0x49 0x4D) _ (both-1 (leb 7 (length input)) _ e)))
+
 -- ---- an image that was opened is admitted
 
 module _ (input : List ℕ) (p : Places) (bytes : (i : ℕ) → getD (drop 7 input) i 0 < 256) where
@@ -91,18 +102,35 @@ module _ (input : List ℕ) (p : Places) (bytes : (i : ℕ) → getD (drop 7 inp
   opened-admitted e = from-record (imageHead input) e
 
 module _ (input : List ℕ) (p : Places) where
-  pub opened-long : opened input ≡ opened-is.Listed p → 7 ≤ length input
-  unfolding opened
-  opened-long e = long (imageHead input) e
+  -- the input ends where its head says
+  opened-ends : opened input ≡ opened-is.Listed p → (7 ≤ length input) × (length input ≤ 65_543)
+  unfolding opened imageHead
+  opened-ends e = go (imageHeadGood input) refl e
     where
-      long : (h : ImageHead) → openedRecord h input ≡ opened-is.Listed p → 7 ≤ length input
-      long (head-is.Refused n) e = let z : _≡_ {A = ℕ} 0 1 = cc in absurd (omega arith)
-      long (head-is.Image l n) e = go (eqb (length input) (7 + n)) refl e
+      go : (b : Bool) → imageHeadGood input ≡ b
+          → openedRecord (pick b (head-is.Image (layoutOf (getD input 2 0)) (wordAt input 3)) (head-is.Refused 15)) input
+          ≡ opened-is.Listed p
+          → (7 ≤ length input) × (length input ≤ 65_543)
+      go false k e = let z : _≡_ {A = ℕ} 0 1 = cc in absurd (omega arith)
+      go true k e = ends (eqb (length input) (7 + wordAt input 3)) refl e
         where
-          go : (b : Bool) → eqb (length input) (7 + n) ≡ b
-              → pick b (openedImage (admission l (drop 7 input))) (opened-is.Refused 15) ≡ opened-is.Listed p → 7 ≤ length input
-          go true k e = omega (arith, eqb-true (length input) (7 + n) k)
-          go false k e = let z : _≡_ {A = ℕ} 0 1 = cc in absurd (omega arith)
+          ends : (b : Bool) → eqb (length input) (7 + wordAt input 3) ≡ b
+              → pick b (openedImage (admission (layoutOf (getD input 2 0)) (drop 7 input))) (opened-is.Refused 15) ≡ opened-is.Listed p
+              → (7 ≤ length input) × (length input ≤ 65_543)
+          ends true g e =
+              let n : length input ≡ 7 + wordAt input 3 = eqb-true (length input) (7 + wordAt input 3) g in
+              (omega arith, omega (arith, head-most input k))
+          ends false g e = let z : _≡_ {A = ℕ} 0 1 = cc in absurd (omega arith)
+
+  pub opened-long : opened input ≡ opened-is.Listed p → 7 ≤ length input
+  opened-long e = opened-ends e .0
+
+  -- so that the index which the programs lend has words for all its strings
+  pub opened-words : ((i : ℕ) → getD input i 0 < 256) → opened input ≡ opened-is.Listed p → wordsFor (p .strings) ≤ 49_152
+  opened-words bytes e =
+      let b : (i : ℕ) → getD (drop 7 input) i 0 < 256 = λ i. rw (getD-drop 7 input i 0) (bytes (7 + i)) in
+      let z = sectioned p (drop 7 input) (opened-admitted input p b e .placed) in
+      omega (arith, length-drop 7 input, opened-ends e .1)
 
 -- the image as the code takes it
 pub opened-part : (input : List ℕ) (p : Places) → ((i : ℕ) → getD input i 0 < 256) → opened input ≡ opened-is.Listed p
@@ -114,19 +142,14 @@ opened-part input p bytes e =
 -- ---- more than 65,543 bytes are no record, so that reading 65,544 is enough
 
 long-refused : (input : List ℕ) → 65_543 < length input → listing input ≡ refusedLine 15
-unfolding listing imageHead imageHeadGood
+unfolding listing imageHead
 long-refused input h = go (imageHeadGood input) refl
   where
     go : (b : Bool) → imageHeadGood input ≡ b
         → recordListing (pick b (head-is.Image (layoutOf (getD input 2 0)) (wordAt input 3)) (head-is.Refused 15)) input ≡ refusedLine
         15
     go true e =
-        let k : wordAt input 3 ≤ 65_536
-        =
-        leb-true (wordAt input 3) 65_536
-        (both-1 (leb (getD input 2 0) 4) (leb (wordAt input 3) 65_536)
-        (both-1 (marked input 0x49 0x4D) _ (both-1 (leb 7 (length input)) _ e))) in
-        rw (ne-eqb (length input) (7 + wordAt input 3) (λ z. omega arith))
+        rw (ne-eqb (length input) (7 + wordAt input 3) (λ z. omega (arith, head-most input e)))
     go false e = refl
 
 pub enough : (input : List ℕ) → listing (take 65_544 input) ≡ listing input

@@ -6,7 +6,7 @@ use mathlib.Core.List.{List, [], _++_, append-nil}
 use Prim.Native.Nat.{ℕ, _+_, _-_, _≤_, _<_}
 use native.Mathlib.Nat.{zero-add}
 use native.Mathlib.Omega.{arith}
-use borrow.Author.Tests.{lt-ltb, le-ltb, ne-eqb}
+use borrow.Author.Tests.{lt-ltb, le-ltb}
 use lib.Dec.{ltb}
 use lib.ListN.{length, take, drop, length-append, length-drop, drop-of-length-le}
 use lib.Seq.{sets, sets-eq, take-all, take-append-le, take-append-add, take-append-seam, drop-append-le, drop-append-add, drop-nil}
@@ -14,16 +14,18 @@ use lib.Seq.{take-nil, length-take-le}
 use Rattle.bits.specs.Choice.{pick}
 use Rattle.bits.specs.Outcome.{Answers}
 use Rattle.bits.specs.declared.Answer.the-variants.{Length, Refused}
+use Rattle.bits.proofs.OutcomeLaws.{refused-outcome}
 use Rattle.bits.proofs.TestLaws.{below-or}
 use Rattle.bits.proofs.WriteLaws.{sets-append}
 use Rattle.format.specs.declared.Layout.{Layout}
 use Rattle.footer.specs.Finalize.{sizeLimit}
-use Rattle.image.specs.Admission.{refusal}
 use Rattle.sections.specs.declared.Places.{Places}
+use Rattle.sections.specs.Places.{placesOf}
 use Rattle.admission.specs.declared.Admission.{Admission}
 use Rattle.admission.specs.declared.Admission.the-variants as admission-is
-use Rattle.admission.specs.Admission.{admission, numberOf}
-use Rattle.admission.proofs.AnswerLaws.{refused-is, laid-is, laid-layout}
+use Rattle.admission.specs.Admission.{numberOf}
+use Rattle.string_index.specs.Index.{fillRefusal, admittedAs}
+use Rattle.string_index.proofs.IndexLaws.{refused-as, laid-as}
 use Rattle.text.specs.Text.{Wrote}
 use Rattle.listing_pieces.specs.declared.Point.{Point}
 use Rattle.listing_pieces.specs.declared.Point.the-variants.{Counts}
@@ -226,25 +228,25 @@ module _ (n m : ℕ) (e : m ≡ pick (ltb n sizeLimit) n sizeLimit) where
   pub limit-written : (old new text : List ℕ) (r : ℕ) → Wrote old 0 (take m text) r new → Wrote old 0 (take (partRoom n) text) r new
   limit-written old new text r w = subst (λ (k : ℕ). Wrote old 0 (take k text) r new) limit-is w
 
-module _ (l : Layout) (s : List ℕ) (r : Admission) (e : r ≡ admission l s) (room from : ℕ) (old : List ℕ) where
+module _ (l : Layout) (s x : List ℕ) (r : Admission) (e : r ≡ admittedAs l s (length x)) (room from : ℕ) (old : List ℕ) where
   pub part-refused : (k n : ℕ) → r ≡ admission-is.Refused k → n ≡ numberOf r
-      → Answers (listingPart room from l s) (Refused n) old old
+      → Answers (listingPart room from l s (length x)) (Refused n) old old
   unfolding listingPart
   part-refused k n f g =
-      let (z, h) = refused-is l s r e k f in
-      let m : n ≡ k = g ∙ ap numberOf f in
-      rw (z, ne-eqb k 0 (λ y. omega arith), m) (refl, refl)
+      let (h, z) = refused-as l s x r e k f in
+      refused-outcome (fillRefusal l s (length x)) n _ (omega arith, z ∙ sym (g ∙ ap numberOf f)) old
 
-pub part-listed : (l : Layout) (s : List ℕ) (p : Places) → admission l s ≡ admission-is.Laid p → (room from n : ℕ)
-    (old new : List ℕ) → room ≤ length old → Wrote old 0 (part from room (listed (p .layout) s)) n new
-    → Answers (listingPart room from l s) (Length n) old new
-unfolding listingPart
-part-listed l s p f room from n old new h w =
-    let z : refusal l s ≡ 0 = laid-is l s (admission l s) refl p f .0 in
-    let t : List ℕ = part from room (listed (p .layout) s) in
-    let m : n ≡ length t = w .0 ∙ zero-add (length t) in
-    let k : new ≡ t ++ drop (length t) old
-    =
-    w .1 ∙ sets-eq t old 0 (omega (arith, part-short from room (listed (p .layout) s)))
-    ∙ ap (λ (j : ℕ). t ++ drop j old) (zero-add (length t)) in
-    rw (z, ← laid-layout l s (admission l s) refl p f) (ap Length m, k)
+  pub part-listed : (p : Places) → r ≡ admission-is.Laid p → (n : ℕ) (new : List ℕ) → room ≤ length old
+      → Wrote old 0 (part from room (listed (p .layout) s)) n new
+      → Answers (listingPart room from l s (length x)) (Length n) old new
+  unfolding listingPart placesOf
+  part-listed p f n new h w =
+      let (z, q) = laid-as l s x r e p f in
+      let own : p .layout ≡ l = ap (λ (y : Places). y .layout) q in
+      let t : List ℕ = part from room (listed (p .layout) s) in
+      let m : n ≡ length t = w .0 ∙ zero-add (length t) in
+      let k : new ≡ t ++ drop (length t) old
+      =
+      w .1 ∙ sets-eq t old 0 (omega (arith, part-short from room (listed (p .layout) s)))
+      ∙ ap (λ (j : ℕ). t ++ drop j old) (zero-add (length t)) in
+      rw (z, ← own) (ap Length m, k)

@@ -9,36 +9,39 @@ use borrow.Author.Tests.{not-true, lt-ltb, le-ltb}
 use lib.Dec.{ltb}
 use lib.ListN.{length, take, drop, length-drop, length-append}
 use lib.Seq.{drop-cons, take-all, sets, length-sets}
-use Rattle.bits.specs.Choice.{pick}
-use Rattle.bits.proofs.TestLaws.{below-or}
+use Rattle.bits.specs.Choice.{pick, sumBelow}
+use Rattle.bits.proofs.TestLaws.{below-or, sum-next}
 use Rattle.bits.proofs.WriteLaws.{sets-append}
+use Rattle.format.specs.declared.Layout.{Layout}
+use Rattle.format.specs.Entry.{bit}
+use Rattle.format.specs.Table.{ifSet}
 use Rattle.image.specs.Sections.{functionsIn, stringsIn}
 use Rattle.image.specs.Strings.{Str, stringOf, unitSize}
-use Rattle.image.specs.Kinds.{isIdentifier, rankOf, hashIn}
+use Rattle.image.specs.Kinds.{isIdentifier, rankOf}
+use Rattle.image.proofs.KindLaws.{rank-lt}
 use Rattle.image.specs.Functions.{Func, funcOf}
 use Rattle.sections.specs.declared.Places.{Places}
 use Rattle.sections.specs.Places.{Placed, Laid}
 use Rattle.sections.proofs.SectionLaws.{sectioned}
 use Rattle.function_table.specs.declared.Function.{Function}
 use Rattle.function_table.specs.Functions.{asFunc}
-use Rattle.string_walk.specs.declared.Cursor.{Cursor}
-use Rattle.string_walk.specs.declared.Rank.{Rank}
-use Rattle.string_walk.specs.declared.Rank.the-variants.{At, Plain}
+use Rattle.string_tables.specs.declared.Place.{Place}
 use Rattle.string_walk.specs.declared.StringRecord.{StringRecord}
-use Rattle.string_walk.specs.Records.{rankIn, isRanked}
-use Rattle.string_walk.specs.Places.{Stands, CursorOf}
-use Rattle.string_walk.proofs.RankLaws.{ranked-flag, is-ranked, is-plain, rank-slot}
-use Rattle.string_walk.proofs.RecordLaws.{record-string, record-count, record-unit, units-inside}
+use Rattle.string_walk.specs.Records.{rankIn}
+use Rattle.string_walk.specs.Places.{Lies, Stands}
+use Rattle.string_walk.proofs.RecordLaws.{record-string, record-count, record-unit, record-small, units-inside}
+use Rattle.string_index.specs.declared.HeldString.{HeldString}
+use Rattle.string_index.specs.Filling.{Tells}
 use Rattle.text.specs.Text.{hexes, spaced, Wrote}
 use Rattle.listing_lines.specs.declared.Slot.{Slot}
-use Rattle.listing_lines.specs.declared.Slot.the-variants.{Hash, None}
 use Rattle.listing_lines.specs.Lines.{countsLine, stringWords, functionLine, closing, unitsShown}
 use Rattle.listing_pieces.specs.declared.Point.{Point}
 use Rattle.listing_pieces.specs.declared.Point.the-variants.{Counts, Strings, Units, Functions, End}
 use Rattle.listing_pieces.specs.declared.Piece.{Piece}
+use Rattle.listing_pieces.specs.declared.Turn.{Turn}
 use Rattle.listing_pieces.specs.Listing.{slotOf, functionLineIn}
-use Rattle.listing_pieces.specs.Pieces.{strings, units, functions, unitsIn, chunk, stringStart, pieceAt, isEnd, pieces}
-use Rattle.listing_pieces.specs.Pieces.{after, steps, spotOf, InString, slotAt, Good, Gives, batch, GivesAll}
+use Rattle.listing_pieces.specs.Pieces.{unitsIn, chunk, stringStart, pieceAt, isEnd, pieces, after, steps, spotOf, turnAfter}
+use Rattle.listing_pieces.specs.Pieces.{Counted, slotAt, Good, Gives, batch, GivesAll}
 use Rattle.listing_pieces.proofs.PieceLaws.{after-falls}
 
 -- a piece that ends somewhere, and a point to go on from
@@ -49,179 +52,224 @@ same-start : (i : ℕ) (w w′ b b′ : Bool) (n n′ : ℕ) → w ≡ w′ → 
     → spaced (stringWords i w b n) ≡ spaced (stringWords i w′ b′ n′)
 same-start i w w′ b b′ n n′ e f g = rw (e, f, g)
 
--- line 1 is put, and the pass over the strings begins
-pub record CountsPut (p : Places) (s old new : List ℕ) (at end : ℕ) (c : Cursor) : Type 0 where
-  pub wrote : Wrote old at (countsLine (length s) (p .strings) (p .functions)) end new
-  pub most : end ≤ at + 69
-  pub cursor : CursorOf p s c
-  pub first : c .id ≡ 0
+-- ---- the identifiers before a string
 
--- the start of a string's line is put: q is the string, and next the cursor behind it
-pub record StringPut (p : Places) (s old new : List ℕ) (at end : ℕ) (c next : Cursor) (q : StringRecord) : Type 0 where
-  pub known : c .id < p .strings
-  pub stands : Stands p s (c .id) q
-  pub cursor : CursorOf p s next
-  pub id : next .id ≡ c .id + 1
-  pub wrote : Wrote old at (spaced (stringWords (c .id) (q .place .wide) (isRanked (q .rank)) (q .place .count))) end new
+module _ (l : Layout) (s : List ℕ) where
+  rank-none : 0 ≡ rankOf l s 0
+  unfolding rankOf sumBelow
+  rank-none = refl
+
+  rank-more : (i : ℕ) → rankOf l s (i + 1) ≡ rankOf l s i + bit (isIdentifier l s i)
+  unfolding rankOf
+  rank-more i = sum-next (λ j. bit (isIdentifier l s j)) i
+
+  bit-most : (b : Bool) → bit b ≤ 1
+  bit-most true = omega arith
+  bit-most false = omega arith
+
+  -- they are no more than the strings before it
+  rank-most : (i : ℕ) → rankOf l s i ≤ i
+  unfolding rankOf sumBelow
+  rank-most zero = omega arith
+  rank-most (suc i) = omega (arith, rank-most i, bit-most (isIdentifier l s i))
+
+set-bit : (b : Bool) → ifSet b 1 ≡ bit b
+set-bit true = refl
+set-bit false = refl
+
+-- ---- line 1
+
+-- it is put, and the first string is next
+pub gives-counts : (p : Places) (s : List ℕ) → Placed p s → (old new : List ℕ) (at end : ℕ)
+    → Wrote old at (countsLine (length s) (p .strings) (p .functions)) end new → end ≤ at + 69
+    → Gives p s old at Counts (piece end (Strings (record { id = 0; before = 0 }))) new
+gives-counts p s h old new at end w most =
+    let z = sectioned p s h in
+    record {
+      wrote = subst (λ (n : ℕ). Wrote old at (countsLine (length s) (stringsIn s) n) end new) (z .functions)
+          (subst (λ (n : ℕ). Wrote old at (countsLine (length s) n (p .functions)) end new) (z .strings) w);
+      next = refl;
+      good = rank-none (p .layout) s;
+      most = omega arith;
+    }
+
+-- ---- a string by its place, as the laws on records say it
+
+module _ (p : Places) (s : List ℕ) (i : ℕ) (q : Place) (g : Lies p s i q) where
+  abbrev placed : StringRecord
+  placed = record { start = p .«storage_at» + q .at; place = q; rank = rankIn (p .layout) s i }
+
+  stands : Stands p s i placed
+  stands = record { place = g; start = refl; rank = refl }
+
+-- ---- a string before its units
+
+-- the start of its line is put, as an index tells of it
+pub record StringPut (p : Places) (s old new : List ℕ) (at end : ℕ) (t : Turn) (q : HeldString) : Type 0 where
+  pub known : t .id < p .strings
+  pub counted : Counted p s t
+  pub tells : Tells p s (t .id) q
+  pub wrote : Wrote old at (spaced (stringWords (t .id) (q .place .wide) (q .identifier) (q .place .count))) end new
   pub most : end ≤ at + 48
 
 module _ (p : Places) (s : List ℕ) (h : Placed p s) (old new : List ℕ) (at end : ℕ) where
-  -- ---- line 1
-
-  pub gives-counts : (c : Cursor) → CountsPut p s old new at end c → Gives p s old at Counts (piece end (Strings c)) new
-  gives-counts c x =
-      let z = sectioned p s h in
-      record {
-        wrote = subst (λ (n : ℕ). Wrote old at (countsLine (length s) (stringsIn s) n) end new) (z .functions)
-            (subst (λ (n : ℕ). Wrote old at (countsLine (length s) n (p .functions)) end new) (z .strings) (x .wrote));
-        next = ap strings (x .first);
-        good = x .cursor;
-        most = omega arith;
-      }
-
-  -- ---- a string before its units
-
-  pub no-string : (c : Cursor) → p .strings ≤ c .id → Gives p s old at (Strings c) (piece at (Functions 0)) old
-  no-string c k =
-      let e : ltb (c .id) (stringsIn s) ≡ false = le-ltb (c .id) (stringsIn s) (omega (arith, sectioned p s h .strings)) in
+  pub no-string : (t : Turn) → p .strings ≤ t .id → Gives p s old at (Strings t) (piece at (Functions 0)) old
+  no-string t k =
+      let e : ltb (t .id) (stringsIn s) ≡ false = le-ltb (t .id) (stringsIn s) (omega (arith, sectioned p s h .strings)) in
       record { wrote = rw e (omega arith, refl); next = rw e; good = tt; most = omega arith }
 
-  pub gives-string : (c next : Cursor) (q : StringRecord) → StringPut p s old new at end c next q
-      → Gives p s old at (Strings c) (piece end (Units q 0 next)) new
+  pub gives-string : (t : Turn) (q : HeldString) → StringPut p s old new at end t q
+      → Gives p s old at (Strings t) (piece end (Units t 0)) new
   unfolding stringStart
-  gives-string c next q x =
-      let r : Stands p s (c .id) q = x .stands in
-      let e : ltb (c .id) (stringsIn s) ≡ true = lt-ltb (c .id) (stringsIn s) (omega (arith, sectioned p s h .strings)) in
-      let i : c .id ≡ next .id - 1 = omega arith in
-      let wd : q .place .wide ≡ stringOf (p .layout) s (c .id) .wide = ap (λ (t : Str). t .wide) (record-string p s h (c .id) q r) in
-      let flag : isRanked (q .rank) ≡ isIdentifier (p .layout) s (c .id)
-      = ap isRanked (r .rank) ∙ ranked-flag (p .layout) s (c .id) in
+  gives-string t q x =
+      let i : ℕ = t .id in
+      let r : StringRecord = placed p s i (q .place) (x .tells .place) in
+      let g : Stands p s i r = stands p s i (q .place) (x .tells .place) in
+      let e : ltb i (stringsIn s) ≡ true = lt-ltb i (stringsIn s) (omega (arith, x .known, sectioned p s h .strings)) in
+      let wd : q .place .wide ≡ stringOf (p .layout) s i .wide = ap (λ (y : Str). y .wide) (record-string p s h i r g) in
       record {
-        wrote = rw e (subst (λ (x : List ℕ). Wrote old at x end new)
-            (same-start (c .id) _ _ _ _ _ _ wd flag (record-count p s h (c .id) q r)) (x .wrote));
-        next = rw e (ap (λ (j : ℕ). units j 0) (sym i));
-        good = record {
-          stands = subst (λ (j : ℕ). Stands p s j q) i r;
-          cursor = x .cursor;
-          some = omega arith;
-          known = omega (arith, x .known);
-        };
-        most = omega arith;
+        wrote = rw e (subst (λ (y : List ℕ). Wrote old at y end new)
+            (same-start i _ _ _ _ _ _ wd (x .tells .flag) (record-count p s h i r g)) (x .wrote));
+        next = rw e;
+        good = (x .known, x .counted);
+        most = omega (arith, x .most);
       }
 
 -- ---- the units of a string
 
--- those of the string before a cursor
-abbrev us : Places → List ℕ → Cursor → List ℕ
-us p s next = unitsIn (p .layout) s (next .id - 1)
+-- a string in its turn, whose line has begun, and what an index tells of it
+pub record InLine (p : Places) (s : List ℕ) (t : Turn) (q : HeldString) : Type 0 where
+  pub laid : Laid p s
+  pub known : t .id < p .strings
+  pub counted : Counted p s t
+  pub tells : Tells p s (t .id) q
 
-module _ (p : Places) (s : List ℕ) (laid : Laid p s) (q : StringRecord) (next : Cursor) (g : InString p s q next) where
-  count-is : q .place .count ≡ length (us p s next)
-  count-is = record-count p s (laid .placed) (next .id - 1) q (g .stands)
+module _ {p : Places} {s : List ℕ} {t : Turn} {q : HeldString} (x : InLine p s t q) where
+  abbrev us : List ℕ
+  us = unitsIn (p .layout) s (t .id)
+
+  abbrev begin : ℕ
+  begin = p .«storage_at» + q .place .at
+
+  here : Placed p s
+  here = x .laid .placed
+
+  abbrev string : StringRecord
+  string = placed p s (t .id) (q .place) (x .tells .place)
+
+  it-stands : Stands p s (t .id) string
+  it-stands = stands p s (t .id) (q .place) (x .tells .place)
+
+  count-is : q .place .count ≡ length us
+  count-is = record-count p s here (t .id) string it-stands
+
+  -- its numbers are small, so that no sum wraps
+  pub line-small : (q .place .count < 4294967296) × (q .place .at < 4294967296) × (p .«storage_at» < 4294967296)
+  line-small =
+      let (a, b) = record-small p s here (t .id) string it-stands in
+      let z = sectioned p s here in
+      (a, b, omega arith)
 
   -- units one by one are those of the string
-  listed-units : (n i : ℕ) → i + n ≤ q .place .count
-      → unitsShown s (q .start) (q .place .wide) i n ≡ take n (drop i (us p s next))
+  listed-units : (n i : ℕ) → i + n ≤ q .place .count → unitsShown s begin (q .place .wide) i n ≡ take n (drop i us)
   unfolding unitsShown
   listed-units zero i k = refl
   listed-units (suc n) i k =
       rw (
-        drop-cons (us p s next) i 0 (omega (arith, count-is)),
-        ← record-unit p s (laid .placed) (next .id - 1) q (g .stands) i (omega arith),
+        drop-cons us i 0 (omega (arith, count-is)),
+        ← record-unit p s here (t .id) string it-stands i (omega arith),
         listed-units n (suc i) (omega arith),
       )
 
-  left-length : (j : ℕ) → length (drop j (us p s next)) ≡ q .place .count - j
-  left-length j = length-drop j (us p s next) ∙ ap (λ (n : ℕ). n - j) (sym count-is)
+  left-length : (j : ℕ) → length (drop j us) ≡ q .place .count - j
+  left-length j = length-drop j us ∙ ap (λ (n : ℕ). n - j) (sym count-is)
 
-  -- there is room for them, and they lie in the image
-  pub units-in : (j n : ℕ) → j + n ≤ q .place .count → q .start + (j + n) * unitSize (q .place .wide) ≤ length s
-  units-in j n k = units-inside p s (laid .placed) (next .id - 1) q (g .stands) (j + n) k
+  -- they lie in the image
+  pub units-in : (j n : ℕ) → j + n ≤ q .place .count → begin + (j + n) * unitSize (q .place .wide) ≤ length s
+  units-in j n k = units-inside p s here (t .id) string it-stands (j + n) k
 
   -- ---- its hash slot
 
-  pub slot-known : (k : ℕ) → q .rank ≡ At k → k < p .identifiers
-  slot-known = rank-slot p s laid (next .id - 1) (omega (arith, g .some, g .known)) (q .rank) (g .stands .rank)
+  pub slot-known : q .identifier ≡ true → t .before < p .identifiers
+  slot-known e =
+      let z = sectioned p s here in
+      omega (arith, x .counted, rank-lt (x .laid .admitted) (t .id) (omega (arith, x .known)) (sym (x .tells .flag) ∙ e))
 
-  slot-is : slotAt (p .layout) s (q .rank) ≡ slotOf (p .layout) s (next .id - 1)
+  slot-is : (slot : Slot) → slot ≡ slotAt (p .layout) s (q .identifier) (t .before) → slot ≡ slotOf (p .layout) s (t .id)
   unfolding slotOf
-  slot-is = go (q .rank) (g .stands .rank)
-    where
-      go : (r : Rank) → r ≡ rankIn (p .layout) s (next .id - 1) → slotAt (p .layout) s r ≡ pick
-          (isIdentifier (p .layout) s (next .id - 1)) (Hash (hashIn (p .layout) s (rankOf (p .layout) s (next .id - 1)))) None
-      go (At k) e =
-          let (t, f) = is-ranked (p .layout) s (next .id - 1) (At k) e k refl in
-          rw (t, f)
-      go Plain e = rw (is-plain (p .layout) s (next .id - 1) Plain e refl)
+  slot-is slot e = e ∙ rw (x .tells .flag, x .counted)
 
--- no unit is left, and the end of the line is put
-pub record ClosingPut (p : Places) (s old new : List ℕ) (at end : ℕ) (q : StringRecord) (j : ℕ) (next : Cursor) (slot : Slot)
-    : Type 0 where
-  pub laid : Laid p s
-  pub line : InString p s q next
-  pub none : q .place .count ≤ j
-  pub read : slot ≡ slotAt (p .layout) s (q .rank)
-  pub wrote : Wrote old at (closing (q .place .count) slot) end new
-  pub most : end ≤ at + 11
+  -- ---- the string behind it
 
-pub gives-closing : (p : Places) (s old new : List ℕ) (at end : ℕ) (q : StringRecord) (j : ℕ) (next : Cursor) (slot : Slot)
-    → ClosingPut p s old new at end q j next slot
-    → Gives p s old at (Units q j next) (piece end (Strings next)) new
-gives-closing p s old new at end q j next slot x =
-    let c : q .place .count ≡ length (us p s next) = count-is p s (x .laid) q next (x .line) in
-    let e : ltb j (length (us p s next)) ≡ false = le-ltb j (length (us p s next)) (omega (arith, c)) in
-    let f : slot ≡ slotOf (p .layout) s (next .id - 1) = x .read ∙ slot-is p s (x .laid) q next (x .line) in
-    record {
-      wrote = rw (e, ← c, ← f) (x .wrote);
-      next = rw e (ap strings (let i : next .id ≡ next .id - 1 + 1 = omega (arith, x .line .some) in i));
-      good = x .line .cursor;
-      most = omega arith;
-    }
+  pub turn-small : (t .id < 4294967296) × (t .before < 4294967296)
+  turn-small =
+      let z = sectioned p s here in
+      (omega (arith, x .known), omega (arith, x .known, x .counted, rank-most (p .layout) s (t .id)))
+
+  counted-after : Counted p s (turnAfter t (q .identifier))
+  counted-after = rw (rank-more (p .layout) s (t .id), ← x .tells .flag, ← x .counted, set-bit (q .identifier))
+
+  -- no unit is left, and the end of the line is put
+  pub gives-closing : (j : ℕ) → q .place .count ≤ j → (slot : Slot) → slot ≡ slotAt (p .layout) s (q .identifier) (t .before)
+      → (old new : List ℕ) (at end : ℕ) → Wrote old at (closing (q .place .count) slot) end new → end ≤ at + 11
+      → (n : Turn) → n ≡ turnAfter t (q .identifier) → Gives p s old at (Units t j) (piece end (Strings n)) new
+  gives-closing j none slot e old new at end w most n m =
+      let b : ltb j (length us) ≡ false = le-ltb j (length us) (omega (arith, count-is)) in
+      record {
+        wrote = rw (b, ← count-is, ← slot-is slot e) w;
+        next = rw (b, m);
+        good = rw m counted-after;
+        most = omega arith;
+      }
 
 -- n units are to be put from unit j on: as many as are left, and at most a chunk
-pub record Chunk (p : Places) (s : List ℕ) (q : StringRecord) (j : ℕ) (next : Cursor) (n : ℕ) : Type 0 where
-  pub laid : Laid p s
-  pub line : InString p s q next
+pub record Chunk (p : Places) (s : List ℕ) (t : Turn) (q : HeldString) (j n : ℕ) : Type 0 where
+  pub line : InLine p s t q
   pub some : j < q .place .count
   pub least : n ≡ pick (ltb (q .place .count - j) chunk) (q .place .count - j) chunk
 
-module _ {p : Places} {s : List ℕ} {q : StringRecord} {j : ℕ} {next : Cursor} {n : ℕ} (x : Chunk p s q j next n) where
-  pub least-units : (n ≤ chunk) × (j + n ≤ q .place .count)
-      × (unitsShown s (q .start) (q .place .wide) j n ≡ take chunk (drop j (us p s next)))
-  least-units = go (below-or (q .place .count - j) chunk)
+module _ {p : Places} {s : List ℕ} {t : Turn} {q : HeldString} {j n : ℕ} (x : Chunk p s t q j n) where
+  abbrev count : ℕ
+  count = q .place .count
+
+  abbrev shown : List ℕ
+  shown = unitsShown s (p .«storage_at» + q .place .at) (q .place .wide) j n
+
+  abbrev rest : List ℕ
+  rest = drop j (unitsIn (p .layout) s (t .id))
+
+  pub least-units : (n ≤ chunk) × (j + n ≤ count) × (shown ≡ take chunk rest)
+  least-units = go (below-or (count - j) chunk)
     where
-      shown : j + n ≤ q .place .count → unitsShown s (q .start) (q .place .wide) j n ≡ take n (drop j (us p s next))
-      shown h = listed-units p s (x .laid) q next (x .line) n j h
+      listed : j + n ≤ count → shown ≡ take n rest
+      listed h = listed-units (x .line) n j h
 
-      few : length (drop j (us p s next)) ≡ q .place .count - j
-      few = left-length p s (x .laid) q next (x .line) j
+      few : length rest ≡ count - j
+      few = left-length (x .line) j
 
-      go : (q .place .count - j < chunk) ⊎ (chunk ≤ q .place .count - j) → (n ≤ chunk) × (j + n ≤ q .place .count)
-          × (unitsShown s (q .start) (q .place .wide) j n ≡ take chunk (drop j (us p s next)))
+      go : (count - j < chunk) ⊎ (chunk ≤ count - j) → (n ≤ chunk) × (j + n ≤ count) × (shown ≡ take chunk rest)
       go (inl b) =
-          let m : n ≡ q .place .count - j = x .least ∙ rw (lt-ltb (q .place .count - j) chunk b) in (
+          let m : n ≡ count - j = x .least ∙ rw (lt-ltb (count - j) chunk b) in (
             omega arith,
             omega (arith, x .some),
-            shown (omega (arith, x .some)) ∙ take-all n (drop j (us p s next)) (omega (arith, few))
-                ∙ sym (take-all chunk (drop j (us p s next)) (omega (arith, few))),
+            listed (omega (arith, x .some)) ∙ take-all n rest (omega (arith, few)) ∙ sym (take-all chunk rest (omega (arith, few))),
           )
       go (inr b) =
-          let m : n ≡ chunk = x .least ∙ rw (le-ltb (q .place .count - j) chunk b) in (
+          let m : n ≡ chunk = x .least ∙ rw (le-ltb (count - j) chunk b) in (
             omega arith,
             omega (arith, x .some),
-            shown (omega (arith, x .some)) ∙ ap (λ (a : ℕ). take a (drop j (us p s next))) m,
+            listed (omega (arith, x .some)) ∙ ap (λ (a : ℕ). take a rest) m,
           )
 
-  pub gives-units : (old new : List ℕ) (at end : ℕ) → Wrote old at (hexes (unitsShown s (q .start) (q .place .wide) j n)) end new
-      → end ≡ at + n * 4
-      → Gives p s old at (Units q j next) (piece end (Units q (j + 64) next)) new
+  pub gives-units : (old new : List ℕ) (at end : ℕ) → Wrote old at (hexes shown) end new → end ≡ at + n * 4
+      → Gives p s old at (Units t j) (piece end (Units t (j + 64))) new
   gives-units old new at end w v =
-      let e : ltb j (length (us p s next)) ≡ true
-      = lt-ltb j (length (us p s next)) (omega (arith, x .some, count-is p s (x .laid) q next (x .line))) in
+      let e : ltb j (length (unitsIn (p .layout) s (t .id))) ≡ true
+      = lt-ltb j (length (unitsIn (p .layout) s (t .id))) (omega (arith, x .some, count-is (x .line))) in
       record {
         wrote = rw (e, ← least-units .2) w;
         next = rw e;
-        good = x .line;
+        good = (x .line .known, x .line .counted);
         most = omega (arith, least-units .0);
       }
 

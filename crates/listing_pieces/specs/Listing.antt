@@ -17,6 +17,7 @@ use Rattle.image.specs.Admission.{refusal}
 use Rattle.input_records.specs.declared.ImageHead.{ImageHead}
 use Rattle.input_records.specs.declared.ImageHead.the-variants.{Image, Refused}
 use Rattle.input_records.specs.Heads.{imageHeadLength, imageHead}
+use Rattle.string_index.specs.Index.{fillRefusal}
 use Rattle.listing_lines.specs.declared.Slot.{Slot}
 use Rattle.listing_lines.specs.declared.Slot.the-variants.{Hash, None}
 use Rattle.listing_lines.specs.Lines.{refusedLine, countsLine, stringLine, functionLine}
@@ -51,9 +52,10 @@ imageListing l s = pick (eqb (refusal l s) 0) (listed l s) (refusedLine (refusal
 unfoldable pub partRoom : ℕ → ℕ
 partRoom n = pick (ltb n sizeLimit) n sizeLimit
 
--- a part of an image's lines, of at most `room` bytes: from byte `from` on; or the image's refusal
-unfoldable pub listingPart : ℕ → ℕ → Layout → List ℕ → Outcome
-listingPart room from l s = outcomeFor (refusal l s) (take room (drop from (listed l s)))
+-- a part of an image's lines, of at most `room` bytes: from byte `from` on; or the refusal of filling its index, for which so many
+-- words are lent (02, No. 13)
+unfoldable pub listingPart : ℕ → ℕ → Layout → List ℕ → ℕ → Outcome
+listingPart room from l s words = outcomeFor (fillRefusal l s words) (take room (drop from (listed l s)))
 
 -- 15 comes before all others: the record is judged first, then whether it ends where the input does
 abbrev pub recordListing : ImageHead → List ℕ → List ℕ

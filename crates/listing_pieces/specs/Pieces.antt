@@ -12,16 +12,14 @@ use Rattle.bits.specs.Choice.{pick}
 use Rattle.format.specs.declared.Layout.{Layout}
 use Rattle.image.specs.Sections.{functionsIn, stringsIn}
 use Rattle.image.specs.Strings.{stringOf, unitsOf}
-use Rattle.image.specs.Kinds.{isIdentifier, hashIn}
+use Rattle.image.specs.Kinds.{isIdentifier, rankOf, hashIn}
+use Rattle.format.specs.Table.{ifSet}
 use Rattle.sections.specs.declared.Places.{Places}
+use Rattle.sections.specs.Places.{Laid}
 use Rattle.admission.specs.declared.Admission.{Admission}
 use Rattle.admission.specs.declared.Admission.the-variants as admission-is
 use Rattle.admission.specs.Admission.{admission}
-use Rattle.string_walk.specs.declared.Cursor.{Cursor}
-use Rattle.string_walk.specs.declared.Rank.{Rank}
-use Rattle.string_walk.specs.declared.Rank.the-variants.{At, Plain}
-use Rattle.string_walk.specs.declared.StringRecord.{StringRecord}
-use Rattle.string_walk.specs.Places.{Stands, CursorOf}
+use Rattle.string_index.specs.Filling.{Indexed}
 use Rattle.text.specs.Text.{hexes, spaced, Wrote}
 use Rattle.listing_lines.specs.declared.Slot.{Slot}
 use Rattle.listing_lines.specs.declared.Slot.the-variants.{Hash, None}
@@ -34,6 +32,7 @@ use Rattle.listing_pieces.specs.declared.Opened.the-variants as opened-i
 use Rattle.listing_pieces.specs.declared.Point.{Point}
 use Rattle.listing_pieces.specs.declared.Point.the-variants as point-is
 use Rattle.listing_pieces.specs.declared.Piece.{Piece}
+use Rattle.listing_pieces.specs.declared.Turn.{Turn}
 use Rattle.listing_pieces.specs.Listing.{linesFrom, slotOf, stringLineIn, functionLineIn, listed}
 
 -- ---- what an input is: an admitted image, or a refusal
@@ -142,30 +141,35 @@ steps l s x = length (left l s x) + phase x
 
 abbrev pub spotOf : Point → Spot
 spotOf point-is.Counts = counts
-spotOf (point-is.Strings c) = strings (c .id)
-spotOf (point-is.Units string j c) = units (c .id - 1) j
+spotOf (point-is.Strings t) = strings (t .id)
+spotOf (point-is.Units t j) = units (t .id) j
 spotOf (point-is.Functions i) = functions i
 spotOf point-is.End = end
 
--- in the line of a string, by its record, with the cursor of a pass behind it
-pub record InString (p : Places) (s : List ℕ) (r : StringRecord) (c : Cursor) : Type 0 where
-  pub stands : Stands p s (c .id - 1) r
-  pub cursor : CursorOf p s c
-  pub some : 0 < c .id
-  pub known : c .id ≤ p .strings
+-- the turn of the next string
+abbrev pub turnAfter : Turn → Bool → Turn
+turnAfter t identifier = record { id = t .id + 1; before = t .before + ifSet identifier 1 }
 
--- it carries what a pass over the strings carries along
+-- a turn counts the identifiers before its string
+abbrev pub Counted : Places → List ℕ → Turn → Type 0
+Counted p s t = t .before ≡ rankOf (p .layout) s (t .id)
+
+-- a point counts them along
 abbrev pub Good : Places → List ℕ → Point → Type 0
 Good p s point-is.Counts = Unit {0}
-Good p s (point-is.Strings c) = CursorOf p s c
-Good p s (point-is.Units string j c) = InString p s string c
+Good p s (point-is.Strings t) = Counted p s t
+Good p s (point-is.Units t j) = (t .id < p .strings) × Counted p s t
 Good p s (point-is.Functions i) = Unit {0}
 Good p s point-is.End = Unit {0}
 
--- what is stored for the identifier of a rank
-abbrev pub slotAt : Layout → List ℕ → Rank → Slot
-slotAt l s (At k) = Hash (hashIn l s k)
-slotAt l s Plain = None
+-- the slot of a string by its flag and by the identifiers before it
+abbrev pub slotAt : Layout → List ℕ → Bool → ℕ → Slot
+slotAt l s identifier rank = pick identifier (Hash (hashIn l s rank)) None
+
+-- an admitted image and its index
+pub record Ready (p : Places) (s x : List ℕ) : Type 0 where
+  pub laid : Laid p s
+  pub index : Indexed p s x
 
 -- ---- what the makers of pieces promise
 

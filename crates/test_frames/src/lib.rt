@@ -121,6 +121,17 @@ pub fn list(bytes: &[u8], at: usize, count: usize) -> [u32; LIST]
     words
 }
 
+// The other way: the first `count` words of a list, in a buffer from `at` on.
+pub fn put_list(bytes: &mut [u8], at: usize, words: &[u32; LIST], count: usize)
+    requires { ⌜ (at + count * 4 ≤ length (now bytes)) × (count ≤ 1024) ⌝ }
+{
+    let mut i = 0;
+    while i < count {
+        bits::put_word(bytes, at + i * 4, wide(words[i]));
+        i += 1;
+    }
+}
+
 // The answer of a call that gives results.
 pub fn done(results: [u32; RESULTS]) -> Answer {
     Answer {

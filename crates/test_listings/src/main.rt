@@ -38,17 +38,26 @@ fn read_input(input: &mut [u8], n: usize) -> bool
 }
 
 // Reads an input that fills `input`, `n` bytes and zeros, and lists it.
-fn list_input(input: &mut [u8], n: usize, room: &mut [u8; listing_pieces::ROOM]) -> bool
+fn list_input(
+    input: &mut [u8],
+    n: usize,
+    index: &mut [u32; listing_pieces::INDEX],
+    room: &mut [u8; listing_pieces::ROOM],
+) -> bool
     requires { ⌜ n ≤ length (now input) ⌝ }
 {
     if !read_input(input, n) {
         return false;
     }
-    listing_io::print(input, room)
+    listing_io::print(input, index, room)
 }
 
 // Reads one input to the front of `inputs` and lists it. Answers whether there can be more.
-fn list_next(inputs: &mut [u8], room: &mut [u8; listing_pieces::ROOM]) -> bool {
+fn list_next(
+    inputs: &mut [u8],
+    index: &mut [u32; listing_pieces::INDEX],
+    room: &mut [u8; listing_pieces::ROOM],
+) -> bool {
     let head = read_head();
     let Head::Input(n, zeros) = head else {
         return false;
@@ -60,20 +69,25 @@ fn list_next(inputs: &mut [u8], room: &mut [u8; listing_pieces::ROOM]) -> bool {
         return false;
     }
     let len = n + zeros;
-    list_input(&mut inputs[0..len], n, room)
+    list_input(&mut inputs[0..len], n, index, room)
 }
 
 // A proved loop has to end, and nothing says that the stream does. So its turns are counted down
 // from a number that no run uses up.
-fn list_all(inputs: &mut [u8; ROOM], room: &mut [u8; listing_pieces::ROOM]) {
+fn list_all(
+    inputs: &mut [u8; ROOM],
+    index: &mut [u32; listing_pieces::INDEX],
+    room: &mut [u8; listing_pieces::ROOM],
+) {
     let mut turns = u64::MAX;
-    while turns > 0 && list_next(inputs, room) {
+    while turns > 0 && list_next(inputs, index, room) {
         turns -= 1;
     }
 }
 
 fn main() {
     let mut inputs = [0u8; ROOM];
+    let mut index = [0u32; listing_pieces::INDEX];
     let mut room = [0u8; listing_pieces::ROOM];
-    list_all(&mut inputs, &mut room);
+    list_all(&mut inputs, &mut index, &mut room);
 }

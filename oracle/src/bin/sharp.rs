@@ -1,4 +1,4 @@
-//! sharp image|patches [all]: an honest look at the fixed calls of a family. For each mistake that the second reading
+//! sharp image|patches|index [all]: an honest look at the fixed calls of a family. For each mistake that the second reading
 //! can make on purpose it counts those that a program with that mistake would answer otherwise. Ends with 1 where
 //! there are none, or where an image that was made whole is refused.
 
@@ -8,8 +8,8 @@ use std::process::ExitCode;
 use oracle::family::Family;
 use oracle::image::reading::{self, Slip, TESTS};
 use oracle::image::{self, makes_whole_images};
-use oracle::patches;
 use oracle::stream::Call;
+use oracle::{index, patches};
 
 fn main() -> ExitCode {
     if !makes_whole_images() {
@@ -28,8 +28,11 @@ fn main() -> ExitCode {
         Some(("patches", family, all)) => {
             report(family, &patches::slips(), patches::finds, |slip| format!("{slip:?}"), all)
         }
+        Some(("index", family, all)) => {
+            report(family, &index::slips(), index::finds, index::named, all)
+        }
         _ => {
-            eprintln!("usage: sharp image|patches [all]");
+            eprintln!("usage: sharp image|patches|index [all]");
             ExitCode::from(2)
         }
     }

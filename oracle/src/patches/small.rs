@@ -14,6 +14,12 @@ pub struct Bare {
     /// Wide, identifier, offset in storage, count.
     pub strings: Vec<(bool, bool, usize, usize)>,
     pub storage: Vec<u8>,
+    /// The strings with an overflow pair that their count does not ask for.
+    pub needless: Vec<usize>,
+    /// The kind words, where it is not one for each string.
+    pub kinds: Option<Vec<u32>>,
+    /// The first hash slots.
+    pub hashes: Vec<u32>,
     pub functions: Vec<Places>,
     /// The bytes between the start of the tail and the footer.
     pub tail: usize,
@@ -33,26 +39,30 @@ impl Bare {
     pub fn image(&self) -> Vec<u8> {
         let layout = Layout(self.layout);
         let identifiers = self.strings.iter().filter(|string| string.1).count();
+        let kinds = self.kinds.clone().unwrap_or_else(|| self.single_kinds());
         let kinds_at = HEADER + layout.record() * self.functions.len();
-        let small = kinds_at + 4 * self.strings.len() + 4 * identifiers;
-        let long = |count: usize| count >= 255;
-        let pairs = self.strings.iter().filter(|string| long(string.3)).count();
+        let hashes = kinds_at + 4 * kinds.len();
+        let small = hashes + 4 * identifiers;
+        let overflows = |i: usize| self.strings[i].3 >= 255 || self.needless.contains(&i);
+        let pairs = (0..self.strings.len()).filter(|i| overflows(*i)).count();
         let overflow = small + 4 * self.strings.len();
         let storage = overflow + 8 * pairs;
         let tail = (storage + self.storage.len()).next_multiple_of(4);
         let mut image = vec![0; tail + self.tail + FOOTER];
         image[..8].copy_from_slice(&MAGIC.to_le_bytes());
         let count = self.strings.len();
-        let counts = [self.functions.len(), count, identifiers, count, pairs, self.storage.len()];
-        for (i, count) in counts.into_iter().enumerate() {
-            set_word(&mut image, FUNCTIONS + 4 * i, count as u32);
+        let counts =
+            [self.functions.len(), kinds.len(), identifiers, count, pairs, self.storage.len()];
+        let words = counts.map(|count| count as u32);
+        for (at, words) in [(FUNCTIONS, &words[..]), (kinds_at, &kinds), (hashes, &self.hashes)] {
+            for (i, word) in words.iter().enumerate() {
+                set_word(&mut image, at + 4 * i, *word);
+            }
         }
         let mut pair = 0;
-        for (i, (wide, identifier, offset, count)) in self.strings.iter().copied().enumerate() {
-            let kind = if identifier { IDENTIFIER } else { 0 };
-            set_word(&mut image, kinds_at + 4 * i, kind | 1);
+        for (i, (wide, _, offset, count)) in self.strings.iter().copied().enumerate() {
             let (mut field, mut length) = (offset, count);
-            if long(count) {
+            if overflows(i) {
                 set_word(&mut image, overflow + 8 * pair, offset as u32);
                 set_word(&mut image, overflow + 8 * pair + 4, count as u32);
                 (field, length) = (pair, 255);
@@ -70,6 +80,11 @@ impl Bare {
         }
         set_word(&mut image, layout.debug(), self.debug.map_or(0, |place| tail + place) as u32);
         image
+    }
+
+    fn single_kinds(&self) -> Vec<u32> {
+        let flag = |identifier: bool| if identifier { IDENTIFIER } else { 0 };
+        self.strings.iter().map(|string| flag(string.1) | 1).collect()
     }
 }
 

@@ -6,9 +6,10 @@ use native.Mathlib.Omega.{arith}
 
 print-image-requires : tie.Need-print-image-requires
 print-image-requires c κs =
-    let at-open = c .before .before .before .before in
+    let at-judged = c .before .before .before in
+    let at-open = at-judged .before .before in
     let start = at-open .before .before in
-    (sym (at-open .«open» .ensures) ∙ c .before .before .judged .given .1, omega (arith, start .good))
+    (sym (at-open .«open» .ensures) ∙ at-judged .judged .given .1, (omega (arith, start .good), omega (arith, start .good)))
 
 pub print-spec : {M : Type 1} → statement M
 print-spec =

@@ -5,18 +5,11 @@ use Rattle.listing_pieces.proofs.PointLaws.{gives-counts}
 
 returns : tie.Need-returns
 returns c =
-    let at-put-counts = c .before .before .before in
-    let start = at-put-counts .before .before .before .before in
-    let w = at-put-counts .put-counts in
-    gives-counts (start .args .p) (start .args .image .now) (start .pre .0) (start .args .out .now) (w .last .0) (start .args .at)
-    (w .result) (c .first-string .result)
-    (record {
-      wrote = w .ensures .0;
-      most = w .ensures .1;
-      cursor = c .first-string .ensures .0 _ _ (start .pre .0);
-      first = c .first-string .ensures .1;
-    })
+    let at-put = c .before .before in
+    let start = at-put .before .before .before .before in
+    let a = start .args in
+    let w = at-put .put-counts in
+    gives-counts (a .p) (a .image .now) (start .pre .0) (a .out .now) (w .last .0) (a .at) (w .result) (w .ensures .0) (w .ensures .1)
 
 pub put-counts-spec : {M : Type 1} → statement M
-put-counts-spec =
-    tie.close (tie.spec (λ c κs. search needs) (λ c κs. search needs) (λ c. search needs) returns)
+put-counts-spec = tie.close (tie.spec (λ c κs. search needs) (λ c. search needs) returns)

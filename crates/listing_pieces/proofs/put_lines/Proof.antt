@@ -10,11 +10,11 @@ use Rattle.listing_pieces.proofs.PointLaws.{batch-falls}
 use Rattle.listing_pieces.proofs.PartLaws.{Copying, copying-first, copying-next, copying-full, copying-last}
 
 abbrev Inv-loop : tie.InvT-loop
-Inv-loop image p from room₀ out₀ limit point₀ skip₀ at₀ room out point skip at = Copying p image out₀ from limit out point skip
-    at × (length room ≡ length room₀)
+Inv-loop image p index from room₀ out₀ limit point₀ skip₀ at₀ room out point skip at =
+    Copying p image out₀ from limit out point skip at × (length room ≡ length room₀)
 
 abbrev μ-loop : tie.MeasureT-loop
-μ-loop image p from room₀ out₀ limit point₀ skip₀ at₀ room out point skip at = steps (p .layout) image (spotOf point)
+μ-loop image p index from room₀ out₀ limit point₀ skip₀ at₀ room out point skip at = steps (p .layout) image (spotOf point)
 
 loop-holds : tie.Need-loop-holds Inv-loop μ-loop
 loop-holds c = (copying-first _ _ _ _ _, refl)
@@ -32,25 +32,25 @@ same-length-2 c =
 returns : tie.Need-returns Inv-loop μ-loop
 returns c =
     let at-loop = c .before .before .before in
-    let start = at-loop .before .before .before .before in
+    let start = at-loop .before .before .before .before .before in
     let l = at-loop .loop in
     copying-full (start .args .p) (start .args .image .now) _ _ _ (l .out) (l .point) (l .skip) (l .at) (l .inv .0) (c .if2 .taken)
 
 put-pieces-requires : tie.Need-put-pieces-requires Inv-loop μ-loop
 put-pieces-requires c κs =
     let at-loop = c .before .before .before .before in
-    let start = at-loop .before .before .before .before in
+    let start = at-loop .before .before .before .before .before in
     (start .pre .0, (at-loop .loop .inv .0 .good, omega (arith, start .pre .1 .0, at-loop .loop .inv .1)))
 
 part-put-rest-end : tie.Need-part-put-rest-end Inv-loop μ-loop
 part-put-rest-end c =
     let at-put-pieces = c .before .before .before in
-    omega (arith, at-put-pieces .put-pieces .ensures .most, at-put-pieces .put-pieces .kept .1 .1 .1 .0)
+    omega (arith, at-put-pieces .put-pieces .ensures .most, at-put-pieces .put-pieces .kept .1 .1 .1 .1 .0)
 
 put-rest-requires : tie.Need-put-rest-requires Inv-loop μ-loop
 put-rest-requires c κs =
     let at-loop = c .before .before .before .before .before .before .before .before .before .before in
-    let start = at-loop .before .before .before .before in
+    let start = at-loop .before .before .before .before .before in
     (at-loop .loop .inv .0 .room, omega (arith, start .pre .1 .1, at-loop .loop .inv .0 .same))
 
 loop-less : tie.Need-loop-less Inv-loop μ-loop
@@ -67,14 +67,14 @@ loop-again c =
     let at-put-rest = c .before .before .before in
     let at-put-pieces = at-put-rest .before .before .before .before .before .before in
     let at-loop = at-put-pieces .before .before .before .before .before in
-    let start = at-loop .before .before .before .before in
+    let start = at-loop .before .before .before .before .before in
     let l = at-loop .loop in
     let w = at-put-pieces .put-pieces in
     let v = at-put-rest .put-rest in (
       rw (c .less .ensures) (copying-next (start .args .p) (start .args .image .now) _ _ _ (l .out) (l .point) (l .skip) (l .at) (l .inv .0)
-          (l .room) (w .last .1 .1 .1 .0) (v .last .1 .1 .0) (w .result) (v .result)
+          (l .room) (w .last .1 .1 .1 .1 .0) (v .last .1 .1 .0) (w .result) (v .result)
           (record { made = w .ensures; same = v .kept .1 .1 .0; wrote = rw sub-zero at (v .ensures) })),
-      w .kept .1 .1 .1 .0 ∙ l .inv .1,
+      w .kept .1 .1 .1 .1 .0 ∙ l .inv .1,
     )
 
 same-length-3 : tie.Need-same-length-3 Inv-loop μ-loop
@@ -85,7 +85,7 @@ same-length-4 c = c .before .before .loop .inv .0 .same
 
 returns-2 : tie.Need-returns-2 Inv-loop μ-loop
 returns-2 c =
-    let start = c .before .before .before .before .before .before in
+    let start = c .before .before .before .before .before .before .before in
     let l = c .before .before .loop in
     copying-last (start .args .p) (start .args .image .now) _ _ _ (l .out) (l .point) (l .skip) (l .at) (l .inv .0) _
     (c .before .is-end .ensures) (c .if1 .left)

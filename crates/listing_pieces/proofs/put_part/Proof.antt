@@ -6,7 +6,7 @@ use Rattle.listing_pieces.proofs.PartLaws.{limit-fits, limit-written}
 
 put-lines-requires : tie.Need-put-lines-requires
 put-lines-requires c κs =
-    let start = c .before .before .before .before .before in
+    let start = c .before .before .before .before .before .before in
     (start .pre, (omega (arith, start .good), limit-fits _ _ (c .before .before .least .ensures .0)))
 
 returns : tie.Need-returns

@@ -6,17 +6,17 @@ use native.Mathlib.Omega.{arith}
 use Rattle.listing_pieces.proofs.PointLaws.{Going, going-first, going-next, going-last}
 
 abbrev Inv-loop : tie.InvT-loop
-Inv-loop image p out₀ point₀ at₀ i₀ out point at i = Going p image out₀ point₀ out point at i
+Inv-loop image p index out₀ point₀ at₀ i₀ out point at i = Going p image out₀ point₀ out point at i
 
 abbrev μ-loop : tie.MeasureT-loop
-μ-loop image p out₀ point₀ at₀ i₀ out point at i = 256 - i
+μ-loop image p index out₀ point₀ at₀ i₀ out point at i = 256 - i
 
 loop-holds : tie.Need-loop-holds Inv-loop μ-loop
-loop-holds c = going-first _ _ _ _ (c .before .before .pre .1 .1) (c .before .before .pre .1 .0)
+loop-holds c = let h = c .before .before .before .pre in going-first _ _ _ _ (h .1 .1) (h .1 .0)
 
 put-piece-requires : tie.Need-put-piece-requires Inv-loop μ-loop
 put-piece-requires c κs =
-    let start = c .before .before .before .before .before in
+    let start = c .before .before .before .before .before .before in
     let g = c .before .before .loop .inv in
     (start .pre .0, (g .good, omega (arith, g .room, c .before .loop-test .taken)))
 
@@ -34,18 +34,18 @@ loop-again : tie.Need-loop-again Inv-loop μ-loop
 loop-again c =
     let at-loop-test = c .before .before .before .before in
     let at-loop = at-loop-test .before in
-    let start = at-loop .before .before .before in
+    let start = at-loop .before .before .before .before in
     let l = at-loop .loop in
     let w = c .before .before .put-piece in
     going-next (start .args .p) (start .args .image .now) _ _ (l .out) (l .point) (l .at) (l .i) (l .inv)
-    (at-loop-test .loop-test .taken) (w .last .1 .1 .1 .0) (w .result) (w .ensures)
+    (at-loop-test .loop-test .taken) (w .last .1 .1 .1 .1 .0) (w .result) (w .ensures)
 
 same-length : tie.Need-same-length Inv-loop μ-loop
 same-length c = c .before .loop .inv .same
 
 returns : tie.Need-returns Inv-loop μ-loop
 returns c =
-    let start = c .before .before .before .before in
+    let start = c .before .before .before .before .before in
     let l = c .before .loop in
     going-last (start .args .p) (start .args .image .now) _ _ (l .out) (l .point) (l .at) (l .i) (l .inv) (c .loop-test .left)
 

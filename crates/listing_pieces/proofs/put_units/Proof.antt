@@ -3,70 +3,68 @@ use borrow.Author.Needs.{needs}
 use Rattle.listing_pieces.proofs.put_units.Statement.{statement}
 use Rattle.listing_pieces.proofs.put_units.Tie as tie
 use native.Mathlib.Omega.{arith}
-use Rattle.string_walk.proofs.RecordLaws.{record-small}
-use Rattle.listing_pieces.proofs.PointLaws.{Chunk, slot-known, gives-closing, least-units, units-in, gives-units}
+use Rattle.listing_pieces.proofs.PointLaws.{InLine, slot-known, turn-small, line-small, gives-closing, Chunk, least-units}
+use Rattle.listing_pieces.proofs.PointLaws.{units-in, gives-units}
+
+-- what the index tells of the string
+line : (c : tie.After-string-in) → let a = c .before .before .before .before .args in
+    InLine (a .p) (a .image .now) (a .turn) (c .string-in .result)
+line c =
+    let h = c .before .before .before .before .pre in
+    record {
+      laid = h .0 .laid;
+      known = h .1 .0 .0;
+      counted = h .1 .0 .1;
+      tells = c .string-in .ensures _ (h .0 .laid) (h .0 .index);
+    }
 
 slot-of-requires : tie.Need-slot-of-requires
-slot-of-requires c κs =
-    let start = c .before .before .before .before in
-    let a = start .args in
-    let h = start .pre in
-    (h .0 .placed, slot-known _ _ (h .0) _ (a .next) (h .1 .0))
+slot-of-requires c κs = let x = line (c .before) in (x .laid .placed, slot-known x)
+
+next-turn-requires : tie.Need-next-turn-requires
+next-turn-requires c κs = turn-small (line (c .before .before .before .before .before .before))
 
 returns : tie.Need-returns
 returns c =
-    let at-put = c .before .before in
+    let at-put = c .before .before .before in
     let at-slot = at-put .before .before in
-    let at-if1 = at-slot .before in
-    let start = at-if1 .before .before .before .before in
-    let a = start .args in
+    let at-test = at-slot .before in
+    let at-string = at-test .before in
+    let a = at-string .before .before .before .before .args in
     let w = at-put .put-closing in
-    gives-closing (a .p) (a .image .now) (a .out .now) (w .last .0) (a .at) (w .result) (a .string) (a .unit) (a .next) _
-    (record {
-      laid = start .pre .0;
-      line = start .pre .1 .0;
-      none = at-if1 .if1 .taken;
-      read = at-slot .slot-of .ensures;
-      wrote = w .ensures .0;
-      most = w .ensures .1;
-    })
+    gives-closing (line at-string) (a .unit) (at-test .if1 .taken) (at-slot .slot-of .result) (at-slot .slot-of .ensures)
+    (a .out .now) (w .last .0) (a .at) (w .result) (w .ensures .0) (w .ensures .1) _ (c .next-turn .ensures)
 
 -- the units that are to be put
 units : (c : tie.After-least) → let a = c .before .before .before .before .before .before .args in
-    Chunk (a .p) (a .image .now) (a .string) (a .unit) (a .next) (c .least .result)
-units c =
-    let at-if1 = c .before .before in
-    let h = at-if1 .before .before .before .before .pre in
-    record {
-      laid = h .0;
-      line = h .1 .0;
-      some = omega (arith, at-if1 .if1 .left);
-      least = c .least .ensures .0;
-    }
+    Chunk (a .p) (a .image .now) (a .turn) (c .before .before .string-in .result) (a .unit) (c .least .result)
+units c = record { line = line (c .before .before); some = c .before .if1 .left; least = c .least .ensures .0 }
+
+add-start : tie.Need-add-start
+add-start c =
+    let small = line-small (line (c .before .before .before .before)) in
+    record { fits = omega (arith, small .1, small .2) }
 
 put-units-requires : tie.Need-put-units-requires
 put-units-requires c κs =
-    let at-least = c .before in
+    let at-least = c .before .before .before in
     let start = at-least .before .before .before .before .before .before in
-    let a = start .args in
     let x = units at-least in
     let u = least-units x in
-    (omega (arith, u .0, start .pre .1 .1), units-in (a .p) (a .image .now) (x .laid) (a .string) (a .next) (x .line) (a .unit) _ (u .1))
+    (omega (arith, u .0, start .pre .1 .1), units-in (x .line) (start .args .unit) (at-least .least .result) (u .1))
 
-add-t18 : tie.Need-add-t18
-add-t18 c =
-    let at-least = c .before .before .before .before in
-    let h = at-least .before .before .before .before .before .before .pre in
-    omega (arith, units at-least .some, record-small _ _ (h .0 .placed) _ _ (h .1 .0 .stands) .0)
+add-t21 : tie.Need-add-t21
+add-t21 c =
+    let x = units (c .before .before .before .before .before .before) in
+    omega (arith, x .some, line-small (x .line) .0)
 
 returns-2 : tie.Need-returns-2
 returns-2 c =
-    let at-least = c .before .before .before .before in
-    let w = c .before .before .put-units in
-    gives-units (units at-least) _ _ _ _ (w .ensures .0) (w .ensures .1)
+    let at-put = c .before .before in
+    gives-units (units (at-put .before .before .before .before)) _ _ _ _ (at-put .put-units .ensures .0) (at-put .put-units .ensures .1)
 
 pub put-units-spec : {M : Type 1} → statement M
 put-units-spec =
     tie.close
-    (tie.spec slot-of-requires (λ c κs. search needs) (λ c. search needs) returns (λ c. search needs) (λ c κs. search needs)
-    put-units-requires add-t18 (λ c. search needs) returns-2)
+    (tie.spec (λ c κs. search needs) slot-of-requires (λ c κs. search needs) next-turn-requires (λ c. search needs) returns
+    (λ c. search needs) (λ c κs. search needs) add-start put-units-requires add-t21 (λ c. search needs) returns-2)

@@ -4,10 +4,10 @@ use Rattle.test_listings.proofs.list_all.Statement.{statement}
 use Rattle.test_listings.proofs.list_all.Tie as tie
 
 abbrev Inv-loop : tie.InvT-loop
-Inv-loop inputs₀ room₀ turns₀ inputs room turns = Unit {0}
+Inv-loop inputs₀ index₀ room₀ turns₀ inputs index room turns = Unit {0}
 
 abbrev μ-loop : tie.MeasureT-loop
-μ-loop inputs₀ room₀ turns₀ inputs room turns = turns
+μ-loop inputs₀ index₀ room₀ turns₀ inputs index room turns = turns
 
 pub list-all-spec : {M : Type 1} → statement M
 list-all-spec =

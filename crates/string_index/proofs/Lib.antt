@@ -1,0 +1,3 @@
+pub mod RunLaws
+pub mod IndexLaws
+pub mod FaultLaws

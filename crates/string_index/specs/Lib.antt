@@ -1,0 +1,3 @@
+pub mod Index
+pub mod Filling
+pub mod Faults
