@@ -114,6 +114,28 @@ enum nepuladrim_index_flag { NEPULADRIM_INDEX_WIDE = 1, NEPULADRIM_INDEX_IDENTIF
 // however many are stated; then 13 where `out` has fewer than NEPULADRIM_INDEX_WORDS words.
 uint64_t nepuladrim_look_up(const uint32_t *index, size_t index_length, size_t count, uint32_t id, uint32_t *out, size_t out_length);
 
+// Why a patch of string `id` to a value, which is UTF-8, is made in place, or by packing all strings anew. Nothing is made. A code and two
+// words are put at the front of `out`, NEPULADRIM_REASON_WORDS words, which is also the answer. The code is the first of those below that
+// holds, and nepuladrim_patch_string_by_id, in that mode and with room enough, goes by it. Words that a code does not name are 0.
+// `index` is lent for it, three words for each string of the image. It is filled anew, so that it is afterwards as nepuladrim_fill_index
+// leaves it, also where the patch is refused. `index_length` and `out_length` count words.
+// Refused with 15, for another layout or mode byte; 1 to 6; and 13 where the index is shorter: then no word of it is written. Then with 7,
+// 8, 11, 12, as the patch is; and last of all with 13 where `out` has fewer than NEPULADRIM_REASON_WORDS words.
+uint64_t nepuladrim_why(const uint8_t *image, size_t image_length, uint8_t layout, uint8_t mode, uint32_t id, const uint8_t *value,
+                        size_t value_length, uint32_t *index, size_t index_length, uint32_t *out, size_t out_length);
+
+// The words of a reason, as they are put at the front of what is lent for them.
+enum nepuladrim_reason_word { NEPULADRIM_REASON_CODE, NEPULADRIM_REASON_FIRST, NEPULADRIM_REASON_SECOND, NEPULADRIM_REASON_WORDS };
+
+// The codes. By the first the value is written over the string, and no string moves; by each other one all strings are packed anew.
+enum nepuladrim_reason {
+    NEPULADRIM_IN_PLACE, // the string is narrow, the value ASCII and as long, and no other string overlaps
+    NEPULADRIM_WIDE, // the string is wide, whatever the value is
+    NEPULADRIM_NOT_ASCII, // the value has a byte over 0x7F
+    NEPULADRIM_LENGTHS, // the lengths differ: the first word is that of the string in bytes, the second that of the value
+    NEPULADRIM_OVERLAP // another string shares a byte with it, or one of the two is empty and lies within: the first word is the lowest id
+};
+
 // A part of the listing of an image, from byte `from` on: its strings and functions as text, as much as there is room for, at most
 // 67,108,864 bytes. A part that is shorter than both is the last. `index` is lent for it, three words for each string of the image, and
 // `index_length` counts words: each part fills it anew, so that it is afterwards as nepuladrim_fill_index leaves it, also where nothing is

@@ -53,7 +53,7 @@ int demo(char **words) {
     print(stdout, "\nIts strings become \"forêt\" and \"é\", which has as many bytes as \"bc\", and its body 5 bytes:\n");
     struct edit edit[] = {{STRING, 0, TEXT("forêt")}, {STRING, 1, TEXT("é")}, {BODY, 0, TEXT("\1\2\3\4\5")}};
     struct edits edits = {edit, sizeof edit / sizeof edit[0]};
-    if (!apply_edits("the example", image, MODERN, NEPULADRIM_PLAIN, edits, &made)) return REFUSED;
+    if (!apply_edits("the example", image, MODERN, NEPULADRIM_PLAIN, edits, NULL, &made)) return REFUSED;
     print_changes(stdout, image, made, MODERN, edits);
     finish_printing(stdout);
     check_footer(made);

@@ -1,12 +1,32 @@
 #include "edits.h"
 
 #include "../hbc.h"
+#include "pass_reasons.h"
 #include "passes.h"
 #include "print.h"
 #include "refusals.h"
+#include "words.h"
 
 #include <stdlib.h>
 #include <string.h>
+
+static struct bytes copy_of(const char *text) {
+    struct bytes copy = {room_for(strlen(text)), strlen(text)};
+    memcpy(copy.at, text, copy.length);
+    return copy;
+}
+
+struct edit edit_by_text(const char *word) {
+    const char *text;
+    uint32_t id = take_id(word, &text);
+    return (struct edit){STRING, id, copy_of(text)};
+}
+
+struct edit edit_by_file(enum edit_kind kind, const char *word) {
+    const char *name;
+    uint32_t id = take_id(word, &name);
+    return (struct edit){kind, id, read_value(name)};
+}
 
 void add_edit(struct edits *edits, struct edit edit) {
     struct edit *grown = realloc(edits->at, (edits->count + 1) * sizeof edit);
@@ -36,13 +56,15 @@ static uint64_t count_there(struct bytes image, uint8_t layout, const struct edi
 }
 
 // How long the string or body is that was there. Where an id is not refused, neither is a reading of it.
-static uint64_t length_there(struct bytes image, uint8_t layout, const struct edit *edit, uint8_t *scratch) {
-    return edit->kind == BODY ? nepuladrim_body(image.at, image.length, layout, edit->id, scratch, IMAGE_MOST)
-                              : nepuladrim_string(image.at, image.length, layout, edit->id, scratch, IMAGE_MOST);
+static uint64_t length_there(struct bytes image, uint8_t layout, const struct edit *edit) {
+    uint8_t *scratch = room_for(IMAGE_MOST);
+    uint64_t length = edit->kind == BODY ? nepuladrim_body(image.at, image.length, layout, edit->id, scratch, IMAGE_MOST)
+                                         : nepuladrim_string(image.at, image.length, layout, edit->id, scratch, IMAGE_MOST);
+    free(scratch);
+    return length;
 }
 
-static void print_refused_edit(size_t place, const struct edit *edit, unsigned number, struct bytes image, uint8_t layout,
-                               uint8_t *scratch) {
+void print_refused_edit(size_t place, const struct edit *edit, unsigned number, struct bytes image, uint8_t layout) {
     char who[80];
     snprintf(who, sizeof who, "edit %zu (%s %u)", place, edit->kind == BODY ? "the body of function" : "string", edit->id);
     print_refusal(who, number);
@@ -51,7 +73,7 @@ static void print_refused_edit(size_t place, const struct edit *edit, unsigned n
         return;
     }
     print(stderr, " (it has ");
-    print_count(stderr, length_there(image, layout, edit, scratch), "byte");
+    print_count(stderr, length_there(image, layout, edit), "byte");
     print(stderr, ", what is to replace it ");
     print_count(stderr, edit->value.length, "byte");
     print(stderr, ", the image ");
@@ -75,7 +97,7 @@ static void print_refused_pass(size_t place, const struct edit *edits, size_t co
 
 // ---- edits that are applied
 
-static uint64_t apply_edit(struct bytes image, uint8_t layout, uint8_t mode, const struct edit *edit, uint8_t *out) {
+uint64_t apply_edit(struct bytes image, uint8_t layout, uint8_t mode, const struct edit *edit, uint8_t *out) {
     const uint8_t *value = edit->value.at;
     size_t length = edit->value.length;
     return edit->kind == BODY
@@ -84,25 +106,25 @@ static uint64_t apply_edit(struct bytes image, uint8_t layout, uint8_t mode, con
 }
 
 // Says which edit is refused, or that those of a pass are, the first of which has this place.
-static void print_refused(size_t place, const struct edit *edits, size_t count, unsigned number, struct bytes image, uint8_t layout,
-                          uint8_t *scratch) {
+static void print_refused(size_t place, const struct edit *edits, size_t count, unsigned number, struct bytes image, uint8_t layout) {
     struct fault fault = {0, number};
     if (count > 1) fault = fault_of(image, layout, edits, count);
-    if (fault.number) print_refused_edit(place + fault.edit, &edits[fault.edit], fault.number, image, layout, scratch);
+    if (fault.number) print_refused_edit(place + fault.edit, &edits[fault.edit], fault.number, image, layout);
     else print_refused_pass(place, edits, count, number, image);
 }
 
 // Applies the edits to an admitted image, which stands in a room as long as the spare one. The two change places with each pass.
-static bool apply_all(struct bytes *image, uint8_t layout, uint8_t mode, struct edits edits, uint8_t **spare) {
+static bool apply_all(struct bytes *image, uint8_t layout, uint8_t mode, struct edits edits, struct reasons *reasons, uint8_t **spare) {
     for (size_t i = 0, count; i < edits.count; i += count) {
         const struct edit *next = &edits.at[i];
         count = pass_length(next, edits.count - i);
         uint64_t answer = count == 1 ? apply_edit(*image, layout, mode, next, *spare)
                                      : apply_pass(*image, layout, mode, next, count, *spare);
         if (is_refused(answer)) {
-            print_refused(i + 1, next, count, refusal_of(answer), *image, layout, *spare);
+            print_refused(i + 1, next, count, refusal_of(answer), *image, layout);
             return false;
         }
+        if (reasons) note_pass(reasons, *image, count, answer);
         uint8_t *made = *spare;
         *spare = image->at;
         *image = (struct bytes){made, answer};
@@ -110,7 +132,8 @@ static bool apply_all(struct bytes *image, uint8_t layout, uint8_t mode, struct 
     return true;
 }
 
-bool apply_edits(const char *name, struct bytes image, uint8_t layout, uint8_t mode, struct edits edits, struct bytes *made) {
+bool apply_edits(const char *name, struct bytes image, uint8_t layout, uint8_t mode, struct edits edits, struct reasons *reasons,
+                 struct bytes *made) {
     unsigned refusal = nepuladrim_admit(image.at, image.length, layout);
     if (refusal) {
         print_refused_image(name, image, layout, refusal);
@@ -121,7 +144,7 @@ bool apply_edits(const char *name, struct bytes image, uint8_t layout, uint8_t m
     uint8_t *spare = room_for(IMAGE_MOST);
     // every patch ends so by itself
     if (!edits.count) nepuladrim_finalize(made->at, made->length);
-    bool is_made = apply_all(made, layout, mode, edits, &spare);
+    bool is_made = apply_all(made, layout, mode, edits, reasons, &spare);
     free(spare);
     if (!is_made) free(made->at);
     return is_made;

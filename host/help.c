@@ -62,7 +62,7 @@ static const char LOCATE[] =
     "  sum - BYTES UNITS - - SMALL OVERFLOW\n";
 
 static const char PATCH[] =
-    "usage: hbc patch IMAGE OUT [--layout LAYOUT] [--even] [--dry-run] EDIT...\n"
+    "usage: hbc patch IMAGE OUT [--layout LAYOUT] [--even] [--dry-run] [--why] EDIT...\n"
     "Writes the image with the edits to OUT, and prints what changed. An EDIT is one of these; they are applied in the order in\n"
     "which they stand, all of them or none:\n"
     "  --string ID=TEXT         string ID becomes TEXT, UTF-8 as typed\n"
@@ -84,7 +84,13 @@ static const char PATCH[] =
     "that does not fit in place packs all strings anew; each wide one then starts at an even place, behind one zero byte where\n"
     "that is needed. It holds for all string edits of the call; bodies are the same either way. Edits that fit in place move\n"
     "nothing: wide strings at odd places stay there until an edit packs the strings anew. An edit of a wide string always does,\n"
-    "also to its own text. How many have stayed is printed.\n";
+    "also to its own text. How many have stayed is printed.\n"
+    "\n"
+    "--why prints first, a line for each edit, why it was made in place or why all strings were packed anew, as hbc why does. Each\n"
+    "edit of a pass is judged by itself on the image that the pass got. Where one of them does not fit in place, all strings are\n"
+    "packed anew, also those of edits that would fit; and one that would be refused by itself may be taken with the others. Behind\n"
+    "the edits of a pass it says what was done with all of them, and how long the image was before and after. The edit of a body is\n"
+    "a pass of its own, and moves no string.\n";
 
 static const char TRANSLATE[] =
     "usage: hbc translate IMAGE OUT FILE.po... [--layout LAYOUT] [--even] [--dry-run] [--no-fuzzy]\n"
@@ -116,6 +122,22 @@ static const char VERIFY[] =
     "Tells whether an image is admitted, or why it is refused; whether its file length and its footer are right or stale (a patch\n"
     "puts them right); its counts; and where each section starts and how many bytes it has.\n";
 
+static const char WHY[] =
+    "usage: hbc why IMAGE ID=TEXT [--layout LAYOUT] [--even]\n"
+    "       hbc why IMAGE --string-from ID=FILE [--layout LAYOUT] [--even]\n"
+    "Tells why hbc patch makes an edit of string ID in place, or why it packs all strings anew, so that a small edit changes most of\n"
+    "the image. Nothing is written. The first line is the first of these reasons that holds:\n"
+    "  string 12 fits in place: its bytes are written over, and no string moves\n"
+    "  string 12 is stored wide (UTF-16), so all strings are packed anew: 8 bytes shorter\n"
+    "  the new text of string 12 has a character that is not ASCII, \"é\", so all strings are packed anew: 4 bytes longer\n"
+    "  string 12 has 7 bytes and its new text 6, so all strings are packed anew: the image is as long as before\n"
+    "  string 12 shares its bytes with string 40, so all strings are packed anew: 1,204 bytes longer\n"
+    "Of all strings that overlap it the lowest id is told. An empty one overlaps where it stands within the other. Then come the old\n"
+    "and the new text of the string, the text of the one that overlaps it, and how long the image is before and after.\n"
+    "\n"
+    "What hbc patch would refuse is refused in the same words. ID=TEXT, --string-from and --even are as for hbc patch, whose --why\n"
+    "tells the same of each of its edits.\n";
+
 static const char INSTALL[] =
     "usage: ./hbc install DIR\n"
     "A command of ./hbc in the repository. Below DIR: bin/hbc, this program, which needs no script then; lib/libhbc.a and\n"
@@ -126,8 +148,8 @@ static const char HELP[] = "usage: hbc help [COMMAND]\nPrints the commands, or w
 static const struct {
     const char *name, *text;
 } TEXTS[] = {
-    {"demo", DEMO}, {"extract", EXTRACT}, {"help", HELP},   {"index", INDEX},         {"install", INSTALL},
-    {"list", LIST}, {"locate", LOCATE},   {"patch", PATCH}, {"translate", TRANSLATE}, {"verify", VERIFY},
+    {"demo", DEMO},     {"extract", EXTRACT}, {"help", HELP},           {"index", INDEX},   {"install", INSTALL}, {"list", LIST},
+    {"locate", LOCATE}, {"patch", PATCH},     {"translate", TRANSLATE}, {"verify", VERIFY}, {"why", WHY},
 };
 
 void print_usage(FILE *to) {

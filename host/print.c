@@ -53,3 +53,13 @@ void print_number(const char *name, uint64_t number) { print(stdout, "%s: %llu\n
 void print_count(FILE *to, uint64_t count, const char *what) {
     print(to, "%llu %s%s", (unsigned long long)count, what, count == 1 ? "" : "s");
 }
+
+void print_grouped(FILE *to, uint64_t number) {
+    if (number >= 1000) print_grouped(to, number / 1000);
+    print(to, number >= 1000 ? ",%03u" : "%u", (unsigned)(number % 1000));
+}
+
+void print_grouped_count(FILE *to, uint64_t count, const char *what) {
+    print_grouped(to, count);
+    print(to, " %s%s", what, count == 1 ? "" : "s");
+}

@@ -30,4 +30,8 @@ void print_number(const char *name, uint64_t number);
 // `1 string`, `2 strings`.
 void print_count(FILE *to, uint64_t count, const char *what);
 
+// A number in groups of three digits, as people read it, and the same of a count: `1,204`, `1,204 bytes`.
+void print_grouped(FILE *to, uint64_t number);
+void print_grouped_count(FILE *to, uint64_t count, const char *what);
+
 #endif

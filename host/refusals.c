@@ -30,8 +30,10 @@ static const char *const MEANING[] = {
 };
 #define MEANINGS (sizeof MEANING / sizeof MEANING[0])
 
+const char *meaning_of(unsigned number) { return number - 1 < MEANINGS ? MEANING[number - 1] : "unknown"; }
+
 void print_refusal(const char *who, unsigned number) {
-    print(stderr, "hbc: %s is refused: %u, %s", who, number, number - 1 < MEANINGS ? MEANING[number - 1] : "unknown");
+    print(stderr, "hbc: %s is refused: %u, %s", who, number, meaning_of(number));
 }
 
 void print_ids(uint64_t count, const char *what) {

@@ -19,6 +19,9 @@ unsigned refusal_of(uint64_t answer);
 #define NO_SUCH_VALUE 14
 #define OUTSIDE 16
 
+// What a number means, its name first.
+const char *meaning_of(unsigned number);
+
 // Says WHO is refused, on standard error, without an end of line: more may be said of what was there.
 void print_refusal(const char *who, unsigned number);
 

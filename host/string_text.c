@@ -5,11 +5,15 @@
 
 #include <stdlib.h>
 
+void print_quoted(FILE *to, const struct units *units, size_t most) {
+    struct text text = begin_text(to);
+    for (size_t i = 0; i < units->count && i < most; i++) put_unit(&text, unit_at(units, i));
+    end_text(&text);
+}
+
 void print_units(FILE *to, const struct units *units) {
     const size_t most_units = 100;
-    struct text text = begin_text(to);
-    for (size_t i = 0; i < units->count && i < most_units; i++) put_unit(&text, unit_at(units, i));
-    end_text(&text);
+    print_quoted(to, units, most_units);
     print(to, "%s (", units->count > most_units ? "..." : "");
     print_count(to, units->count, "unit");
     print(to, ")");

@@ -6,6 +6,9 @@
 
 #include <stdio.h>
 
+// Prints the first units between quotes, as many as are asked for at most.
+void print_quoted(FILE *to, const struct units *units, size_t most);
+
 // Prints units, and their number. What is long is cut.
 void print_units(FILE *to, const struct units *units);
 

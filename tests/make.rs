@@ -1,5 +1,5 @@
 //! Writes an image laid out as compilers lay them out to standard output:
-//!   make modern|mixed|pairs FUNCTIONS STRINGS MORE LENGTH
+//!   make modern|mixed|pairs|names|shared FUNCTIONS STRINGS MORE LENGTH
 //! MORE: how many bytes each body has over 8 to 31. LENGTH: that of the image; zeros before the footer make it up.
 #![allow(dead_code)]
 

@@ -9,6 +9,7 @@ pub struct Shape {
     overflows: fn(usize) -> bool,
     is_identifier: fn(usize) -> bool,
     is_odd: bool,
+    is_shared: bool,
     says: Says,
 }
 
@@ -31,6 +32,7 @@ const MODERN: Shape = Shape {
     overflows: |_| false,
     is_identifier: |_| false,
     is_odd: false,
+    is_shared: false,
     says: Says::Letters,
 };
 const MIXED: Shape = Shape { layout: 1, record: 16, large: 32, is_large: |i| i % 2 == 0, ..MODERN };
@@ -40,6 +42,8 @@ const PAIRS: Shape = Shape { overflows: |i| i % 4 == 3, ..MIXED };
 const NAMES: Shape = Shape { is_identifier: |i| i % 4 < 2, ..MIXED };
 /// Every second string is wide, behind a narrow one of odd length: in even mode it needs a gap.
 const ODD: Shape = Shape { is_odd: true, ..MIXED };
+/// The last string is the first one once more, at its place; no other two share a byte.
+const SHARED: Shape = Shape { is_shared: true, ..MIXED };
 
 /// As images with labels are: no two strings say the same.
 const TEXTS: Shape = Shape { says: Says::OfItsOwn, ..MIXED };
@@ -55,6 +59,7 @@ pub fn shape(name: &str) -> Shape {
         "pairs" => PAIRS,
         "names" => NAMES,
         "odd" => ODD,
+        "shared" => SHARED,
         // As with mixed and bodies.
         "texts" | "books" => TEXTS,
         "alike" => ALIKE,
@@ -107,9 +112,10 @@ fn sections(shape: &Shape, functions: usize, strings: usize) -> Vec<u8> {
     }
     let mut next = 0;
     for i in 0..strings {
-        let (wide, bytes) = string(shape, i);
+        let is_first_again = shape.is_shared && i + 1 == strings;
+        let (wide, bytes) = string(shape, if is_first_again { 0 } else { i });
         let mut length = if wide { bytes.len() / 2 } else { bytes.len() };
-        let mut offset = image.len() - storage;
+        let mut offset = if is_first_again { 0 } else { image.len() - storage };
         if (shape.overflows)(i) {
             put(&mut image, pairs + 8 * next, offset);
             put(&mut image, pairs + 8 * next + 4, length);
@@ -117,7 +123,9 @@ fn sections(shape: &Shape, functions: usize, strings: usize) -> Vec<u8> {
             next += 1;
         }
         put(&mut image, small + 4 * i, length << 24 | offset << 1 | usize::from(wide));
-        image.extend(bytes);
+        if !is_first_again {
+            image.extend(bytes);
+        }
     }
     let size = image.len() - storage;
     let counts = [functions, kinds.len(), identifiers, strings, overflows, size];

@@ -9,9 +9,9 @@
 #include <stdio.h>
 #include <stdlib.h>
 
-enum { FINALIZE = 1, BUILD, PATCH_BY_ID, PATCH_BY_VALUE, PATCH_IN_PASS, READ_PO, WRITE_PO };
+enum { FINALIZE = 1, BUILD, PATCH_BY_ID, PATCH_BY_VALUE, PATCH_IN_PASS, READ_PO, WRITE_PO, WHY };
 enum { INPUTS = 4 };
-// The output comes first; what is lent for work comes behind it, in the order of hbc.h.
+// The output comes first; what is lent for work, an index too, comes behind it, in the order of hbc.h.
 enum { OUT, TEXT, ENDS, WORK, LENT };
 
 // As it comes, with no gap in it. The inputs stand in the order of hbc.h; what an export does not take is 0 or empty.
@@ -67,6 +67,8 @@ static uint64_t make(const struct head *head, const struct bytes *in, const stru
                                   BYTES(lent[OUT]));
     case WRITE_PO:
         return nepuladrim_write_po(BYTES(in[0]), layout, WORDS(lent[WORK]), BYTES(lent[OUT]));
+    case WHY:
+        return nepuladrim_why(BYTES(in[0]), layout, mode, head->number, BYTES(in[1]), WORDS(lent[WORK]), WORDS(lent[OUT]));
     }
     stop("no such export");
 }

@@ -144,6 +144,26 @@ int main(void) {
     is(found[0] == 0xa5a5a5a5);
     is(nepuladrim_look_up(index, 6, 2, 1, found, 4) == 3 && memcmp(found, second, sizeof second) == 0 && found[3] == 0xa5a5a5a5);
 
+    // why a patch of a string is made in place, or by packing all of them anew
+    const uint32_t lengths[] = {NEPULADRIM_LENGTHS, 1, 5}, in_place[] = {NEPULADRIM_IN_PLACE, 0, 0};
+    uint32_t reason[NEPULADRIM_REASON_WORDS + 1];
+    memset(index, 0xa5, sizeof index);
+    memset(reason, 0xa5, sizeof reason);
+    is(nepuladrim_why(image, 220, 5, NEPULADRIM_PLAIN, 0, BYTES("z"), index, 6, reason, 3) == refused(15));
+    is(nepuladrim_why(image, 220, 0, 2, 0, BYTES("z"), index, 6, reason, 3) == refused(15));
+    is(nepuladrim_why(image, 147, 0, NEPULADRIM_PLAIN, 0, BYTES("z"), index, 6, reason, 3) == refused(1));
+    is(nepuladrim_why(image, 220, 0, NEPULADRIM_PLAIN, 2, BYTES("z"), index, 5, reason, 3) == refused(13));
+    is(index[0] == 0xa5a5a5a5);
+    is(nepuladrim_why(image, 220, 0, NEPULADRIM_PLAIN, 2, BYTES("z"), index, 7, reason, 3) == refused(7));
+    is(memcmp(index, filled, sizeof filled) == 0 && index[6] == 0xa5a5a5a5);
+    is(nepuladrim_why(image, 220, 0, NEPULADRIM_PLAIN, 0, BYTES("\377"), index, 6, reason, 2) == refused(8));
+    is(nepuladrim_why(image, 220, 0, NEPULADRIM_PLAIN, 0, BYTES("z"), index, 6, reason, 2) == refused(13));
+    is(reason[0] == 0xa5a5a5a5);
+    is(nepuladrim_why(image, 220, 0, NEPULADRIM_PLAIN, 0, BYTES("aaaaa"), index, 6, reason, 4) == 3);
+    is(memcmp(reason, lengths, sizeof lengths) == 0 && reason[3] == 0xa5a5a5a5);
+    is(nepuladrim_why(image, 220, 0, NEPULADRIM_EVEN, 0, BYTES("z"), index, 6, reason, 3) == 3);
+    is(memcmp(reason, in_place, sizeof in_place) == 0);
+
     // what is known of the image and of its strings
     uint64_t facts[NEPULADRIM_IMAGE_FACTS + 1], known[NEPULADRIM_STRING_FACTS + 1];
     const uint64_t of_image[] = {220, 220, 1, 1, 1, 1, 0, 2, 0, 3, 128, 140, 144, 144, 152, 152, 156, 200};

@@ -3,7 +3,8 @@
 // nothing behind.
 //
 // An input is words, a line each, up to an empty line, and the file that the word `image` names; with no words, the bytes of a listing.
-// Of the file it is also tried, in every layout, whether an index of its strings holds what the walk to each of them finds.
+// Of the file it is also tried, in every layout, whether an index of its strings holds what the walk to each of them finds, and whether
+// patches of some of them take the path for the reason that is told.
 #include "../../hbc.h"
 #include "../../host/listing.h"
 
@@ -129,6 +130,136 @@ static void hold_index(const uint8_t *image, size_t length, uint8_t layout) {
         hold_string(index, count, id, rows + id * NEPULADRIM_STRING_FACTS, facts[NEPULADRIM_STORAGE_AT]);
 }
 
+// ---- why a patch takes its path
+
+// What a patch makes of an input in which strings share few bytes.
+#define MOST_SHARED 65536
+#define MOST_MADE (MOST_BYTES + 3 * MOST_SHARED)
+
+// A patch, and what is known of the strings before it: by their rows, and by an index that was filled.
+struct patch {
+    const uint8_t *image;
+    size_t length;
+    uint8_t layout, mode;
+    uint32_t id;
+    const uint8_t *value;
+    size_t value_length, count;
+    const uint64_t *rows;
+    const uint32_t *filled;
+};
+
+static const uint64_t *row_of(const struct patch *patch, size_t id) { return patch->rows + id * NEPULADRIM_STRING_FACTS; }
+
+// Where a string stands in storage, as it is looked up.
+struct span {
+    uint64_t start, end;
+};
+
+static struct span span_of(const struct patch *patch, uint32_t id) {
+    uint32_t found[NEPULADRIM_INDEX_WORDS];
+    const size_t asked = NEPULADRIM_INDEX_WORDS * patch->count;
+    expect(nepuladrim_look_up(patch->filled, asked, patch->count, id, found, NEPULADRIM_INDEX_WORDS) == NEPULADRIM_INDEX_WORDS);
+    const uint64_t start = found[NEPULADRIM_INDEX_OFFSET], units = found[NEPULADRIM_INDEX_LENGTH];
+    return (struct span){start, start + (found[NEPULADRIM_INDEX_FLAGS] & NEPULADRIM_INDEX_WIDE ? 2 : 1) * units};
+}
+
+// The lowest other string that overlaps the one that is patched; the number of strings where there is none.
+static uint32_t overlapping(const struct patch *patch) {
+    const struct span own = span_of(patch, patch->id);
+    for (uint32_t id = 0; id < patch->count; id++) {
+        const struct span other = span_of(patch, id);
+        if (id != patch->id && own.start < other.end && other.start < own.end) return id;
+    }
+    return (uint32_t)patch->count;
+}
+
+static bool is_ascii(const struct patch *patch) {
+    for (size_t i = 0; i < patch->value_length; i++)
+        if (patch->value[i] >= 0x80) return false;
+    return true;
+}
+
+// The reason is the first that holds.
+static void hold_reason(const struct patch *patch, const uint32_t *reason) {
+    const uint64_t *own = row_of(patch, patch->id);
+    const uint32_t bytes = (uint32_t)own[NEPULADRIM_STRING_BYTES], other = overlapping(patch);
+    uint32_t due[NEPULADRIM_REASON_WORDS] = {NEPULADRIM_IN_PLACE, 0, 0};
+    if (own[NEPULADRIM_STRING_IS_WIDE]) due[0] = NEPULADRIM_WIDE;
+    else if (!is_ascii(patch)) due[0] = NEPULADRIM_NOT_ASCII;
+    else if (bytes != patch->value_length) due[0] = NEPULADRIM_LENGTHS, due[1] = bytes, due[2] = (uint32_t)patch->value_length;
+    else if (other < patch->count) due[0] = NEPULADRIM_OVERLAP, due[1] = other;
+    expect(memcmp(reason, due, sizeof due) == 0);
+}
+
+// In place nothing has moved, and otherwise all strings stand where their mode has them.
+static void hold_path(const struct patch *patch, uint32_t code, const uint8_t *made, uint64_t length) {
+    static uint64_t rows[NEPULADRIM_STRING_FACTS * MOST_STRINGS];
+    uint64_t facts[NEPULADRIM_IMAGE_FACTS], end;
+    const size_t size = patch->count * NEPULADRIM_STRING_FACTS;
+    expect(nepuladrim_image_facts(made, length, patch->layout, facts, NEPULADRIM_IMAGE_FACTS) == NEPULADRIM_IMAGE_FACTS);
+    expect(nepuladrim_string_facts_from(made, length, patch->layout, 0, rows, size) == size);
+    if (code == NEPULADRIM_IN_PLACE) {
+        expect(length == patch->length && memcmp(rows, patch->rows, size * sizeof *rows) == 0);
+        return;
+    }
+    end = facts[NEPULADRIM_STORAGE_AT];
+    for (const uint64_t *row = rows; row < rows + size; row += NEPULADRIM_STRING_FACTS) {
+        if (patch->mode == NEPULADRIM_EVEN && row[NEPULADRIM_STRING_IS_WIDE]) end += end % 2;
+        expect(row[NEPULADRIM_STRING_AT] == end);
+        end += row[NEPULADRIM_STRING_BYTES];
+    }
+}
+
+// It is refused as the patch is, else it is told why that takes its path. The index is filled, whatever the answer.
+static void hold_patch(const struct patch *patch) {
+    static uint8_t made[MOST_MADE];
+    uint32_t *index = words_of_index, reason[NEPULADRIM_REASON_WORDS + 1] = {EMPTY, EMPTY, EMPTY, EMPTY};
+    const size_t asked = NEPULADRIM_INDEX_WORDS * patch->count;
+    memset(index, 0xa5, (asked + 1) * sizeof *index);
+    uint64_t why = nepuladrim_why(patch->image, patch->length, patch->layout, patch->mode, patch->id, patch->value, patch->value_length,
+                                  index, asked, reason, NEPULADRIM_REASON_WORDS);
+    uint64_t length = nepuladrim_patch_string_by_id(patch->image, patch->length, patch->layout, patch->mode, patch->id, patch->value,
+                                                    patch->value_length, made, sizeof made);
+    expect(memcmp(index, patch->filled, asked * sizeof *index) == 0 && index[asked] == EMPTY && reason[NEPULADRIM_REASON_WORDS] == EMPTY);
+    expect(why == (length < NEPULADRIM_REFUSED ? NEPULADRIM_REASON_WORDS : length));
+    if (length < NEPULADRIM_REFUSED) {
+        hold_reason(patch, reason);
+        hold_path(patch, reason[NEPULADRIM_REASON_CODE], made, length);
+    } else expect(reason[0] == EMPTY);
+}
+
+// A string, or an id that is none, to a value as long as it is, to one that is longer, to an accent, to what is no text.
+static void hold_patches(struct patch patch) {
+    static uint8_t value[MOST_BYTES + 1];
+    const uint64_t bytes = patch.id < patch.count ? row_of(&patch, patch.id)[NEPULADRIM_STRING_BYTES] : 0;
+    memset(value, 'q', sizeof value);
+    patch.value = value;
+    for (patch.value_length = bytes; patch.value_length <= bytes + 1; patch.value_length++) hold_patch(&patch);
+    patch.value_length = 2;
+    memcpy(value, "\303\251", 2);
+    hold_patch(&patch);
+    patch.value_length = 1;
+    hold_patch(&patch);
+}
+
+// Up to eight strings of an image, in both modes.
+static void hold_reasons(const uint8_t *image, size_t length, uint8_t layout) {
+    static uint64_t rows[NEPULADRIM_STRING_FACTS * MOST_STRINGS];
+    static uint32_t filled[NEPULADRIM_INDEX_WORDS * MOST_STRINGS];
+    uint64_t count = nepuladrim_fill_index(image, length, layout, filled, NEPULADRIM_INDEX_WORDS * MOST_STRINGS), shared = 0;
+    if (count >= NEPULADRIM_REFUSED) return;
+    nepuladrim_string_facts_from(image, length, layout, 0, rows, NEPULADRIM_STRING_FACTS * MOST_STRINGS);
+    for (uint64_t id = 0; id < count; id++) shared += rows[id * NEPULADRIM_STRING_FACTS + NEPULADRIM_STRING_BYTES];
+    struct patch patch = {image, length, layout, NEPULADRIM_PLAIN, 0, NULL, 0, count, rows, filled};
+    for (uint64_t id = 0; id <= count && shared <= MOST_SHARED; id += 1 + count / 8) {
+        patch.id = (uint32_t)id;
+        patch.mode = NEPULADRIM_PLAIN;
+        hold_patches(patch);
+        patch.mode = NEPULADRIM_EVEN;
+        hold_patches(patch);
+    }
+}
+
 int LLVMFuzzerTestOneInput(const uint8_t *data, size_t length) {
     char *text = malloc(length + 1), *words[MOST_WORDS + 2] = {"hbc"};
     memcpy(text, data, length);
@@ -137,7 +268,10 @@ int LLVMFuzzerTestOneInput(const uint8_t *data, size_t length) {
     size_t rest = cut_words(text, length, words, &count);
     store(text + rest, length - rest);
     words[count] = NULL;
-    for (uint8_t layout = 0; layout < 5 && length <= MOST_BYTES; layout++) hold_index((uint8_t *)text + rest, length - rest, layout);
+    for (uint8_t layout = 0; layout < 5 && length <= MOST_BYTES; layout++) {
+        hold_index((uint8_t *)text + rest, length - rest, layout);
+        hold_reasons((uint8_t *)text + rest, length - rest, layout);
+    }
     if (count == 1) tell(data, length);
     // the demonstration takes nothing of an input, and starts another program
     else if (strcmp(words[1], "demo") != 0) run(count, words);

@@ -1,5 +1,5 @@
 -- The number of an answer tells it: a refusal's is 2^32 or more, and no length is.
-use mathlib.Core.Path.{_≡_, refl, ap, subst}
+use mathlib.Core.Path.{_≡_, refl, ap, sym, _∙_, subst}
 use mathlib.Core.Bool.{Bool, true, false}
 use mathlib.Core.Logic.{inl, inr}
 use mathlib.Core.List.{List}
@@ -56,7 +56,9 @@ use Rattle.string_index.specs.declared.Lookup.{Lookup}
 use Rattle.string_index.specs.declared.Lookup.the-variants as lookup-is
 use Rattle.string_index.specs.Index.{fillRefusal, filledAs}
 use Rattle.hbc.specs.Numbers.{coded, Codes, stated, modeOf, chosen, countNumbered}
-use Rattle.hbc.specs.Reads.{stringReading, bodyReading, lookedUp}
+use Rattle.string_reasons.specs.declared.Reason.{Reason}
+use Rattle.string_reasons.specs.declared.Reason.the-variants as reason-is
+use Rattle.hbc.specs.Reads.{stringReading, bodyReading, lookedUp, reasonWords}
 
 -- the length of what is made fits 32 bits
 abbrev pub Short : Outcome → Type 0
@@ -244,6 +246,37 @@ short-facts-from l s bytes room id = short-judged (refusal l s) _ (λ e.
 pub short-looked-up : (x : Lookup) → Short (lookedUp x)
 short-looked-up (lookup-is.Found e) = omega arith
 short-looked-up (lookup-is.Refused n) = tt
+
+-- ---- a reason
+
+pub short-reason : (r : Reason) → Short (reasonWords r)
+short-reason (reason-is.Refused n) = tt
+short-reason reason-is.InPlace = omega arith
+short-reason reason-is.Wide = omega arith
+short-reason reason-is.NotAscii = omega arith
+short-reason (reason-is.Lengths entry new) = omega arith
+short-reason (reason-is.Overlap id) = omega arith
+
+-- code and words tell the reason
+abbrev told : Outcome → Reason
+told (refused n) = reason-is.Refused n
+told (made t) =
+    let code = getD t 0 0 in
+    pick (eqb code 0) reason-is.InPlace
+    (pick (eqb code 1) reason-is.Wide
+    (pick (eqb code 2) reason-is.NotAscii
+    (pick (eqb code 3) (reason-is.Lengths (getD t 1 0) (getD t 2 0)) (reason-is.Overlap (getD t 1 0)))))
+
+told-back : (r : Reason) → told (reasonWords r) ≡ r
+told-back (reason-is.Refused n) = refl
+told-back reason-is.InPlace = refl
+told-back reason-is.Wide = refl
+told-back reason-is.NotAscii = refl
+told-back (reason-is.Lengths entry new) = refl
+told-back (reason-is.Overlap id) = refl
+
+pub reasons-apart : (r q : Reason) → reasonWords r ≡ reasonWords q → r ≡ q
+reasons-apart r q e = sym (told-back r) ∙ ap told e ∙ told-back q
 
 -- the strings that are counted fit 32 bits, so that a count is told from a refusal too
 abbrev pub Few : Filled → Type 0

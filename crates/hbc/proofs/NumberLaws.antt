@@ -19,7 +19,10 @@ use Rattle.bits.specs.declared.Answer.the-variants.{Refused}
 use Rattle.translate.specs.Space.{LeavesSpace}
 use Rattle.string_index.specs.declared.Filled.{Filled}
 use Rattle.string_index.specs.declared.Filled.the-variants as filled-is
-use Rattle.hbc.specs.Numbers.{admitNumber, numbered, Codes, stated, modeOf, chosen, usedBy, workBy, countNumbered, countStated}
+use Rattle.string_reasons.specs.declared.Reason.{Reason}
+use Rattle.hbc.specs.Numbers.{admitNumber, numbered, Codes, stated, modeOf, chosen, usedBy, workBy, workIn}
+use Rattle.hbc.specs.Numbers.{countNumbered, countStated}
+use Rattle.hbc.specs.Reads.{reasonWords}
 
 -- the byte states this layout
 pub record States (byte : ℕ) (l : Layout) : Type 0 where
@@ -135,6 +138,31 @@ module _ (layout : ℕ) (after : Layout → List ℕ) (old : List ℕ) where
   pub layout-work : (l : Layout) → States layout l → (new : List ℕ) → new ≡ after l → new ≡ workBy layout after old
   unfolding workBy
   layout-work l y new e = e ∙ ap after (y .is) ∙ rw (le-ltb 4 layout (y .known))
+
+-- where there is a mode too
+module _ (layout mode : ℕ) (after : Layout → List ℕ) (old : List ℕ) where
+  pub no-layout-in : 4 < layout → old ≡ workIn layout mode after old
+  unfolding workIn
+  no-layout-in h = rw (lt-ltb 4 layout h)
+
+  pub no-mode-in : layout ≤ 4 → 1 < mode → old ≡ workIn layout mode after old
+  unfolding workIn
+  no-mode-in h k = rw (le-ltb 4 layout h, lt-ltb 1 mode k)
+
+  pub mode-in : (l : Layout) (m : Mode) → States layout l → Chooses mode m → (new : List ℕ) → new ≡ after l
+      → new ≡ workIn layout mode after old
+  unfolding workIn
+  mode-in l m y z new e = e ∙ ap after (y .is) ∙ rw (le-ltb 4 layout (y .known), le-ltb 1 mode (z .known))
+
+-- ---- an answer that is a reason
+
+pub reason-codes : (layout mode : ℕ) (f : Layout → Mode → Reason) (l : Layout) (m : Mode) → States layout l → Chooses mode m
+    → (room : ℕ) (r : Reason) → r ≡ f l m → (a : Answer) (n : ℕ) (old new : List ℕ)
+    → Answers (roomed room (reasonWords r)) a old new → n ≡ numbered a
+    → Codes (stated layout (λ k. chosen mode (λ j. roomed room (reasonWords (f k j))))) n old new
+reason-codes layout mode f l m y z room r e a n old new g =
+    mode-codes layout mode (λ k j. roomed room (reasonWords (f k j))) l m y z a n old new
+    (subst (λ (q : Reason). Answers (roomed room (reasonWords q)) a old new) e g)
 
 -- ---- an answer that counts strings
 

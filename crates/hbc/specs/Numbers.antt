@@ -67,3 +67,7 @@ usedBy layout mode used = pick (ltb 4 layout) false (pick (ltb 1 mode) false (us
 -- the one of the writer, or an index, afterwards
 unfoldable pub workBy : ℕ → (Layout → List ℕ) → List ℕ → List ℕ
 workBy layout after old = pick (ltb 4 layout) old (after (layoutOf layout))
+
+-- an index afterwards, where there is a mode too
+unfoldable pub workIn : ℕ → ℕ → (Layout → List ℕ) → List ℕ → List ℕ
+workIn layout mode after old = pick (ltb 4 layout) old (pick (ltb 1 mode) old (after (layoutOf layout)))

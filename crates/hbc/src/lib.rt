@@ -5,10 +5,11 @@ use format::Layout;
 use format::Mode;
 use function_table::FunctionRead;
 use reader::StringRead;
-use string_index::Entry;
 use string_index::Filled;
 use string_index::Lookup;
+use string_reasons::Reason;
 ghost use mathlib.Core.Path.{_≡_};
+ghost use mathlib.Core.List.{[], _∷_};
 ghost use Prim.Native.Nat.{_+_, _≤_};
 ghost use lib.ListN.{length};
 ghost use Rattle.bits.specs.Bytes.{bytesAt};
@@ -23,10 +24,11 @@ ghost use Rattle.po_write.specs.File.{writePo, workAfter};
 ghost use Rattle.functions.specs.Patch.{patchBody};
 ghost use Rattle.listing_pieces.specs.Listing.{partRoom, listingPart};
 ghost use Rattle.string_index.specs.Index.{filledAs, indexAfter, lookUp};
+ghost use Rattle.string_reasons.specs.Reasons.{reasonOf};
 ghost use Rattle.facts.specs.Facts.{imageFacts, stringFacts, stringFactsFrom};
-ghost use Rattle.hbc.specs.Reads.{stringReading, bodyReading, entryWords, lookedUp};
+ghost use Rattle.hbc.specs.Reads.{stringReading, bodyReading, lookedUp, reasonWords};
 ghost use Rattle.hbc.specs.Numbers.{admitNumber, numbered, modeOf, Codes, stated, chosen, usedBy, workBy};
-ghost use Rattle.hbc.specs.Numbers.{countNumbered, countStated};
+ghost use Rattle.hbc.specs.Numbers.{countNumbered, countStated, workIn};
 
 // A layout byte is at most that.
 const LAST_LAYOUT: u8 = 4;
@@ -384,28 +386,29 @@ pub extern "C" fn nepuladrim_fill_index(image: &[u8], layout: u8, index: &mut [u
     count_number(string_index::fill_index(image, input_records::layout_of(layout), index))
 }
 
-// How many words an entry has.
+// How many words an entry has, and a reason.
 const ENTRY: usize = 3;
 
-// The words of an entry at the front of a buffer.
-fn put_entry(entry: Entry, out: &mut [u32]) -> Answer
-    ensures { λ r. ⌜ Answers (roomed (length (now (out .entry))) (made (entryWords entry))) r (now (out .entry)) (now (out .exit)) ⌝ }
+// Three words at the front of a buffer.
+fn put_words(first: u32, second: u32, third: u32, out: &mut [u32]) -> Answer
+    ensures { λ r. ⌜ Answers (roomed (length (now (out .entry))) (made (first ∷ second ∷ third ∷ []))) r (now (out .entry))
+        (now (out .exit)) ⌝ }
 {
     if out.len() < ENTRY {
         return Answer::Refused(refusals::ROOM);
     }
-    out[0] = entry.offset;
-    out[1] = entry.length;
-    out[2] = entry.flags;
+    out[0] = first;
+    out[1] = second;
+    out[2] = third;
     Answer::Length(ENTRY)
 }
 
-// The same of a look-up, or its refusal.
+// The words of an entry that was looked up, or its refusal.
 fn put_looked_up(looked: Lookup, out: &mut [u32]) -> Answer
     ensures { λ r. ⌜ Answers (roomed (length (now (out .entry))) (lookedUp looked)) r (now (out .entry)) (now (out .exit)) ⌝ }
 {
     match looked {
-        Lookup::Found(entry) => put_entry(entry, out),
+        Lookup::Found(entry) => put_words(entry.offset, entry.length, entry.flags, out),
         Lookup::Refused(n) => Answer::Refused(n),
     }
 }
@@ -417,6 +420,66 @@ pub extern "C" fn nepuladrim_look_up(index: &[u32], count: usize, id: u32, out: 
         (now (out .exit)) ⌝ }
 {
     number(put_looked_up(string_index::look_up(index, count, id as usize), out))
+}
+
+// ---- why a string patch takes the path that it takes
+
+const IN_PLACE: u32 = 0;
+
+const WIDE: u32 = 1;
+
+const NOT_ASCII: u32 = 2;
+
+const LENGTHS: u32 = 3;
+
+const OVERLAP: u32 = 4;
+
+// The code of a reason and its two words, or its refusal.
+fn put_reason(reason: Reason, out: &mut [u32]) -> Answer
+    ensures { λ r. ⌜ Answers (roomed (length (now (out .entry))) (reasonWords reason)) r (now (out .entry)) (now (out .exit)) ⌝ }
+{
+    match reason {
+        Reason::Refused(n) => Answer::Refused(n),
+        Reason::InPlace => put_words(IN_PLACE, 0, 0, out),
+        Reason::Wide => put_words(WIDE, 0, 0, out),
+        Reason::NotAscii => put_words(NOT_ASCII, 0, 0, out),
+        Reason::Lengths(entry, value) => put_words(LENGTHS, entry, value, out),
+        Reason::Overlap(id) => put_words(OVERLAP, id, 0, out),
+    }
+}
+
+// Why a patch of string `id` takes the path that it takes. The index is lent, and filled anew.
+#[no_mangle]
+pub extern "C" fn nepuladrim_why<'a>(
+    image: &'a [u8],
+    layout: u8,
+    mode: u8,
+    id: u32,
+    value: &'a [u8],
+    index: &mut [u32],
+    out: &mut [u32],
+) -> u64
+    ensures { λ r. ⌜ Codes (stated layout (λ l. chosen mode (λ m. roomed (length (now (out .entry)))
+        (reasonWords (reasonOf m l (now (image .entry)) (length (now (index .entry))) id (now (value .entry))))))) r (now (out .entry))
+        (now (out .exit)) ⌝ }
+    ensures { λ _. ⌜ now (index .exit) ≡ workIn layout mode (λ l. indexAfter l (now (image .entry)) (now (index .entry)))
+        (now (index .entry)) ⌝ }
+{
+    if LAST_LAYOUT < layout {
+        return REFUSED_JOB;
+    }
+    if LAST_MODE < mode {
+        return REFUSED_JOB;
+    }
+    let reason = string_reasons::why(
+        image,
+        input_records::layout_of(layout),
+        mode_of(mode),
+        id as usize,
+        value,
+        index,
+    );
+    number(put_reason(reason, out))
 }
 
 // ---- facts: what is known of an image, or of its strings, as numbers

@@ -49,7 +49,7 @@ use Rattle.patches.proofs.RefusalLaws.{Beyond, patch-wrong, patch-faile
 
 -- ---- the checks of a step: those of the patch, and the room
 
-abbrev ownChecks : Layout → List ℕ → Patch → List Check
+abbrev pub ownChecks : Layout → List ℕ → Patch → List Check
 ownChecks l s (byId m id value) =
     check 7 (leb (stringsIn s) id) ∷ check 8 (not (isUtf8 value)) ∷ string.resultChecks m l s (only id value)
 ownChecks l s (byValue m old new) =
@@ -74,10 +74,10 @@ ownChecks l s (toBody id body) =
     ∷ []
 
 module _ (l : Layout) (s : List ℕ) (room : ℕ) where
-  abbrev roomCheck : Patch → List Check
+  abbrev pub roomCheck : Patch → List Check
   roomCheck p = check 13 (ltb room (goesTo l s p (length s))) ∷ []
 
-  abbrev allChecks : Patch → List Check
+  abbrev pub allChecks : Patch → List Check
   allChecks p = checks l s ++ (ownChecks l s p ++ roomCheck p)
 
   -- ---- a check that is met is a fault
@@ -96,7 +96,7 @@ module _ (l : Layout) (s : List ℕ) (room : ℕ) where
       let (j, h, d, w) = alone-wrong l s id e in
       elim w [ inl x ↦ shares id body j h d x | inr (z, x, y) ↦ within id body j h d z x y ]
 
-  own-shows : (p : Patch) → Shows (PatchFault l s room p) (ownChecks l s p ++ roomCheck p)
+  pub own-shows : (p : Patch) → Shows (PatchFault l s room p) (ownChecks l s p ++ roomCheck p)
   unfolding targetOf
   own-shows (byId m id value) =
       (λ t. noString m id value (leb-true (stringsIn s) id t))
@@ -146,7 +146,7 @@ module _ (l : Layout) (s : List ℕ) (room : ℕ) where
       → given 12 (string.resultChecks m l s v ++ roomCheck p) ≡ true
   field-given m v p x = rw (patch-failed m l s v x)
 
-  own-gives : (p : Patch) (n : ℕ) → PatchFault l s room p n → given n (allChecks p) ≡ true
+  pub own-gives : (p : Patch) (n : ℕ) → PatchFault l s room p n → given n (allChecks p) ≡ true
   unfolding targetOf
   own-gives p n (badImage q m x) = given-first n (checks l s) (ownChecks l s p ++ roomCheck p) (faults.gives l s n x)
   own-gives p n (noString m id value h) = given-last n (checks l s) _ (rw (le-leb (stringsIn s) id h))

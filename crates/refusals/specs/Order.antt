@@ -34,6 +34,10 @@ ofStringByValue = ofImage ++ (refusals.value ∷ refusals.absent ∷ ofResult)
 abbrev pub ofFile : List ℕ
 ofFile = ofImage ++ (refusals.file ∷ refusals.absent ∷ ofResult)
 
+-- 02, No. 6: those of a patch by id, but for 13, which is of the lent index and comes right behind 1 to 6
+abbrev pub ofReason : List ℕ
+ofReason = ofImage ++ (refusals.room ∷ refusals.id ∷ refusals.value ∷ refusals.limit ∷ refusals.field ∷ [])
+
 -- "bodies 7, 9, 10"
 abbrev pub ofBody : List ℕ
 ofBody = ofImage ++ (refusals.id ∷ refusals.inside ∷ refusals.empty ∷ ofResult)

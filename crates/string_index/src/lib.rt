@@ -85,10 +85,11 @@ pub fn look_up(index: &[u32], count: usize, id: usize) -> Lookup
     Lookup::Found(entry_at(index, count, id))
 }
 
-// String `id` of the image that an index was filled from.
+// String `id` of the image that an index was filled from. Whatever the index holds are words.
 pub fn string_in(index: &[u32], p: Places, id: usize) -> HeldString
     requires { ⌜ (wordsFor (p .strings) ≤ length (now index)) × (id < p .strings) ⌝ }
     ensures { λ r. ⌜ ((s : List ℕ) → Laid p s → Indexed p s (now (index .entry)) → Tells p s id r) ⌝ }
+    ensures { λ r. ⌜ (r .place .at < 4294967296) × (r .place .count < 4294967296) ⌝ }
 {
     let entry = entry_at(index, p.strings, id);
     HeldString {

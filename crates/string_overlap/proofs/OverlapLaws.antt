@@ -50,20 +50,20 @@ pub record OverlapTested (p : Places) (s : List ℕ) (id i : ℕ) (own other : P
   pub tested : r ≡ implies (not (eqb i id)) (not (overlap (asPlace own) (asPlace other)))
 
 module _ (p : Places) (s : List ℕ) (id i : ℕ) (own other : Place) (r : Bool) (h : OverlapTested p s id i own other r) where
-  tested : r ≡ isApart (p .layout) s id i
+  pub apart-is : r ≡ isApart (p .layout) s id i
   unfolding isApart
-  tested =
+  apart-is =
       h .tested ∙ ap (λ (q : entry.Place). implies (not (eqb i id)) (not (overlap q (asPlace other)))) (h .this .is)
       ∙ ap (λ (q : entry.Place). implies (not (eqb i id)) (not (overlap (placeAt (p .layout) s id) q))) (h .that .is)
 
   pub alone-next : not r ≡ false → allBelow i (isApart (p .layout) s id) ≡ true
       → allBelow (i + 1) (isApart (p .layout) s id) ≡ true
-  alone-next t a = pass-next (isApart (p .layout) s id) i r tested t a
+  alone-next t a = pass-next (isApart (p .layout) s id) i r apart-is t a
 
   pub not-alone : not r ≡ true → i < p .strings → false ≡ isAlone (p .layout) s id
   unfolding isAlone
   not-alone t b =
-      rw (← sectioned p s (h .placed) .strings) (pass-stop (isApart (p .layout) s id) (p .strings) i r b tested t)
+      rw (← sectioned p s (h .placed) .strings) (pass-stop (isApart (p .layout) s id) (p .strings) i r b apart-is t)
 
 pub alone : (p : Places) (s : List ℕ) → Placed p s → (id i : ℕ) → i ≡ p .strings
     → allBelow i (isApart (p .layout) s id) ≡ true → true ≡ isAlone (p .layout) s id

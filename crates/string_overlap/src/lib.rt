@@ -23,7 +23,7 @@ fn do_overlap(a: Place, b: Place) -> bool
 }
 
 // Whether string `i`, at `other`, is string `id`, or does not overlap it, which stands at `own`.
-fn is_apart(i: usize, id: usize, own: Place, other: Place) -> bool
+pub fn is_apart(i: usize, id: usize, own: Place, other: Place) -> bool
     requires { ⌜ Low own × Low other ⌝ }
     ensures { λ r. ⌜ r ≡ implies (not (eqb i id)) (not (overlap (asPlace own) (asPlace other))) ⌝ }
 {

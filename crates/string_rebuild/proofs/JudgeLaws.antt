@@ -29,7 +29,7 @@ use Rattle.string_packing.specs.declared.Sizes.{Sizes}
 use Rattle.string_packing.specs.Strings.{stringWith}
 use Rattle.string_packing.specs.Pass.{stringMost, Measured}
 use Rattle.string_packing.proofs.PassLaws.{tail-is}
-use Rattle.string_in_place.specs.Patch.{fitsAll, changed, patchedStrings, newLength, patchFits, patchKnown}
+use Rattle.string_in_place.specs.Patch.{fitsAll, changed, patchedStrings, newLength, patchFits, resultChecks, patchKnown}
 use Rattle.string_in_place.proofs.FinishLaws.{length-finished, Makes}
 use Rattle.string_rebuild.specs.declared.Plan.{Plan}
 use Rattle.string_rebuild.specs.Ready.{tailOf, planOf, Planned, planRefusal, numberOf}
@@ -180,6 +180,11 @@ module _ (m : Mode) (p : Places) (s : List ℕ) (v : Values) (plan : Plan) (laid
       rw (long-is, fits-is)
       (judged-room (ltb sizeLimit (plan .length)) (not (fieldsFit (p .layout) s (moved (p .tail) (plan .tail)))) room (plan .length)
       (patchedStrings m (p .layout) s v) length-patched)
+
+  -- in the room that it asks for it meets 11 and 12 alone
+  pub refusal-roomless : planRefusal p s plan (plan .length) ≡ judge (resultChecks m (p .layout) s v)
+  unfolding planRefusal judge
+  refusal-roomless = rw (long-is, fits-is, le-ltb (plan .length) (plan .length) (omega arith))
 
   pub met-refused : (out : List ℕ) (n : ℕ) → n ≡ planRefusal p s plan (length out) → n ≢ 0
       → Answers (roomed (length out) (patchKnown m (p .layout) s v)) (Refused n) out out

@@ -85,7 +85,7 @@ module _ (m : Mode) (p : Places) (s : List ℕ) (laid : Laid p s) (id : ℕ) (kn
     | inr f ↦ turn-only id value (λ i x b. both (fitsInPlace (p .layout) s i x) b) true (stringsIn s) known-in ∙ rw f
   ]
 
-  too-long : sizeLimit < newLength m (p .layout) s (only id value)
+  pub too-long : sizeLimit < newLength m (p .layout) s (only id value)
   unfolding newLength
   too-long =
       rw moves

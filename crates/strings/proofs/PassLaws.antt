@@ -126,7 +126,7 @@ one-known id n h i j t =
     let q : id ≡ i = rw e at (t .1) in
     omega arith
 
-one-values : (id : ℕ) (value : List ℕ) → valuesListed (id ∷ []) value (length value ∷ []) ≡ only id value
+pub one-values : (id : ℕ) (value : List ℕ) → valuesListed (id ∷ []) value (length value ∷ []) ≡ only id value
 unfolding valuesOf valueIn startIn
 one-values id value =
     let e : length value - 0 ≡ length value = omega arith in

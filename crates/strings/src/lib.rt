@@ -21,7 +21,7 @@ ghost use Rattle.strings.specs.Patch.{patchById, patchByValue};
 ghost use Rattle.strings.specs.Pass.{patchStrings};
 
 // A value of more bytes is longer than any image, as a string too.
-const LONGEST: usize = 4294967295;
+pub const LONGEST: usize = 4294967295;
 
 // Strings of an admitted image get the values that words tell: in place where each fits there, else
 // by one rebuild.

@@ -3,6 +3,7 @@
 //
 // A frame is read into arrays that the program lends, one frame at a time, so that memory does not
 // grow with the stream and each program decides how long a buffer it takes.
+use format::Mode;
 use libc::STDIN_FILENO;
 use libc::STDOUT_FILENO;
 ghost use mathlib.Core.Path.{_≡_};
@@ -49,6 +50,48 @@ pub fn buffer_length(head: &[u8; HEAD]) -> usize {
     bits::word(head, 4) as usize
 }
 
+// A call's buffer that was read in two parts, or not: their lengths.
+pub struct Parts {
+    pub is_read: bool,
+    pub first: usize,
+    pub rest: usize,
+}
+
+// Reads a call's buffer in two parts, into the fronts of two rooms: its first bytes, as many as are
+// asked for, and the rest. Where a room is too short, or the stream, neither part has a byte.
+pub fn read_parts(head: &[u8; HEAD], first: usize, a: &mut [u8], b: &mut [u8]) -> Parts
+    ensures { λ r. ⌜ (r .first ≤ length (now (a .exit))) × (r .rest ≤ length (now (b .exit))) ⌝ }
+{
+    let none = Parts {
+        is_read: false,
+        first: 0,
+        rest: 0,
+    };
+    let whole = buffer_length(head);
+    if whole < first {
+        return none;
+    }
+    let rest = whole - first;
+    if first > a.len() {
+        return none;
+    }
+    if rest > b.len() {
+        return none;
+    }
+    // Of a part with a start, the check finds the length by itself.
+    if !read(&mut a[0..first]) {
+        return none;
+    }
+    if !read(&mut b[0..rest]) {
+        return none;
+    }
+    Parts {
+        is_read: true,
+        first,
+        rest,
+    }
+}
+
 // Argument `i`, as it stands.
 pub fn word(head: &[u8; HEAD], i: usize) -> u32
     requires { ⌜ i < 32 ⌝ }
@@ -68,6 +111,17 @@ pub fn flag(head: &[u8; HEAD], i: usize) -> bool
     requires { ⌜ i < 32 ⌝ }
 {
     word(head, i) != 0
+}
+
+// Argument `i` as a mode: 0 plain, 1 even.
+pub fn mode(head: &[u8; HEAD], i: usize) -> Mode
+    requires { ⌜ i < 32 ⌝ }
+{
+    let x = word(head, i);
+    match x {
+        0 => Mode::Plain,
+        _ => Mode::Even,
+    }
 }
 
 // Argument `i` as a signed number of these 32 bits. One with the top bit set is the complement of a

@@ -21,14 +21,6 @@ fn last_mode(number: u64) -> u32 {
     }
 }
 
-// The mode of a word: 0 plain, 1 even.
-fn mode_of(word: u32) -> Mode {
-    match word {
-        0 => Mode::Plain,
-        _ => Mode::Even,
-    }
-}
-
 // The answer of a call. Its output is left as the function that it names leaves it.
 pub fn answer_call(head: &[u8; HEAD], inputs: &[u8], out: &mut [u8]) -> Answer {
     let number = test_frames::number(head);
@@ -46,7 +38,7 @@ pub fn answer_call(head: &[u8; HEAD], inputs: &[u8], out: &mut [u8]) -> Answer {
         return test_frames::bare(Status::Unknown);
     }
     let layout = input_records::layout_of(byte);
-    let mode = mode_of(mode_word);
+    let mode = test_frames::mode(head, 5);
     let id = word(head, 1) as usize;
     let new = &inputs[old_end..new_end];
     let image = &inputs[new_end..];

@@ -20,6 +20,7 @@ pub enum Export {
     PatchInPass,
     ReadPo,
     WritePo,
+    Why,
 }
 
 /// A call, but for its lent buffers. What an export does not take is 0 or empty.
@@ -33,7 +34,7 @@ pub struct Call<'a> {
     pub inputs: [&'a [u8]; 4],
 }
 
-/// The output, and what is lent for work: the text, the ends, the words.
+/// The output, and what is lent for work: the text, the ends, the words. An index is such words.
 pub type Lent<'a> = [&'a mut [u8]; 4];
 
 impl Call<'_> {

@@ -2,6 +2,7 @@
 
 mod call;
 pub mod po;
+pub mod why;
 
 use call::{Call, Export};
 use oracle::job::packing::Mode;

@@ -1,6 +1,6 @@
 //! A second reading of document 02, No. 9: how many table entries locating a string visits. The tables are
 //! gone over as the Rust's `locate_string_bytes` does, through a reader that notes the place of each word
-//! that it reads; an entry is visited where one of its bytes was read. And of document 02, No. 5: the rank of
+//! that it reads; an entry is visited where one of its words was read. And of document 02, No. 5: the rank of
 //! an identifier, counted among the flags of all strings, laid out one by one.
 
 use std::collections::BTreeSet;
@@ -21,22 +21,22 @@ pub struct Located {
     pub rank: Option<usize>,
 }
 
-/// The bytes of an image, and the places that were read.
+/// The bytes of an image, and the places of the words that were read.
 struct Noted<'a> {
     image: &'a [u8],
-    places: BTreeSet<u64>,
+    places: Vec<u64>,
 }
 
 impl Noted<'_> {
     fn word(&mut self, at: u64) -> u32 {
-        self.places.extend(at..at + 4);
+        self.places.push(at);
         word(self.image, at as usize)
     }
 
-    /// How many entries of a table were read.
+    /// How many entries of a table were read. Each is one word or two.
     fn entries(&self, from: u64, to: u64, size: u64) -> usize {
-        let read = self.places.range(from..to).map(|place| (place - from) / size);
-        read.collect::<BTreeSet<_>>().len()
+        let read = self.places.iter().filter(|place| (from..to).contains(place));
+        read.map(|place| (place - from) / size).collect::<BTreeSet<_>>().len()
     }
 }
 
@@ -47,7 +47,7 @@ pub fn locate(reading: &Reading, id: u32) -> Result<Located, u32> {
         return Err(7);
     }
     let places = reading.places();
-    let mut tables = Noted { image: reading.image, places: BTreeSet::new() };
+    let mut tables = Noted { image: reading.image, places: vec![] };
     let mut overflows = 0;
     let mut found = (false, 0, 0);
     for i in 0..=u64::from(id.min(strings)) {

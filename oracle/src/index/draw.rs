@@ -26,7 +26,7 @@ pub fn call(random: &mut Random) -> Call {
 
 /// An image and the layout that it is read by: one in eight is damaged, and a few are read by another layout than they
 /// were made for.
-fn image(random: &mut Random) -> (Layout, Vec<u8>) {
+pub fn image(random: &mut Random) -> (Layout, Vec<u8>) {
     let layout = random.pick(&LAYOUTS);
     let shape = match random.below(1000) {
         0 => HUGE,
@@ -46,7 +46,7 @@ fn is_admitted(layout: Layout, image: &[u8]) -> bool {
 }
 
 /// As many words as are asked for, or about as many; any words, one word in all places, those of the image's own index.
-fn index(random: &mut Random, layout: Layout, image: &[u8]) -> Vec<u32> {
+pub fn index(random: &mut Random, layout: Layout, image: &[u8]) -> Vec<u32> {
     let count = (word(image, STRINGS) as usize).min(LIST);
     let length = match random.below(8) {
         0 => random.pick(&[0, count, 2 * count, (3 * count).saturating_sub(1), 3 * count + 1]),

@@ -1,13 +1,14 @@
 //! Calls 37 to 39: an index of an image's strings, filled and looked up, and the listing that is made with one. The Rust
 //! has none, so all answers are those of **a second reading** of documents 01 and 02.
 
-mod draw;
+pub mod draw;
 mod fixed;
+pub mod images;
 mod listing;
 mod lookup;
 mod parts;
-mod reading;
-mod slip;
+pub mod reading;
+pub mod slip;
 
 use crate::family::Argument::*;
 use crate::family::{halves, long_at, Answered, Family, Function};
@@ -17,7 +18,7 @@ use reading::Reader;
 use slip::Slip;
 
 /// The most words of an index, the longest image with an index behind it, and the longest output.
-const LIST: usize = 1_024;
+pub const LIST: usize = 1_024;
 const INPUTS: usize = 65_536 + 4 * LIST;
 const OUTPUT: usize = 28_672;
 
@@ -83,19 +84,19 @@ fn listed(reader: Reader, a: &[u32; ARGUMENTS], buffer: &mut [u8]) -> Answered {
 }
 
 /// Lends bytes as words, which stay as they are left.
-fn lent(bytes: &mut [u8], to: impl FnOnce(&mut [u32]) -> Answered) -> Answered {
+pub fn lent<T>(bytes: &mut [u8], to: impl FnOnce(&mut [u32]) -> T) -> T {
     let mut index = words(bytes);
     let answered = to(&mut index);
     bytes.copy_from_slice(&in_bytes(&index));
     answered
 }
 
-fn in_bytes(index: &[u32]) -> Vec<u8> {
+pub fn in_bytes(index: &[u32]) -> Vec<u8> {
     index.iter().flat_map(|word| word.to_le_bytes()).collect()
 }
 
 /// An index filled from an image that is admitted.
-fn index_of(layout: Layout, image: &[u8]) -> Vec<u32> {
+pub fn index_of(layout: Layout, image: &[u8]) -> Vec<u32> {
     let mut index = vec![0; 3 * word(image, STRINGS) as usize];
     Reader(None).fill(layout, image, &mut index).unwrap();
     index

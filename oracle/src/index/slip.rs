@@ -1,17 +1,6 @@
 //! Mistakes that a program could make with an index, each against some words of document 02, No. 13, by what is done:
 //! filling, which the listing does too; its answer; looking up; listing.
 
-macro_rules! slips {
-    ($($group:ident { $($name:ident)* })*) => {
-        #[derive(Clone, Copy, PartialEq, Debug)]
-        pub enum Slip {
-            $($($name,)*)*
-        }
-
-        $(pub const $group: &[Slip] = &[$(Slip::$name,)*];)*
-    };
-}
-
 slips! {
     FILLING {
         // Where the words of a string go.

@@ -12,9 +12,26 @@ use crate::image::reading::Reading;
 use crate::leaves::record::{self, set_pointer};
 
 pub enum Patch {
-    Text { id: u32, value: Vec<u8>, packing: Packing },
-    Replace { old: Vec<u8>, value: Vec<u8>, packing: Packing },
-    Body { id: u32, bytes: Vec<u8> },
+    Text {
+        id: u32,
+        value: Vec<u8>,
+        packing: Packing,
+    },
+    /// The same by a rebuild, though the value fits in place.
+    Rebuilt {
+        id: u32,
+        value: Vec<u8>,
+        packing: Packing,
+    },
+    Replace {
+        old: Vec<u8>,
+        value: Vec<u8>,
+        packing: Packing,
+    },
+    Body {
+        id: u32,
+        bytes: Vec<u8>,
+    },
 }
 
 const LIMIT: u64 = 67_108_864;
@@ -30,6 +47,9 @@ pub fn patch(layout: Layout, image: &[u8], room: u64, patch: &Patch) -> Result<V
     let parts = Parts::of(layout, image);
     match patch {
         Patch::Text { id, value, packing } => parts.with_text(*id as usize, value, *packing, room),
+        Patch::Rebuilt { id, value, packing } => {
+            parts.packed_anew(*id as usize, value, *packing, room)
+        }
         Patch::Replace { old, value, packing } => parts.replaced(old, value, *packing, room),
         Patch::Body { id, bytes } => parts.with_body(*id as usize, bytes, room),
     }
@@ -139,27 +159,41 @@ impl<'a> Parts<'a> {
         packing: Packing,
         room: u64,
     ) -> Result<Vec<u8>, u32> {
+        let text = self.valued(id, value)?;
+        let is_odd = |text: &Text| text.wide && text.start % 2 == 1;
+        let is_moved = packing.slips(Slip::InPlaceOnlyWhereEven) && self.texts.iter().any(is_odd);
+        if !self.fits_in_place(id, value) || is_moved {
+            return self.packed_anew(id, value, packing, room);
+        }
+        if room < self.image.len() as u64 {
+            return Err(13);
+        }
+        let mut new = self.image.to_vec();
+        let start = self.storage + self.texts[id].start;
+        new[start..start + value.len()].copy_from_slice(value);
+        self.put_hash(&mut new, id, text);
+        Ok(finish(new))
+    }
+
+    fn packed_anew(
+        &self,
+        id: usize,
+        value: &[u8],
+        packing: Packing,
+        room: u64,
+    ) -> Result<Vec<u8>, u32> {
+        let text = self.valued(id, value)?;
+        let mut new = self.rebuilt(&BTreeMap::from([(id, text)]), packing, room)?;
+        self.put_hash(&mut new, id, text);
+        Ok(finish(new))
+    }
+
+    /// The value as text, or 7 and 8.
+    fn valued<'v>(&self, id: usize, value: &'v [u8]) -> Result<&'v str, u32> {
         if id >= self.texts.len() {
             return Err(7);
         }
-        let Ok(text) = std::str::from_utf8(value) else {
-            return Err(8);
-        };
-        let is_odd = |text: &Text| text.wide && text.start % 2 == 1;
-        let is_moved = packing.slips(Slip::InPlaceOnlyWhereEven) && self.texts.iter().any(is_odd);
-        let mut new = if self.fits_in_place(id, value) && !is_moved {
-            if room < self.image.len() as u64 {
-                return Err(13);
-            }
-            let mut new = self.image.to_vec();
-            let start = self.storage + self.texts[id].start;
-            new[start..start + value.len()].copy_from_slice(value);
-            new
-        } else {
-            self.rebuilt(&BTreeMap::from([(id, text)]), packing, room)?
-        };
-        self.put_hash(&mut new, id, text);
-        Ok(finish(new))
+        std::str::from_utf8(value).map_err(|_| 8)
     }
 
     /// An identifier's hash in the slot of its rank.

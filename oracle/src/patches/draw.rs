@@ -39,7 +39,7 @@ pub const VALUES: [Value; 10] = [
 ];
 
 /// Each is refused for another row of the table of well-formed byte sequences.
-pub(super) const NO_UTF8: [&[u8]; 10] = [
+pub const NO_UTF8: [&[u8]; 10] = [
     b"\x80",
     b"a\xc3",
     b"\xc0\x80",

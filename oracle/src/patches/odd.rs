@@ -188,11 +188,22 @@ pub fn grown(
         let strings = due(layout, bytes, &[(true, 1), (false, 1)]);
         Bare { functions, tail: tail_bytes, ..strings }.image()
     };
+    ending_at(layout, tail, padding, "", image)
+}
+
+/// The image of as many bytes, less the padding, as leave the tail at a place or before it, where string 0 gets a value by a
+/// rebuild in plain mode.
+pub fn ending_at(
+    layout: u8,
+    tail: usize,
+    padding: usize,
+    value: &str,
+    image: impl Fn(usize) -> Vec<u8>,
+) -> Vec<u8> {
     let is_before = |bytes: usize| {
         let reading = Reading { layout: Layout(layout), image: &image(bytes), slip: None };
-        texts::rebuilt_tail(&reading, &reading.strings(), 0, "") as usize <= tail
+        texts::rebuilt_tail(&reading, &reading.strings(), 0, value) as usize <= tail
     };
-    // The most bytes that leave the tail there.
     let (mut least, mut most) = (0, tail);
     while least + 1 < most {
         let middle = (least + most) / 2;

@@ -6,7 +6,7 @@ use mathlib.Core.Path.{refl}
 use Rattle.bits.specs.Outcome.{roomed}
 
 returns : tie.Need-returns
-returns c = let at-put = c .before .before in rw (at-put .before .before .before .looked .given .1) (at-put .put-entry .ensures)
+returns c = let at-put = c .before .before in rw (at-put .before .before .before .looked .given .1) (at-put .put-words .ensures)
 
 returns-2 : tie.Need-returns-2
 unfolding roomed

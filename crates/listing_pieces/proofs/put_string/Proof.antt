@@ -20,7 +20,7 @@ returns-2 c = λ s ready good.
     (record {
       known = at-test .if1 .left;
       counted = good;
-      tells = at-string .string-in .ensures s (ready .laid) (ready .index);
+      tells = at-string .string-in .ensures .0 s (ready .laid) (ready .index);
       wrote = w .ensures .0;
       most = w .ensures .1;
     })

@@ -15,7 +15,7 @@ line c =
       laid = h .0 .laid;
       known = h .1 .0 .0;
       counted = h .1 .0 .1;
-      tells = c .string-in .ensures _ (h .0 .laid) (h .0 .index);
+      tells = c .string-in .ensures .0 _ (h .0 .laid) (h .0 .index);
     }
 
 slot-of-requires : tie.Need-slot-of-requires
