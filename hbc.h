@@ -5,9 +5,9 @@
 // not overlap. `layout` is 0 modern; 1 legacy, 2 with big integers, 3 with function sources, 4 both. Strings and functions go by
 // their ids from 0.
 //
-// `mode` says where strings go when they are packed anew. 0 plain: each where the one before it ends. 1 even: the same, but a wide
-// string, an empty one too, starts at an even offset of storage, so at an even place, behind one zero byte where that is needed. A patch
-// that fits in place moves no string, and is the same in both.
+// `mode` says where strings go when a string patch packs them anew. 0 plain: each where the one before it ends. 1 even: the same, but
+// a wide string, an empty one too, starts at an even offset of storage, so at an even place, behind one zero byte where that is needed.
+// A patch that fits in place moves no string, and is the same in both.
 //
 // String patches of different strings, in one mode, may be made in any order, one behind the other: where every call is accepted, the last
 // image is the same, byte for byte. What a patch by value finds must not hang on the order, and no other patch may set that string.
@@ -89,22 +89,6 @@ uint64_t nepuladrim_read_po(const uint8_t *image, size_t image_length, uint8_t l
 // that would have 2^32 bytes or more.
 uint64_t nepuladrim_write_po(const uint8_t *image, size_t image_length, uint8_t layout, uint32_t *work, size_t work_length, uint8_t *out,
                              size_t out_length);
-
-// The image with equal strings stored once. All strings are packed anew, in the order of their ids, and those of the same width and the
-// same units share the place of the lowest id among them, empty ones too; but no part of a longer string is shared, and no narrow string
-// with a wide one. In even mode each wide string that is stored starts at an even offset. Strings, kinds, hashes as they are stored, and
-// bodies read as before; also where nothing is shared the image gets its file length and footer. It is never longer than the same strings
-// packed anew each for itself, in the same mode, and repacked again in that mode it is the same bytes. It may be longer than the image that
-// is given, where strings may share bytes without being equal. Repack last: a later patch that packs the strings anew stores each for
-// itself, and one of a string that shares its place, and is not empty, always does so.
-// `work` is lent to work in, NEPULADRIM_REPACK_WORDS words for each string of the image, and `work_length` counts words. They are zeros
-// afterwards, whatever the answer is, and what lies behind them is as it was.
-// Refused with 15, for another layout or mode byte; 1 to 6; 13 where `work` is shorter, of which nothing is written then; and 11, 12, 13
-// for the image that would come out.
-uint64_t nepuladrim_repack(const uint8_t *image, size_t image_length, uint8_t layout, uint8_t mode, uint32_t *work, size_t work_length,
-                           uint8_t *out, size_t out_length);
-
-enum { NEPULADRIM_REPACK_WORDS = 5 };
 
 // The body of function `id` becomes other bytes. Refused with 15, 1 to 7, 9 to 13.
 uint64_t nepuladrim_patch_function_bytes(const uint8_t *image, size_t image_length, uint8_t layout, uint32_t id,

@@ -7,7 +7,7 @@
 typedef int command(char **words);
 
 // The one of `hbc index` is called otherwise: the C library has an `index`.
-command demo, extract, help, index_strings, list, locate, patch, repack, translate, verify, why;
+command demo, extract, help, index_strings, list, locate, patch, translate, verify, why;
 
 // What `hbc help` prints.
 void print_usage(FILE *to);

@@ -92,27 +92,6 @@ static const char PATCH[] =
     "the edits of a pass it says what was done with all of them, and how long the image was before and after. The edit of a body is\n"
     "a pass of its own, and moves no string.\n";
 
-static const char REPACK[] =
-    "usage: hbc repack IMAGE OUT [--layout LAYOUT] [--even] [--dry-run] [--all]\n"
-    "Writes the image with equal strings stored once to OUT, and prints what is shared and what that saves. All strings are packed\n"
-    "anew, lowest id first; of those that have the same text and the same width, narrow or wide, the first is stored, and the others\n"
-    "share its place. Strings, kinds, hashes and bodies read as before. A part of a longer string is not shared.\n"
-    "\n"
-    "Repack last: a later edit that does not fit in place packs all strings anew, each for itself, and nothing is shared any more. An\n"
-    "edit of a string that shares its place, and is not empty, never fits in place. hbc why tells it before.\n"
-    "\n"
-    "Printed are the groups of equal strings, a line each, in the order of their lowest ids: the first 20 groups with 8 ids each, or\n"
-    "with --all every one. Then the sums, beside what the same strings would take if none were shared, in the same mode:\n"
-    "  string 1 \"Save\" (4 bytes) is stored once for 3 more: 3, 7, 9\n"
-    "  strings: 40, 12 of them share the place of another; 9 groups\n"
-    "  storage: 512 bytes, 640 if each string were stored for itself (128 saved)\n"
-    "  image: 3,000 bytes before, 2,712 after; 2,840 if rebuilt without sharing\n"
-    "It is never longer than that, and to repack again changes nothing. But it can be longer than the image was before, where strings\n"
-    "shared bytes without being equal, as one that stands within another: these are stored apart. A last line says so then.\n"
-    "\n"
-    "--even starts wide strings at even places: hbc help patch. OUT is written as by hbc patch, and may be IMAGE. --dry-run judges\n"
-    "and prints the same and writes nothing; it needs no OUT.\n";
-
 static const char TRANSLATE[] =
     "usage: hbc translate IMAGE OUT FILE.po... [--layout LAYOUT] [--even] [--dry-run] [--no-fuzzy]\n"
     "Writes the image with the translations of the files to OUT, all of them or none, and prints what changed and how many pairs of\n"
@@ -169,8 +148,8 @@ static const char HELP[] = "usage: hbc help [COMMAND]\nPrints the commands, or w
 static const struct {
     const char *name, *text;
 } TEXTS[] = {
-    {"demo", DEMO},     {"extract", EXTRACT}, {"help", HELP},     {"index", INDEX},         {"install", INSTALL}, {"list", LIST},
-    {"locate", LOCATE}, {"patch", PATCH},     {"repack", REPACK}, {"translate", TRANSLATE}, {"verify", VERIFY},   {"why", WHY},
+    {"demo", DEMO},     {"extract", EXTRACT}, {"help", HELP},           {"index", INDEX},   {"install", INSTALL}, {"list", LIST},
+    {"locate", LOCATE}, {"patch", PATCH},     {"translate", TRANSLATE}, {"verify", VERIFY}, {"why", WHY},
 };
 
 void print_usage(FILE *to) {

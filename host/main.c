@@ -1,5 +1,4 @@
-// hbc: lists, patches and verifies Hermes bytecode images of every size, locates their strings, stores equal ones once, and brings them to
-// translators and back.
+// hbc: lists, patches and verifies Hermes bytecode images of every size, locates their strings, and brings these to translators and back.
 // It reads files and words, lends them to the proved functions of hbc.h, and writes what came back. Which image, edit or file is refused,
 // what is listed, what is made and why, those functions say.
 #include "commands.h"
@@ -12,9 +11,8 @@ static const struct {
     const char *name;
     command *run;
 } COMMANDS[] = {
-    {"demo", demo},     {"extract", extract}, {"help", help},     {"index", index_strings}, {"list", list},
-    {"locate", locate}, {"patch", patch},     {"repack", repack}, {"translate", translate}, {"verify", verify},
-    {"why", why},       {"--help", help},     {"-h", help},
+    {"demo", demo},   {"extract", extract},     {"help", help},     {"index", index_strings}, {"list", list},   {"locate", locate},
+    {"patch", patch}, {"translate", translate}, {"verify", verify}, {"why", why},             {"--help", help}, {"-h", help},
 };
 
 int main(int count, char **words) {

@@ -16,8 +16,10 @@ struct span {
 };
 
 static struct span span_of(const struct string_index *index, uint32_t id) {
-    const struct stored stored = stored_in(index, id);
-    return (struct span){stored.offset, (uint64_t)stored.offset + stored.bytes};
+    uint32_t found[NEPULADRIM_INDEX_WORDS] = {0};
+    nepuladrim_look_up(index->words, index->length, index->length / NEPULADRIM_INDEX_WORDS, id, found, NEPULADRIM_INDEX_WORDS);
+    uint64_t start = found[NEPULADRIM_INDEX_OFFSET], units = found[NEPULADRIM_INDEX_LENGTH];
+    return (struct span){start, start + (found[NEPULADRIM_INDEX_FLAGS] & NEPULADRIM_INDEX_WIDE ? 2 * units : units)};
 }
 
 static enum overlap overlap_of(struct span one, struct span other) {

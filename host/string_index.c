@@ -17,19 +17,3 @@ struct string_index room_for_index(struct bytes image) {
     size_t length = NEPULADRIM_INDEX_WORDS * (strings < most ? strings : most);
     return (struct string_index){words_for(length), length};
 }
-
-struct string_index index_of(struct bytes image, uint8_t layout) {
-    struct string_index index = room_for_index(image);
-    nepuladrim_fill_index(image.at, image.length, layout, index.words, index.length);
-    return index;
-}
-
-size_t strings_of(const struct string_index *index) { return index->length / NEPULADRIM_INDEX_WORDS; }
-
-struct stored stored_in(const struct string_index *index, uint32_t id) {
-    uint32_t found[NEPULADRIM_INDEX_WORDS] = {0};
-    nepuladrim_look_up(index->words, index->length, strings_of(index), id, found, NEPULADRIM_INDEX_WORDS);
-    uint32_t units = found[NEPULADRIM_INDEX_LENGTH];
-    bool is_wide = found[NEPULADRIM_INDEX_FLAGS] & NEPULADRIM_INDEX_WIDE;
-    return (struct stored){found[NEPULADRIM_INDEX_OFFSET], units, is_wide ? 2 * units : units, is_wide};
-}

@@ -11,15 +11,10 @@ void print_quoted(FILE *to, const struct units *units, size_t most) {
     end_text(&text);
 }
 
-void print_cut(FILE *to, const struct units *units) {
+void print_units(FILE *to, const struct units *units) {
     const size_t most_units = 100;
     print_quoted(to, units, most_units);
-    if (units->count > most_units) print(to, "...");
-}
-
-void print_units(FILE *to, const struct units *units) {
-    print_cut(to, units);
-    print(to, " (");
+    print(to, "%s (", units->count > most_units ? "..." : "");
     print_count(to, units->count, "unit");
     print(to, ")");
 }

@@ -9,8 +9,7 @@
 // Prints the first units between quotes, as many as are asked for at most.
 void print_quoted(FILE *to, const struct units *units, size_t most);
 
-// Prints units between quotes; what is long is cut. The same with their number behind them.
-void print_cut(FILE *to, const struct units *units);
+// Prints units, and their number. What is long is cut.
 void print_units(FILE *to, const struct units *units);
 
 // The same of a string of an admitted image, by its row of hbc.h, and of a text, which is UTF-8.

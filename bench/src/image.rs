@@ -20,12 +20,8 @@ enum Says {
     Letters,
     /// What no other says.
     OfItsOwn,
-    /// What one other says, and no third.
-    Twice,
     /// All the same.
     TheSame,
-    /// What no other says, by texts that were sought for this: their hashes are all 0 modulo 2,048.
-    Crafted,
 }
 
 const MODERN: Shape = Shape {
@@ -51,12 +47,8 @@ const SHARED: Shape = Shape { is_shared: true, ..MIXED };
 
 /// As images with labels are: no two strings say the same.
 const TEXTS: Shape = Shape { says: Says::OfItsOwn, ..MIXED };
-/// Every second string says what the one before it does.
-const TWINS: Shape = Shape { says: Says::Twice, ..MIXED };
 /// All strings say the same, each at its own place.
 const ALIKE: Shape = Shape { says: Says::TheSame, ..MIXED };
-/// No two strings say the same, and of 4,096 all are in one bucket where equal ones are sought.
-const CRAFTED: Shape = Shape { says: Says::Crafted, ..MIXED };
 
 /// The shape of a name.
 pub fn shape(name: &str) -> Shape {
@@ -70,9 +62,7 @@ pub fn shape(name: &str) -> Shape {
         "shared" => SHARED,
         // As with mixed and bodies.
         "texts" | "books" => TEXTS,
-        "twins" => TWINS,
         "alike" => ALIKE,
-        "crafted" => CRAFTED,
         _ => panic!("{name}: not the name of a shape"),
     }
 }
@@ -83,45 +73,15 @@ fn put(image: &mut [u8], at: usize, word: usize) {
 
 /// Of string i whether it is wide, and its bytes: one in eight or in two is wide, all have 4 to 19 bytes.
 fn string(shape: &Shape, i: usize) -> (bool, Vec<u8>) {
-    let i = match shape.says {
-        Says::Twice => i / 2,
-        Says::TheSame => 6,
-        _ => i,
-    };
+    let i = if shape.says == Says::TheSame { 6 } else { i };
     let wide = if shape.is_odd { i % 2 == 1 } else { i % 8 == 7 };
     let length = (4 + i * 7 % 16) / 2 * 2 + usize::from(shape.is_odd && !wide);
     let letter = |j: usize| match shape.says {
         // The first four are the number of the string.
-        Says::OfItsOwn | Says::Twice if j < 4 => i / 26usize.pow(j as u32),
+        Says::OfItsOwn if j < 4 => i / 26usize.pow(j as u32),
         _ => i + j,
     };
     (wide, (0..length).map(|j| b'a' + (letter(j) % 26) as u8).collect())
-}
-
-/// The hash of an identifier, as document 01 has it, of a narrow text.
-fn hash(text: &[u8]) -> u32 {
-    text.iter().fold(0, |hash: u32, unit| {
-        let sum = hash.wrapping_add(u32::from(*unit));
-        let sum = sum.wrapping_add(sum << 10);
-        sum ^ sum >> 6
-    })
-}
-
-/// The first so many texts of six letters whose hashes end in eleven zeros.
-fn crafted(count: usize) -> Vec<(bool, Vec<u8>)> {
-    let text =
-        |i: usize| -> Vec<u8> { (0..6).map(|j| b'a' + (i / 26usize.pow(j) % 26) as u8).collect() };
-    let texts = (0..).map(text).filter(|text| hash(text) % 2_048 == 0);
-    texts.take(count).map(|text| (false, text)).collect()
-}
-
-/// All strings of an image.
-fn strings_of(shape: &Shape, count: usize) -> Vec<(bool, Vec<u8>)> {
-    if shape.says == Says::Crafted {
-        return crafted(count);
-    }
-    let is_first_again = |i| shape.is_shared && i + 1 == count;
-    (0..count).map(|i| string(shape, if is_first_again(i) { 0 } else { i })).collect()
 }
 
 /// The kind words: a run of identifiers or of plain strings each, one for all strings where they are alike.
@@ -151,8 +111,9 @@ fn sections(shape: &Shape, functions: usize, strings: usize) -> Vec<u8> {
         put(&mut image, hashes + 4 * rank, rank);
     }
     let mut next = 0;
-    for (i, (wide, bytes)) in strings_of(shape, strings).into_iter().enumerate() {
+    for i in 0..strings {
         let is_first_again = shape.is_shared && i + 1 == strings;
+        let (wide, bytes) = string(shape, if is_first_again { 0 } else { i });
         let mut length = if wide { bytes.len() / 2 } else { bytes.len() };
         let mut offset = if is_first_again { 0 } else { image.len() - storage };
         if (shape.overflows)(i) {

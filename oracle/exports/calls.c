@@ -9,7 +9,7 @@
 #include <stdio.h>
 #include <stdlib.h>
 
-enum { FINALIZE = 1, BUILD, PATCH_BY_ID, PATCH_BY_VALUE, PATCH_IN_PASS, READ_PO, WRITE_PO, WHY, REPACK };
+enum { FINALIZE = 1, BUILD, PATCH_BY_ID, PATCH_BY_VALUE, PATCH_IN_PASS, READ_PO, WRITE_PO, WHY };
 enum { INPUTS = 4 };
 // The output comes first; what is lent for work, an index too, comes behind it, in the order of hbc.h.
 enum { OUT, TEXT, ENDS, WORK, LENT };
@@ -69,8 +69,6 @@ static uint64_t make(const struct head *head, const struct bytes *in, const stru
         return nepuladrim_write_po(BYTES(in[0]), layout, WORDS(lent[WORK]), BYTES(lent[OUT]));
     case WHY:
         return nepuladrim_why(BYTES(in[0]), layout, mode, head->number, BYTES(in[1]), WORDS(lent[WORK]), WORDS(lent[OUT]));
-    case REPACK:
-        return nepuladrim_repack(BYTES(in[0]), layout, mode, WORDS(lent[WORK]), BYTES(lent[OUT]));
     }
     stop("no such export");
 }

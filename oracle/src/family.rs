@@ -4,7 +4,7 @@ use std::panic::{catch_unwind, AssertUnwindSafe};
 
 use crate::random::Random;
 use crate::stream::{Answer, Call, ARGUMENTS};
-use crate::{builder, image, index, leaves, patches, repack, why};
+use crate::{builder, image, index, leaves, patches, why};
 
 pub const DONE: u32 = 0;
 /// The Rust stopped with a panic.
@@ -60,14 +60,13 @@ pub struct Departure {
     pub explains: fn(&Call, &Answer, &Answer) -> bool,
 }
 
-pub static FAMILIES: [&Family; 7] = [
+pub static FAMILIES: [&Family; 6] = [
     &leaves::FAMILY,
     &builder::FAMILY,
     &image::FAMILY,
     &patches::FAMILY,
     &index::FAMILY,
     &why::FAMILY,
-    &repack::FAMILY,
 ];
 
 impl Family {

@@ -13,6 +13,5 @@ pub mod leaves;
 pub mod patches;
 pub mod po;
 pub mod random;
-pub mod repack;
 pub mod stream;
 pub mod why;

@@ -19,9 +19,11 @@
 
 #define BYTES(text) (const uint8_t *)(text), sizeof(text) - 1
 
-// A buffer holds what it held before a call, from a place on: the first byte of that, and each as the one before it.
+// A buffer holds what it held before a call, from a place on.
 static inline int is_untouched(const uint8_t *buffer, size_t from, size_t length) {
-    return from >= length || (buffer[from] == 0xa5 && memcmp(buffer + from, buffer + from + 1, length - from - 1) == 0);
+    for (size_t i = from; i < length; i++)
+        if (buffer[i] != 0xa5) return 0;
+    return 1;
 }
 
 static inline uint64_t refused(uint64_t number) { return NEPULADRIM_REFUSED + number; }

@@ -231,24 +231,6 @@ int main(void) {
     patch_in_modes(BY_VALUE);
     patch_at_odd_place();
 
-    // equal strings stored once
-    const uint32_t halves[] = {2, 4};
-    uint32_t work[2 * NEPULADRIM_REPACK_WORDS + 1];
-    enum { LENT = sizeof work / sizeof *work - 1 };
-    is(nepuladrim_build(97, BYTES("abab"), halves, 2, BYTES("\1\2\3\4"), three, sizeof three) == 220);
-    memset(work, 0xa5, sizeof work);
-    memset(out, 0xa5, sizeof out);
-    is(nepuladrim_repack(three, 220, 5, NEPULADRIM_PLAIN, work, LENT, out, sizeof out) == refused(15));
-    is(nepuladrim_repack(three, 220, 0, 2, work, LENT, out, sizeof out) == refused(15));
-    is(nepuladrim_repack(three, 147, 0, NEPULADRIM_PLAIN, work, LENT, out, sizeof out) == refused(1));
-    is(nepuladrim_repack(three, 220, 0, NEPULADRIM_PLAIN, work, LENT - 1, out, sizeof out) == refused(13));
-    is(is_untouched((const uint8_t *)work, 0, sizeof work));
-    is(nepuladrim_repack(three, 220, 0, NEPULADRIM_PLAIN, work, LENT, out, 219) == refused(13));
-    is(untouched() && work[0] == 0 && work[LENT] == 0xa5a5a5a5);
-    is(nepuladrim_repack(three, 220, 0, NEPULADRIM_EVEN, work, LENT + 1, out, sizeof out) == 220);
-    is(memcmp(out + 144, "\0\0\0\2\0\0\0\2" "ab\0\0" "\1\2\3\4", 16) == 0 && out[60] == 2 && out[220] == 0xa5);
-    is(work[LENT - 1] == 0 && work[LENT] == 0xa5a5a5a5);
-
     memset(out, 0xa5, sizeof out);
     is(nepuladrim_patch_function_bytes(image, 220, 0, 1, BYTES("x"), out, sizeof out) == refused(7));
     is(untouched());

@@ -3,8 +3,8 @@
 // nothing behind.
 //
 // An input is words, a line each, up to an empty line, and the file that the word `image` names; with no words, the bytes of a listing.
-// Of the file it is also tried, in every layout, whether an index of its strings holds what the walk to each of them finds, whether patches
-// of some of them take the path for the reason that is told, and whether it reads the same when it is repacked, and stays so.
+// Of the file it is also tried, in every layout, whether an index of its strings holds what the walk to each of them finds, and whether
+// patches of some of them take the path for the reason that is told.
 #include "../../hbc.h"
 #include "../../host/listing.h"
 
@@ -260,91 +260,6 @@ static void hold_reasons(const uint8_t *image, size_t length, uint8_t layout) {
     }
 }
 
-// ---- equal strings stored once
-
-// How many strings are compared with each other.
-#define MOST_COMPARED 64
-
-// An image that is repacked, and what is known of its strings before and after.
-struct repacking {
-    const uint8_t *image, *made;
-    uint64_t count, storage_at;
-    uint8_t mode;
-    const uint64_t *rows, *new_rows;
-};
-
-static const uint64_t *row_in(const uint64_t *rows, uint64_t id) { return rows + id * NEPULADRIM_STRING_FACTS; }
-
-// Two strings have the same width and the same bytes.
-static bool is_same(const uint8_t *image, const uint64_t *row, const uint8_t *other_image, const uint64_t *other) {
-    const uint64_t bytes = row[NEPULADRIM_STRING_BYTES];
-    return row[NEPULADRIM_STRING_IS_WIDE] == other[NEPULADRIM_STRING_IS_WIDE] && bytes == other[NEPULADRIM_STRING_BYTES] &&
-           memcmp(image + row[NEPULADRIM_STRING_AT], other_image + other[NEPULADRIM_STRING_AT], bytes) == 0;
-}
-
-// Each string is what it was.
-static void hold_strings(const struct repacking *repacking) {
-    for (uint64_t id = 0; id < repacking->count; id++) {
-        const uint64_t *row = row_in(repacking->rows, id), *new = row_in(repacking->new_rows, id);
-        expect(is_same(repacking->image, row, repacking->made, new));
-        expect(row[NEPULADRIM_STRING_IS_IDENTIFIER] == new[NEPULADRIM_STRING_IS_IDENTIFIER]);
-    }
-}
-
-// Each stands where the lowest one does that is the same, or behind those before it.
-static void hold_places(const struct repacking *repacking) {
-    uint64_t end = repacking->storage_at;
-    for (uint64_t id = 0; id < repacking->count; id++) {
-        const uint64_t *row = row_in(repacking->new_rows, id);
-        uint64_t lowest = 0;
-        while (!is_same(repacking->made, row_in(repacking->new_rows, lowest), repacking->made, row)) lowest++;
-        if (lowest == id) {
-            if (repacking->mode == NEPULADRIM_EVEN && row[NEPULADRIM_STRING_IS_WIDE]) end += end % 2;
-            expect(row[NEPULADRIM_STRING_AT] == end);
-            end += row[NEPULADRIM_STRING_BYTES];
-        } else expect(row[NEPULADRIM_STRING_AT] == row_in(repacking->new_rows, lowest)[NEPULADRIM_STRING_AT]);
-    }
-}
-
-// Repacks an image of so many strings. The words that are lent for it are zeros then, and the one behind them stays.
-static uint64_t repack_into(const uint8_t *image, size_t length, uint8_t layout, uint8_t mode, uint64_t count, uint8_t *made, size_t room) {
-    static uint32_t work[NEPULADRIM_REPACK_WORDS * MOST_STRINGS + 1];
-    const size_t asked = NEPULADRIM_REPACK_WORDS * count;
-    memset(work, 0xa5, (asked + 1) * sizeof *work);
-    uint64_t answer = nepuladrim_repack(image, length, layout, mode, work, asked, made, room);
-    for (size_t i = 0; i < asked; i++) expect(work[i] == 0);
-    expect(work[asked] == EMPTY);
-    return answer;
-}
-
-// It is admitted, reads the same, and is the same when it is repacked.
-static void hold_repacked(const uint8_t *image, size_t length, uint8_t layout, uint8_t mode, uint64_t count, const uint64_t *rows) {
-    static uint8_t made[MOST_MADE], again[MOST_MADE];
-    static uint64_t new_rows[NEPULADRIM_STRING_FACTS * MOST_STRINGS];
-    uint64_t facts[NEPULADRIM_IMAGE_FACTS];
-    const size_t size = count * NEPULADRIM_STRING_FACTS;
-    uint64_t packed = repack_into(image, length, layout, mode, count, made, sizeof made);
-    expect(packed < NEPULADRIM_REFUSED && repack_into(image, length, layout, mode, count, again, packed - 1) == NEPULADRIM_REFUSED + 13);
-    expect(nepuladrim_string_facts_from(made, packed, layout, 0, new_rows, size) == size);
-    expect(nepuladrim_image_facts(made, packed, layout, facts, NEPULADRIM_IMAGE_FACTS) == NEPULADRIM_IMAGE_FACTS);
-    expect(facts[NEPULADRIM_LENGTH_IS_RIGHT] && facts[NEPULADRIM_FOOTER_IS_RIGHT]);
-    const struct repacking repacking = {image, made, count, facts[NEPULADRIM_STORAGE_AT], mode, rows, new_rows};
-    hold_strings(&repacking);
-    if (count <= MOST_COMPARED) hold_places(&repacking);
-    expect(repack_into(made, packed, layout, mode, count, again, packed) == packed && memcmp(again, made, packed) == 0);
-}
-
-static void hold_repacks(const uint8_t *image, size_t length, uint8_t layout) {
-    static uint64_t rows[NEPULADRIM_STRING_FACTS * MOST_STRINGS];
-    uint64_t told = nepuladrim_string_facts_from(image, length, layout, 0, rows, NEPULADRIM_STRING_FACTS * MOST_STRINGS), shared = 0;
-    if (told >= NEPULADRIM_REFUSED) return;
-    const uint64_t count = told / NEPULADRIM_STRING_FACTS;
-    for (uint64_t id = 0; id < count; id++) shared += row_in(rows, id)[NEPULADRIM_STRING_BYTES];
-    if (shared > MOST_SHARED) return;
-    hold_repacked(image, length, layout, NEPULADRIM_PLAIN, count, rows);
-    hold_repacked(image, length, layout, NEPULADRIM_EVEN, count, rows);
-}
-
 int LLVMFuzzerTestOneInput(const uint8_t *data, size_t length) {
     char *text = malloc(length + 1), *words[MOST_WORDS + 2] = {"hbc"};
     memcpy(text, data, length);
@@ -356,7 +271,6 @@ int LLVMFuzzerTestOneInput(const uint8_t *data, size_t length) {
     for (uint8_t layout = 0; layout < 5 && length <= MOST_BYTES; layout++) {
         hold_index((uint8_t *)text + rest, length - rest, layout);
         hold_reasons((uint8_t *)text + rest, length - rest, layout);
-        hold_repacks((uint8_t *)text + rest, length - rest, layout);
     }
     if (count == 1) tell(data, length);
     // the demonstration takes nothing of an input, and starts another program

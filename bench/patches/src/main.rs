@@ -8,8 +8,6 @@
 //   bench-patches ours|theirs po|po-places SHAPE COUNT PAIRS ample|exact|short REPEATS
 //   bench-patches ours|theirs extract SHAPE COUNT REPEATS
 // read a translators' file into an image, and write one from it.
-//   bench-patches ours|theirs repack SHAPE COUNT REPEATS
-// stores equal strings once; theirs is the judge's second reading.
 //   bench-patches compare
 // holds ours to theirs byte for byte on images too long for a stream of calls.
 
@@ -18,7 +16,6 @@ mod image;
 mod large;
 mod pass;
 mod po;
-mod repack;
 
 use hbc_decomp::opcode::BytecodeFormat;
 use hbc_decomp::write::patch::{patch_function_bytes, patch_string_by_id, PatchOptions};
@@ -126,7 +123,6 @@ fn main() {
         "pass" | "places" => pass::run(&words),
         "po" | "po-places" => po::read(&words),
         "extract" => po::write(&words),
-        "repack" => repack::run(&words),
         _ => run(&words),
     }
 }

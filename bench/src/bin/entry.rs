@@ -2,16 +2,13 @@
 //   entry admission|listing|index|look-ups|table|first|last modern|mixed|pairs|names COUNT REPEATS
 //   entry why-place|why-wide|why-lengths mixed COUNT REPEATS
 //   entry why-overlap shared COUNT REPEATS
-//   entry admission|repack|finalize texts|twins|alike|crafted COUNT REPEATS
 // modern: every record has a large header. mixed: legacy, every second record has one. pairs: mixed, and every fourth
 // string has an overflow pair. names: mixed, and identifiers come by twos. shared: mixed, and the last string stands where
-// the first one does. texts: mixed, and no two strings are equal; twins: by twos; alike: all. crafted: none, and of 4,096
-// strings all are in one bucket. index: it is filled; look-ups: of the last string, in an index that is filled once,
-// before. table: what is known of all strings; first, last: of one. why: the reason of a patch: of the string in the middle
-// to a value as long or 5 bytes longer, of the last one, which is wide, of the first one, which the last one overlaps.
-// finalize: of the image that was repacked, once, before. Prints 0, or the number of a refusal, and the length of what was
-// gone over: the image, its listing, the strings of the index, the look-ups, the bytes of the table, or the table entries
-// visited to find the string; of a reason its code; of repacking and finalizing the length of what is made.
+// the first one does. index: it is filled; look-ups: of the last string, in an index that is filled once, before. table:
+// what is known of all strings; first, last: of one. why: the reason of a patch: of the string in the middle to a value as
+// long or 5 bytes longer, of the last one, which is wide, of the first one, which the last one overlaps. Prints 0, or the
+// number of a refusal, and the length of what was gone over: the image, its listing, the strings of the index, the
+// look-ups, the bytes of the table, or the table entries visited to find the string; of a reason its code.
 
 #[path = "../image.rs"]
 mod image;
@@ -58,17 +55,6 @@ extern "C" {
         out: *mut u32,
         room: usize,
     ) -> u64;
-    fn nepuladrim_repack(
-        image: *const u8,
-        length: usize,
-        layout: u8,
-        mode: u8,
-        work: *mut u32,
-        words: usize,
-        out: *mut u8,
-        room: usize,
-    ) -> u64;
-    fn nepuladrim_finalize(image: *mut u8, length: usize) -> u64;
     fn nepuladrim_string_facts(
         image: *const u8,
         length: usize,
@@ -96,9 +82,6 @@ const PLAIN: u8 = 0;
 // The words of an index for each string, and how many look-ups are made at a time: one takes too little to be counted.
 const WORDS: usize = 3;
 const LOOK_UPS: usize = 1000;
-
-// The words to repack in, for each string.
-const REPACK_WORDS: usize = 5;
 
 const REFUSED: u64 = 1 << 32;
 
@@ -146,19 +129,6 @@ fn why(image: &[u8], layout: u8, edit: &(usize, Vec<u8>), index: &mut [u32]) -> 
     (refusal(answer), reason[0] as usize)
 }
 
-fn repack(image: &[u8], layout: u8, work: &mut [u32], out: &mut [u8]) -> (u64, usize) {
-    let (from, to) = ((image.as_ptr(), image.len()), (out.as_mut_ptr(), out.len()));
-    let lent = (work.as_mut_ptr(), work.len());
-    let answer =
-        unsafe { nepuladrim_repack(from.0, from.1, layout, PLAIN, lent.0, lent.1, to.0, to.1) };
-    (refusal(answer), answer as usize)
-}
-
-fn finalize(image: &mut [u8]) -> (u64, usize) {
-    let answer = unsafe { nepuladrim_finalize(image.as_mut_ptr(), image.len()) };
-    (refusal(answer), answer as usize)
-}
-
 // The string and the value of a patch, by what is asked of it.
 fn edit(image: &[u8], layout: u8, asked: &str, count: usize) -> (usize, Vec<u8>) {
     let id = match asked {
@@ -197,15 +167,10 @@ fn main() {
     let mut out = vec![0; 16 * image.len()];
     let mut numbers = vec![0; FACTS * count];
     let mut index = vec![0; WORDS * count];
-    let mut work = vec![0; REPACK_WORDS * count];
     let mut answer = (0, 0);
     let edit = edit(&image, shape.layout, &words[1], count);
     if words[1] == "look-ups" {
         fill(&image, shape.layout, &mut index);
-    }
-    let mut made = 0;
-    if words[1] == "finalize" {
-        made = repack(&image, shape.layout, &mut work, &mut out).1;
     }
     for _ in 0..repeats {
         let image = std::hint::black_box(&image);
@@ -216,8 +181,6 @@ fn main() {
             "why-place" | "why-wide" | "why-lengths" | "why-overlap" => {
                 why(image, shape.layout, &edit, &mut index)
             }
-            "repack" => repack(image, shape.layout, &mut work, &mut out),
-            "finalize" => finalize(&mut out[..made]),
             "table" => table(image, shape.layout, &mut numbers),
             "first" => string(image, shape.layout, 0),
             "last" => string(image, shape.layout, count - 1),

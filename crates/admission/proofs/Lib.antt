@@ -1,3 +1,2 @@
 pub mod StageLaws
 pub mod AnswerLaws
-pub mod LentLaws

@@ -11,4 +11,3 @@ pub mod Word32Laws
 pub mod SumLaws
 pub mod OutcomeLaws
 pub mod AsciiLaws
-pub mod FirstLaws

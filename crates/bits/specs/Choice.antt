@@ -25,11 +25,6 @@ unfoldable pub all_below : ℕ → (ℕ → Bool) → Bool
 all_below zero p = true
 all_below (suc n) p = both (p n) (all_below n p)
 
--- the first of the numbers i, i + 1, .. below i + n at which the test holds, else i + n
-unfoldable pub first_from : (ℕ → Bool) → ℕ → ℕ → ℕ
-first_from p i zero = i
-first_from p i (suc n) = pick (p i) i (first_from p (suc i) n)
-
 -- the sum of f over the numbers below n
 unfoldable pub sum_below : ℕ → (ℕ → ℕ) → ℕ
 sum_below zero f = 0

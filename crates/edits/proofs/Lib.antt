@@ -18,4 +18,3 @@ pub mod PutLaws
 pub mod ResizeLaws
 pub mod FitLaws
 pub mod InPlaceLaws
-pub mod SharingLaws

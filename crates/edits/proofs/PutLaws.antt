@@ -1,5 +1,5 @@
 -- A rebuild with one string for another of the same width and length is the same but for the bytes of that string.
-use mathlib.Core.Path.{◌≡◌, refl, ap, sym, ◌∙◌, subst}
+use mathlib.Core.Path.{◌≡◌, ap, sym, ◌∙◌, subst}
 use mathlib.Core.Bool.{Bool, true}
 use mathlib.Core.Logic.{inl, inr, ◌≢◌}
 use mathlib.Core.List.{List, ◌++◌, append_assoc}
@@ -20,12 +20,12 @@ use Rattle.image.specs.Functions.{Func}
 use Rattle.image.specs.Admitted.{Admitted}
 use Rattle.image.proofs.PlaceLaws.{ordered}
 use Rattle.edits.specs.Edit.{splice, Write, edit}
-use Rattle.edits.specs.Packing.{count_of, Packed, gap_of, start_own, each, store_of, start_of, placed, packed}
+use Rattle.edits.specs.Packing.{count_of, Packed, gap_of, store_of, start_of, placed, packed}
 use Rattle.edits.specs.Rebuild.{overs, smalls, pairs, region, padded, rebuild}
 use Rattle.edits.proofs.WriteLaws.{length_writes, writes_byte}
 use Rattle.edits.proofs.HitLaws.{off_or, sets-left, sets_right}
 use Rattle.edits.proofs.TableLaws.{size-smalls, size-pairs}
-use Rattle.edits.proofs.PackLaws.{own_ext, store_none, store_next, start_is, size_next, size_room}
+use Rattle.edits.proofs.PackLaws.{store_none, store_next, start_is, size_next, size_room}
 use Rattle.edits.proofs.RegionLaws.{length-region}
 use Rattle.edits.proofs.ModeLaws.{overs_ext, smalls_ext, pairs_ext}
 use Rattle.edits.proofs.BodyLaws.{new_byte}
@@ -34,10 +34,13 @@ use Rattle.edits.proofs.RebuildLaws.{new_region, rebuilding, parted, length_rebu
 -- ---- a packing hangs only on its strings
 
 pub store_ext : (m : Mode) (f g : ℕ → Str) (n : ℕ) → ((i : ℕ) → i < n → f i ≡ g i) → store_of m f n ≡ store_of m g n
-store_ext m f g n e = own_ext m each each f g n (λ i h. (refl, e i h))
+store_ext m f g zero e = store_none m f ∙ sym (store_none m g)
+store_ext m f g (suc n) e =
+    store_next m f n
+    ∙ rw (store_ext m f g n (λ i h. e i (omega arith)), e n (omega arith)) (sym (store_next m g n))
 
 pub placed_ext : (m : Mode) (f g : ℕ → Str) (i : ℕ) → ((j : ℕ) → j < suc i → f j ≡ g j) → placed m f i ≡ placed m g i
-unfolding start_own
+unfolding start_of
 placed_ext m f g i e =
     rw (store_ext m f g i (λ j h. e j (omega arith)), e i (omega arith))
 

@@ -1,5 +1,5 @@
 -- Where strings go in storage. 01, Strings: "ids in order, storage packed with no gaps and no sharing"; 02, No. 2: wide strings at
--- even places; No. 10: some strings stored once for others (Sharing.antt).
+-- even places.
 -- Strings are a function of their ids, with a count: f i is string i. Each definition adds string n behind the first n.
 -- docs/FORMAT.md: Packing.
 use Rattle.std.specs.Prelude.{◌≡◌, Bool, true, List, [], ◌++◌, ℕ, zero, suc, ◌+◌, ◌/◌, ◌%◌, ◌≤◌, ◌<◌, length, get_or, replicate}
@@ -47,25 +47,14 @@ abbrev pub gap_of : Mode → Bool → ℕ → ℕ
 gap_of Plain wide at = 0
 gap_of Even wide at = pick wide (at % 2) 0
 
--- the bytes of the first n strings, of those that are stored for themselves: each behind those before it and its gap
-unfoldable pub store_own : Mode → (ℕ → Bool) → (ℕ → Str) → ℕ → List ℕ
-store_own m own f zero = []
-store_own m own f (suc i) =
-    store_own m own f i ++ pick (own i) (replicate (gap_of m (f i).wide (length (store_own m own f i))) 0 ++ (f i).bytes) []
+-- the bytes of the first n strings, each behind those before it and its gap
+unfoldable pub store_of : Mode → (ℕ → Str) → ℕ → List ℕ
+store_of m f zero = []
+store_of m f (suc i) = store_of m f i ++ (replicate (gap_of m (f i).wide (length (store_of m f i))) 0 ++ (f i).bytes)
 
--- where string i starts that is stored for itself: behind those before it and its gap
-unfoldable pub start_own : Mode → (ℕ → Bool) → (ℕ → Str) → ℕ → ℕ
-start_own m own f i = length (store_own m own f i) + gap_of m (f i).wide (length (store_own m own f i))
-
--- 01: "no sharing", each string is stored for itself
-abbrev pub each : ℕ → Bool
-each i = true
-
-abbrev pub store_of : Mode → (ℕ → Str) → ℕ → List ℕ
-store_of m f n = store_own m each f n
-
-abbrev pub start_of : Mode → (ℕ → Str) → ℕ → ℕ
-start_of m f i = start_own m each f i
+-- where string i starts: behind those before it and its gap
+unfoldable pub start_of : Mode → (ℕ → Str) → ℕ → ℕ
+start_of m f i = length (store_of m f i) + gap_of m (f i).wide (length (store_of m f i))
 
 -- the place of string i
 abbrev pub placed : Mode → (ℕ → Str) → ℕ → Place

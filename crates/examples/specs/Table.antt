@@ -32,7 +32,7 @@ use Rattle.image.specs.Admission.{headers_in, bodies_in, infos_in, debug_in_tail
 use Rattle.edits.specs.Fit.{fields_fit}
 use Rattle.utf.specs.Utf8 as utf8
 use Rattle.edits.specs.Edit.{splice, write_all, groups, put_small, pointed, put_header, record_group, header_group, edit}
-use Rattle.edits.specs.Packing.{store_own}
+use Rattle.edits.specs.Packing.{store_of}
 use Rattle.edits.specs.Packing as packing
 use Rattle.edits.specs.Rebuild.{smalls, pair_of, pairs, overs, region, padded, rebuild}
 use Rattle.string_overlap.specs.Overlap.{is_apart, is_alone}
@@ -134,7 +134,7 @@ unfolding rows all_marked small_word entry with_field field_of pointer moved has
     header_of modern_header identity put_all record_of put_pointer small_table start_of tail_of large_header bytes_of bytes_at number
     minimal sealed lengthed footed digest digest_bytes big_bytes kinds_at hashes_at small_at over_at storage_at tail_at over_before place_of
     locate small_in over_in place_at string_of function.small function.header function.record_in function.func_of is_large splice
-    write_all groups put_small pointed put_header record_group header_group edit store_own packing.start_own smalls pair_of pairs overs region padded
+    write_all groups put_small pointed put_header record_group header_group edit store_of packing.start_of smalls pair_of pairs overs region padded
     rebuild is_apart is_alone in_turn as_string string_with strings_with fits_in_place fits_all changed ascii all_below sum_below judge kind_in covered
     identified overflows_counted overflows_numbered strings_stored bytes_narrow strings_narrow headers_in bodies_in infos_in debug_in_tail
     headers_apart bodies_apart checks fields_fit utf8.is_utf8 utf8.reading_of utf8.next_byte utf8.opens new_length patch_fits by_id_refusal

@@ -1,16 +1,16 @@
 -- The number of an answer tells it: a refusal's is 2^32 or more, and no length is.
-use mathlib.Core.Path.{◌≡◌, refl, ap, sym, ◌∙◌, subst, subst⁻¹}
+use mathlib.Core.Path.{◌≡◌, refl, ap, sym, ◌∙◌, subst}
 use mathlib.Core.Bool.{Bool, true, false}
 use mathlib.Core.Logic.{inl, inr}
 use mathlib.Core.List.{List}
-use Prim.Native.Nat.{ℕ, ◌+◌, ◌*◌, ◌≤◌, ◌<◌}
+use Prim.Native.Nat.{ℕ, ◌+◌, ◌≤◌, ◌<◌}
 use native.Mathlib.Omega.{arith}
-use borrow.Author.Tests.{eqb-true, eqb-false, ltb-false, lt-ltb, le-ltb}
+use borrow.Author.Tests.{eqb-true, ltb-false, lt-ltb, le-ltb}
 use lib.Dec.{ltb, eqb}
 use lib.ListN.{length, get_or}
 use Rattle.bits.specs.Choice.{pick, judge}
-use Rattle.bits.specs.Outcome.{Outcome, refused, made, written, answered, roomed}
-use Rattle.bits.proofs.TestLaws.{which, below_or}
+use Rattle.bits.specs.Outcome.{Outcome, refused, made, outcome_for, written, answered, roomed}
+use Rattle.bits.proofs.TestLaws.{below_or}
 use Rattle.bits.proofs.OutcomeLaws.{one_outcome}
 use Rattle.bits.specs.declared.Answer.TheVariants.{Length, Refused}
 use Rattle.bits.proofs.ListLaws.{AllBelow}
@@ -38,14 +38,10 @@ use Rattle.string_edits.specs.Lists.{value_in, edit_in, is_list}
 use Rattle.strings.specs.Patch.{by_id_refusal, patch_by_id, by_value_refusal, patch_by_value}
 use Rattle.strings.specs.Pass.{pass_refusal, patch_in_pass, patch_strings}
 use Rattle.functions.specs.Patch.{body_refusal, patch_body}
-use Rattle.patches.specs.Patches.{Patch, by_id, by_value, in_pass, to_body, repack, outcome_of}
+use Rattle.patches.specs.Patches.{Patch, by_id, by_value, in_pass, to_body, outcome_of}
 use Rattle.patches.specs.Lists.{InBytes}
 use Rattle.patches.proofs.ListLaws.{promised}
-use Rattle.admission.specs.Lent.{lent_refusal, lent}
-use Rattle.po_write.specs.File.{po_of, words_each, room_for, write_po}
-use Rattle.edits.specs.Repack.{repack_of}
-use Rattle.repack.specs.Repack.{repack_in}
-use Rattle.repack.proofs.RepackLaws.{bad_image, few_words, enough_words}
+use Rattle.po_write.specs.File.{po_of, write_refusal, room_for, write_po}
 use Rattle.translate.specs.Translate.{translated}
 use Rattle.translate.specs.Space.{Space, is_read, read_po}
 use Rattle.translate.specs.Faults.{patches_of, AcceptedAs, patched, finalized}
@@ -140,12 +136,11 @@ short_built version text ends body =
 -- bytes are bytes
 module _ (l : Layout) (s : List ℕ) (bytes : (i : ℕ) → get_or s i 0 < 256) where
   passed : (p : Patch) (t : List ℕ) → outcome_of l s p ≡ made t → refusal l s ≡ 0
-  unfolding outcome_of patch_by_id by_id_refusal patch_by_value by_value_refusal patch_in_pass pass_refusal patch_body body_refusal repack_of
+  unfolding outcome_of patch_by_id by_id_refusal patch_by_value by_value_refusal patch_in_pass pass_refusal patch_body body_refusal
   passed (by_id m id value) t e = (judged_none l s _ (made_of _ _ _ e).0).0
   passed (by_value m old new) t e = (judged_none l s _ (made_of _ _ _ e).0).0
   passed (in_pass m f k) t e = (judged_none l s _ (made_of _ _ _ e).0).0
   passed (to_body id body) t e = (judged_none l s _ (made_of _ _ _ e).0).0
-  passed (repack m) t e = (judged_none l s _ (made_of _ _ _ e).0).0
 
   pub short_patch : (p : Patch) → InBytes p → Short (outcome_of l s p)
   short_patch p b =
@@ -165,17 +160,6 @@ module _ (l : Layout) (s : List ℕ) (bytes : (i : ℕ) → get_or s i 0 < 256) 
           → Short (pick t (patch_in_pass m l s (edit_in ids text ends) (length ids)) (refused 15))
       go true h = h
       go false h = tt
-
-  pub short_repack : (m : Mode) (words room : ℕ) → Short (repack_in m l s words room)
-  unfolding outcome_of
-  short_repack m words room = elim (below_or words (5 * strings_in s)) [
-    | inr h ↦ subst⁻¹ Short (enough_words m l s words room h) (short_in_room room (repack_of m l s) (short_patch (repack m) tt))
-    | inl h ↦ elim (which (eqb (refusal l s) 0)) [
-      | inl e ↦ subst⁻¹ Short (few_words m l s words room (eqb-true (refusal l s) 0 e) h) tt
-      | inr e ↦ subst⁻¹ Short
-          (bad_image m l s words room (refusal l s) (omega (arith, eqb-false (refusal l s) 0 e)) refl) tt
-    ]
-  ]
 
   pub short_string : (id : ℕ) → Short (string_reading l s id)
   unfolding string_reading string_of
@@ -201,16 +185,16 @@ room_most room = elim (below_or room 4294967295) [
 ]
 
 pub short_write_po : (l : Layout) (s : List ℕ) (words room : ℕ) → Short (write_po l s words room)
-unfolding write_po lent roomed
-short_write_po l s words room = go (eqb (lent_refusal l s words_each words) 0)
+unfolding write_po roomed
+short_write_po l s words room = go (outcome_for (write_refusal l s words) (po_of l s))
   where
-    within : (b : Bool) → ltb (room_for room) (length (po_of l s)) ≡ b → Short (pick b (refused 13) (made (po_of l s)))
-    within true e = tt
-    within false e = omega (arith, ltb-false (room_for room) (length (po_of l s)) e, room_most room)
+    within : (t : List ℕ) (b : Bool) → ltb (room_for room) (length t) ≡ b → Short (pick b (refused 13) (made t))
+    within t true e = tt
+    within t false e = omega (arith, ltb-false (room_for room) (length t) e, room_most room)
 
-    go : (b : Bool) → Short (pick b (roomed (room_for room) (made (po_of l s))) (refused (lent_refusal l s words_each words)))
-    go true = within (ltb (room_for room) (length (po_of l s))) refl
-    go false = tt
+    go : (o : Outcome) → Short (roomed (room_for room) o)
+    go (refused n) = tt
+    go (made t) = within t (ltb (room_for room) (length t)) refl
 
 -- what is read makes an image
 module _ (m : Mode) (l : Layout) (s : List ℕ) (room : ℕ) (file : List ℕ) (bytes : (i : ℕ) → get_or s i 0 < 256) where

@@ -9,10 +9,7 @@ ghost use Rattle.strings.specs.Patch.{patch_by_id, patch_by_value};
 ghost use Rattle.strings.specs.Pass.{patch_strings};
 ghost use Rattle.image.specs.Sections.{strings_in};
 ghost use Rattle.translate.specs.Space.{lent, is_read, read_po, LeavesSpace};
-ghost use Rattle.admission.specs.Lent.{work_after};
-ghost use Rattle.po_write.specs.File.{words_each, write_po};
-ghost use Rattle.repack.specs.Repack as repacks;
-ghost use Rattle.repack.specs.Repack.{repack_in};
+ghost use Rattle.po_write.specs.File.{write_po, work_after};
 ghost use Rattle.functions.specs.Patch.{patch_body};
 ghost use Rattle.listing_pieces.specs.Listing.{part_room, listing_part};
 ghost use Rattle.string_index.specs.Index.{filled_as, index_after, look_up};
@@ -237,41 +234,12 @@ pub extern "C" fn nepuladrim_write_po(
     ensures { Codes (stated layout (λ l. write_po l image.now (length work.old)
         (length out.old))) result
         out.old out.new × (work.new ≡ work_by layout (λ l. work_after l image.now
-        words_each work.old) work.old) }
+        work.old) work.old) }
 {
     if LAST_LAYOUT < layout {
         return REFUSED_JOB;
     }
     number(po_write::write_po(image, input_records::layout_of(layout), work, out))
-}
-
-// An image with equal strings stored once. Work is lent for work.
-#[unsafe(no_mangle)]
-pub extern "C" fn nepuladrim_repack(
-    image: &[u8],
-    layout: u8,
-    mode: u8,
-    work: &mut [u32],
-    out: &mut [u8],
-) -> u64
-    ensures codes { Codes (stated layout (λ l. chosen mode (λ m. repack_in m l image.now (length work.old)
-        (length out.old)))) result out.old out.new }
-    ensures work_after { work.new ≡ work_in layout mode (λ l. work_after l image.now repacks.words_each
-        work.old) work.old }
-{
-    if LAST_LAYOUT < layout {
-        return REFUSED_JOB;
-    }
-    if LAST_MODE < mode {
-        return REFUSED_JOB;
-    }
-    number(repack::repack(
-        image,
-        input_records::layout_of(layout),
-        mode_of(mode),
-        work,
-        out,
-    ))
 }
 
 // ---- bodies

@@ -72,7 +72,7 @@ module _ (l : Layout) (s t : List ℕ) (nr : Nearly l s t) where
     ]
   ]
 
-  pub near_restrung : Restrung l s t
+  near_restrung : Restrung l s t
   near_restrung =
       let o = ordered l s in
       restrung_same l s t

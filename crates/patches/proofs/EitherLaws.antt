@@ -21,7 +21,7 @@ use Rattle.string_edits.specs.Values.{Values, only, Apart, Edit}
 use Rattle.string_edits.proofs.TurnLaws.{apart-sym, apart-only, only-apart}
 use Rattle.string_packing.specs.Strings.{new_string}
 use Rattle.strings.specs.Patch.{by_value_refusal, patch_by_value}
-use Rattle.patches.specs.Patches.{Patch, by_id, by_value, in_pass, to_body, repack, outcome_of, Step, step_of, image_after, run, target_of}
+use Rattle.patches.specs.Patches.{Patch, by_id, by_value, in_pass, to_body, outcome_of, Step, step_of, image_after, run, target_of}
 use Rattle.patches.specs.Lists.{AllInBytes}
 use Rattle.patches.specs.Orders.{AllOfStrings, set_by, set_at, AllApart, Reordered}
 use Rattle.patches.specs.Orders.{FourCalls, id_step, TwoById, Replacement, value_step, found_by, TwoByValue, id_steps, ManyById}
@@ -115,7 +115,6 @@ unfolding outcome_of target_of
 sets_still m l s a (by_id k id value) t x y g = refl
 sets_still m l s a (in_pass k e n) t x y g = refl
 sets_still m l s a (to_body id body) t x y g = refl
-sets_still m l s a (repack k) t x y g = refl
 sets_still m l s a (by_value k old new) t x y g =
     let v : Values = set_by l s a in
     let units : List ℕ = utf16 old in

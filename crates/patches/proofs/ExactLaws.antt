@@ -33,8 +33,7 @@ use Rattle.string_in_place.specs.Patch as string
 use Rattle.strings.specs.Patch as strings
 use Rattle.strings.specs.Pass as pass
 use Rattle.functions.specs.Patch as functions
-use Rattle.edits.specs.Repack as repacks
-use Rattle.patches.specs.Patches.{Patch, by_id, by_value, in_pass, to_body, repack, outcome_of, Step, step_of, to_values, target_of}
+use Rattle.patches.specs.Patches.{Patch, by_id, by_value, in_pass, to_body, outcome_of, Step, step_of, to_values, target_of}
 use Rattle.patches.specs.Promise.{place_after}
 use Rattle.patches.specs.Lists.{InBytes, Accepted, FirstFault, Judged}
 use Rattle.patches.specs.Faults.{order_of, goes_to, PatchFault}
@@ -73,7 +72,6 @@ own_checks l s (to_body id body) =
     ∷ check 12 (not (functions.size_fits l s id body))
     ∷ check 12 (not (fields_fit l s (functions.moved_past_body l s id body)))
     ∷ []
-own_checks l s (repack m) = repacks.repack_checks m l s
 
 module _ (l : Layout) (s : List ℕ) (room : ℕ) where
   abbrev pub room_check : Patch → List Check
@@ -131,12 +129,6 @@ module _ (l : Layout) (s : List ℕ) (room : ℕ) where
       (not-true (fields_fit l s (functions.moved_past_body l s id body)) t) in over_field (to_body id body) j h u w)
       also (λ t. no_room (to_body id body) (ltb-true room _ t))
       also nothing
-  own_shows (repack m) =
-      (λ t. over_limit (repack m) (ltb-true 67_108_864 (repacks.moved_by_repack m l s (length s)) t))
-      also (λ t. let (j, h, u, w) = fields_wrong l s (repacks.moved_by_repack m l s)
-      (not-true (fields_fit l s (repacks.moved_by_repack m l s)) t) in over_field (repack m) j h u w)
-      also (λ t. no_room (repack m) (ltb-true room _ t))
-      also nothing
 
   all_shows : (p : Patch) → Shows (PatchFault l s room p) (all_checks p)
   all_shows p =
@@ -177,10 +169,6 @@ module _ (l : Layout) (s : List ℕ) (room : ℕ) where
   own_gives p n (over_limit (in_pass m e k) h) = given_last n (checks l s) _ (limit-given m (values_of e k) p h)
   own_gives p n (over_limit (to_body id body) h) =
       given_last n (checks l s) _ (simp (lt-ltb 67_108_864 (functions.moved_past_body l s id body (length s)) h, either_true))
-  own_gives p n (over_limit (repack m) h) =
-      given_last n (checks l s) _ (rw (lt-ltb 67_108_864 (repacks.moved_by_repack m l s (length s)) h))
-  own_gives p n (over_field (repack m) j h u w) =
-      given_last n (checks l s) _ (simp (fields_failed l s (repacks.moved_by_repack m l s) (j, h, u, w), either_true))
   own_gives p n (over_field (by_id m id value) j h u w) = given_last n (checks l s) _ (field-given m (only id value) p (j, h, u, w))
   own_gives p n (over_field (by_value m old new) j h u w) =
       given_last n (checks l s) _ (field-given m (only (find_id l s (utf16 old)) new) p (j, h, u, w))
@@ -200,7 +188,6 @@ module _ (l : Layout) (s : List ℕ) (room : ℕ) where
   rises (by_value m old new) = refl
   rises (in_pass m e k) = refl
   rises (to_body id body) = refl
-  rises (repack m) = refl
 
   in_order : (p : Patch) → InOrder (order_of p) (PatchFault l s room p) (all_checks p)
   in_order p = record { rises = rises p; shows = all_shows p; gives = own_gives p }
@@ -266,7 +253,6 @@ result_of l s (by_id m id value) = string.patched_strings m l s (only id value)
 result_of l s (by_value m old new) = string.patched_strings m l s (only (find_id l s (utf16 old)) new)
 result_of l s (in_pass m e k) = string.patched_strings m l s (values_of e k)
 result_of l s (to_body id body) = functions.patched_body l s id body
-result_of l s (repack m) = repacks.repacked m l s
 
 module _ (l : Layout) (s : List ℕ) (bytes : AllBelow 256 s) (p : Step) (in_bytes : InBytes p.patch) where
   abbrev own : List Check
@@ -275,12 +261,11 @@ module _ (l : Layout) (s : List ℕ) (bytes : AllBelow 256 s) (p : Step) (in_byt
   outcome_is : (q : Patch) → outcome_of l s q ≡ pick (eqb (judge (checks l s ++ own_checks l s q)) 0) (made (result_of l s q))
       (refused (judge (checks l s ++ own_checks l s q)))
   unfolding outcome_of strings.patch_by_id strings.by_id_refusal strings.patch_by_value strings.by_value_refusal pass.patch_in_pass
-      pass.pass_refusal functions.patch_body functions.body_refusal repacks.repack_of
+      pass.pass_refusal functions.patch_body functions.body_refusal
   outcome_is (by_id m id value) = refl
   outcome_is (by_value m old new) = refl
   outcome_is (in_pass m e k) = refl
   outcome_is (to_body id body) = refl
-  outcome_is (repack m) = refl
 
   all_numbered : (q : Patch) → numbered (checks l s ++ own_checks l s q) ≡ true
   unfolding checks
@@ -288,7 +273,6 @@ module _ (l : Layout) (s : List ℕ) (bytes : AllBelow 256 s) (p : Step) (in_byt
   all_numbered (by_value m old new) = refl
   all_numbered (in_pass m e k) = refl
   all_numbered (to_body id body) = refl
-  all_numbered (repack m) = refl
 
   -- a list that is passed begins with a list that is passed
   first : judge own ≡ 0 → refusal l s ≡ 0

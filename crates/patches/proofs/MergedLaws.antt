@@ -20,7 +20,7 @@ use Rattle.string_edits.proofs.TurnLaws.{some_or_none, none-some, gets_none}
 use Rattle.string_in_place.specs.Patch.{patched_strings}
 use Rattle.strings.specs.Patch.{by_id_refusal, patch_by_id, by_value_refusal, patch_by_value}
 use Rattle.strings.specs.Pass.{pass_refusal, patch_in_pass}
-use Rattle.patches.specs.Patches.{Patch, by_id, by_value, in_pass, to_body, repack, outcome_of, Step, step_of, image_after, run, target_of}
+use Rattle.patches.specs.Patches.{Patch, by_id, by_value, in_pass, to_body, outcome_of, Step, step_of, image_after, run, target_of}
 use Rattle.patches.specs.Lists.{InBytes}
 use Rattle.patches.specs.Orders.{OfStrings, Merged, nothing, set_by, set_at, AllApart, Reordered, TwoOrders}
 use Rattle.patches.proofs.StringLaws.{StringsPassed, string_promise}
@@ -38,7 +38,6 @@ admitted_by m l s b (by_id k id value) t o e = admitted l s b (judged_none l s _
 admitted_by m l s b (by_value k old new) t o e = admitted l s b (judged_none l s _ (made_of _ _ _ e).0).0
 admitted_by m l s b (in_pass k j n) t o e = admitted l s b (judged_none l s _ (made_of _ _ _ e).0).0
 admitted_by m l s b (to_body id body) t o e = absurd o
-admitted_by m l s b (repack k) t o e = absurd o
 
 -- a string patch of an admitted image that makes t
 pub record Making (m : Mode) (l : Layout) (s : List ℕ) (p : Patch) (t : List ℕ) : Type 0 where
@@ -62,7 +61,6 @@ making_sets m l s (in_pass k e n) t g =
     subst (λ (j : Mode). StringsPassed j l s (values_of e n) × (patched_strings j l s (values_of e n) ≡ t)) g.strings
     (pass_passed l s g.admitted k e n t g.bytes g.makes)
 making_sets m l s (to_body id body) t g = absurd g.strings
-making_sets m l s (repack k) t g = absurd g.strings
 
 -- the first of a list
 module _ (m : Mode) (l : Layout) (p : Step) (ps : List Step) (s : List ℕ) (g : Merged m l (p ∷ ps) s) where

@@ -17,31 +17,27 @@ use Rattle.format.specs.Entry.{Place}
 use Rattle.format.specs.Move.{moved}
 use Rattle.format.proofs.MoveLaws.{moved-high}
 use Rattle.image.specs.Sections.{strings_in, tail_at}
-use Rattle.image.specs.Strings.{Str, place_at, string_of}
+use Rattle.image.specs.Strings.{Str, place_at}
 use Rattle.image.specs.Admitted.{Admitted}
 use Rattle.utf.specs.Utf8.{utf16}
 use Rattle.edits.specs.Packing.{NoneOddIn}
-use Rattle.edits.specs.Sharing.{shared_place, shared, shared_strings}
 use Rattle.edits.specs.Rebuild.{new_tail}
 use Rattle.edits.proofs.SpacedLaws.{spaced_even}
 use Rattle.edits.proofs.ModeLaws.{same_tail, same_rebuilt, tail_le}
-use Rattle.edits.proofs.SharingLaws.{shared_even, shared-same_tail, shared_same, shared_mode}
 use Rattle.string_edits.specs.Values.{Values, only, values_of}
 use Rattle.string_packing.specs.Strings.{string_with, strings_with}
 use Rattle.string_find.specs.Find.{find_id}
 use Rattle.string_in_place.specs.Patch.{fits_all, changed, patched_strings, new_length, patch_fits}
 use Rattle.strings.specs.Patch.{by_id_refusal, patch_by_id, by_value_refusal, patch_by_value}
 use Rattle.strings.specs.Pass.{pass_refusal, patch_in_pass}
-use Rattle.edits.specs.Repack.{repacked, repack_of}
-use Rattle.patches.specs.Patches.{Patch, by_id, by_value, in_pass, to_body, repack, in_mode, outcome_of, Step, step_of, image_after, run}
-use Rattle.patches.specs.Patches.{all_in, to_values, stored_once, target_of}
-use Rattle.patches.specs.Promise.{Unmoved, Shared, StringPlaces, Modeless, place_after}
+use Rattle.patches.specs.Patches.{Patch, by_id, by_value, in_pass, to_body, in_mode, outcome_of, Step, step_of, image_after, run}
+use Rattle.patches.specs.Patches.{all_in, to_values, target_of}
+use Rattle.patches.specs.Promise.{Unmoved, StringPlaces, Modeless, place_after}
 use Rattle.patches.specs.Lists.{InBytes, AllInBytes}
 use Rattle.patches.proofs.StringLaws.{StringsPassed, string_places}
 use Rattle.patches.proofs.BodyLaws.{body_unmoved}
 use Rattle.patches.proofs.ExactLaws.{either_way}
-use Rattle.patches.proofs.RepackLaws.{repack_places}
-use Rattle.patches.proofs.StepLaws.{step_made, id_passed, value_passed, pass_passed, body_passed, repack_passed, patch_promise}
+use Rattle.patches.proofs.StepLaws.{step_made, id_passed, value_passed, pass_passed, body_passed, patch_promise}
 
 -- a patch in another mode has the same bytes
 in_bytes : (m : Mode) (p : Patch) → InBytes p → InBytes (in_mode m p)
@@ -49,7 +45,6 @@ in_bytes m (by_id k id value) b = b
 in_bytes m (by_value k old new) b = b
 in_bytes m (in_pass j e k) b = b
 in_bytes m (to_body id body) b = b
-in_bytes m (repack k) b = b
 
 -- ---- strings that do not move, or stand as even mode packs them
 
@@ -67,11 +62,6 @@ module _ (l : Layout) (s : List ℕ) where
     | inr f ↦ spaced_even l t (away f)
   ]
 
-  shared_stay : (t : List ℕ) → strings_in t ≡ strings_in s → Shared Even l s t → NoneOddIn l s → NoneOddIn l t
-  shared_stay t n sh even i h w =
-      let e : place_at l t i ≡ shared_place Even (string_of l s) i = sh i (omega (arith, n)) in
-      ap (λ (q : Place). q.at % 2) e ∙ shared_even (string_of l s) i (sym (ap (λ (q : Place). q.wide) e) ∙ w)
-
   places_even : (p : Patch) (t : List ℕ) → strings_in t ≡ strings_in s → StringPlaces l s t (target_of l s (in_mode Even p))
       → NoneOddIn l s → NoneOddIn l t
   unfolding target_of
@@ -79,7 +69,6 @@ module _ (l : Layout) (s : List ℕ) where
   places_even (by_value m old new) = strings_even (only (find_id l s (utf16 old)) new)
   places_even (in_pass m e k) = strings_even (values_of e k)
   places_even (to_body id body) = unmoved_even
-  places_even (repack m) = shared_stay
 
 -- ---- where the strings stand
 
@@ -97,9 +86,6 @@ module _ (l : Layout) (s : List ℕ) (ad : Admitted l s) where
   patch_places (to_body id body) t b e =
       let (ok, p) = body_passed l s ad id body t b e in
       subst (Unmoved l s) p (body_unmoved l s id body ok)
-  patch_places (repack m) t b e =
-      let (ok, p) = repack_passed l s ad m t e in
-      subst (Shared m l s) p (repack_places m l s ok)
 
   -- ---- wide strings that stand at even places stay there
 
@@ -133,13 +119,13 @@ module _ (l : Layout) (s : List ℕ) (v : Values) (h : Modeless l s (to_values E
   abbrev f : ℕ → Str
   f = string_with l s v
 
-  alike-length : new_length Even l s v ≡ new_length Plain l s v
+  alike_length : new_length Even l s v ≡ new_length Plain l s v
   unfolding new_length strings_with
-  alike-length = elim h [ inl t ↦ rw t | inr n ↦ rw (same_tail l f s n) ]
+  alike_length = elim h [ inl t ↦ rw t | inr n ↦ rw (same_tail l f s n) ]
 
-  alike-fits : patch_fits Even l s v ≡ patch_fits Plain l s v
+  alike_fits : patch_fits Even l s v ≡ patch_fits Plain l s v
   unfolding patch_fits strings_with
-  alike-fits = elim h [ inl t ↦ rw t | inr n ↦ rw (same_tail l f s n) ]
+  alike_fits = elim h [ inl t ↦ rw t | inr n ↦ rw (same_tail l f s n) ]
 
   alike_patched : patched_strings Even l s v ≡ patched_strings Plain l s v
   unfolding patched_strings changed strings_with
@@ -148,18 +134,17 @@ module _ (l : Layout) (s : List ℕ) (v : Values) (h : Modeless l s (to_values E
 -- WHERE THE MODE DOES NOT MATTER BOTH ANSWER ALIKE
 pub modes_alike : (l : Layout) (s : List ℕ) (p : Patch) → Modeless l s (target_of l s p)
     → outcome_of l s (in_mode Even p) ≡ outcome_of l s (in_mode Plain p)
-unfolding outcome_of patch_by_id by_id_refusal patch_by_value by_value_refusal patch_in_pass pass_refusal repack_of repacked shared_strings target_of
+unfolding outcome_of patch_by_id by_id_refusal patch_by_value by_value_refusal patch_in_pass pass_refusal target_of
 modes_alike l s (by_id m id value) h =
     let v : Values = only id value in
-    rw (alike-length l s v h, alike-fits l s v h, alike_patched l s v h)
+    rw (alike_length l s v h, alike_fits l s v h, alike_patched l s v h)
 modes_alike l s (by_value m old new) h =
     let v : Values = only (find_id l s (utf16 old)) new in
-    rw (alike-length l s v h, alike-fits l s v h, alike_patched l s v h)
+    rw (alike_length l s v h, alike_fits l s v h, alike_patched l s v h)
 modes_alike l s (in_pass m e k) h =
     let v : Values = values_of e k in
-    rw (alike-length l s v h, alike-fits l s v h, alike_patched l s v h)
+    rw (alike_length l s v h, alike_fits l s v h, alike_patched l s v h)
 modes_alike l s (to_body id body) h = refl
-modes_alike l s (repack m) h = rw (shared-same_tail (string_of l s) l s h, shared_same (string_of l s) l s h)
 
 -- ---- even mode never makes the shorter image
 
@@ -176,18 +161,6 @@ longer l s ad v =
         let r : tail_at l s ≤ length s = omega (arith, ad.room) in
         omega (arith, moved-high (tail_at l s) x (length s) r, moved-high (tail_at l s) y (length s) r)
 
-longer_once : (l : Layout) (s : List ℕ) → Admitted l s
-    → place_after l s (stored_once Plain) (length s) ≤ place_after l s (stored_once Even) (length s)
-unfolding shared_strings
-longer_once l s ad =
-    let r : tail_at l s ≤ length s = omega (arith, ad.room) in
-    omega (
-      arith,
-      shared_mode (string_of l s) l s,
-      moved-high (tail_at l s) (new_tail l (shared Plain (string_of l s) (strings_in s)) s) (length s) r,
-      moved-high (tail_at l s) (new_tail l (shared Even (string_of l s) (strings_in s)) s) (length s) r,
-    )
-
 -- an admitted image, and a patch that each mode makes
 pub record BothMake (l : Layout) (s : List ℕ) (p : Patch) (t u : List ℕ) : Type 0 where
   pub admitted : Admitted l s
@@ -202,7 +175,6 @@ longer_by l s ad (by_id m id value) = longer l s ad (only id value)
 longer_by l s ad (by_value m old new) = longer l s ad (only (find_id l s (utf16 old)) new)
 longer_by l s ad (in_pass m e k) = longer l s ad (values_of e k)
 longer_by l s ad (to_body id body) = omega arith
-longer_by l s ad (repack m) = longer_once l s ad
 
 -- THE EVEN IMAGE IS NEVER SHORTER THAN THE PLAIN ONE
 pub even_longer : (l : Layout) (s : List ℕ) (p : Patch) (t u : List ℕ) → BothMake l s p t u → length t ≤ length u

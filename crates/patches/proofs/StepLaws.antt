@@ -27,14 +27,11 @@ use Rattle.string_in_place.specs.Patch as string
 use Rattle.strings.specs.Patch as strings
 use Rattle.strings.specs.Pass as pass
 use Rattle.functions.specs.Patch as functions
-use Rattle.edits.specs.Repack as repacks
-use Rattle.patches.specs.Patches.{Patch, by_id, by_value, in_pass, to_body, repack, outcome_of, Step, step_of, to_values, a_body}
-use Rattle.patches.specs.Patches.{stored_once, target_of}
+use Rattle.patches.specs.Patches.{Patch, by_id, by_value, in_pass, to_body, outcome_of, Step, step_of, to_values, a_body, target_of}
 use Rattle.patches.specs.Promise.{Promise}
 use Rattle.patches.specs.Lists.{InBytes}
 use Rattle.patches.proofs.StringLaws.{StringsPassed, string_promise}
 use Rattle.patches.proofs.BodyLaws.{BodyPassed, body_promise}
-use Rattle.patches.proofs.RepackLaws.{RepackPassed, repack_promise}
 
 -- an outcome that is made, of a refusal or an image
 pub made_of : (n : ℕ) (t u : List ℕ) → pick (eqb n 0) (made t) (refused n) ≡ made u → (n ≡ 0) × (t ≡ u)
@@ -157,25 +154,6 @@ module _ (l : Layout) (s : List ℕ) (ad : Admitted l s) where
       } in
       (ok, p)
 
-  pub repack_passed : (m : Mode) (t : List ℕ) → repacks.repack_of m l s ≡ made t
-      → RepackPassed m l s × (repacks.repacked m l s ≡ t)
-  unfolding repacks.repack_of
-  repack_passed m t e =
-      let (n, p) = made_of _ _ _ e in
-      let f = (judged_none l s _ n).1 in
-      let (limit, f₁) = judge_pass _ _ (omega arith) f in
-      let (field, f₂) = judge_pass _ _ (omega arith) f₁ in (
-        record {
-          admitted = ad;
-          limit = ltb-false size_limit (repacks.moved_by_repack m l s (length s)) limit;
-          field = not-false (fields_fit l s (repacks.moved_by_repack m l s)) field;
-        },
-        p,
-      )
-
-  to_repacked : (m : Mode) (t : List ℕ) → RepackPassed m l s × (repacks.repacked m l s ≡ t) → Promise l s t (stored_once m)
-  to_repacked m t (ok, p) = subst (λ (x : List ℕ). Promise l s x (stored_once m)) p (repack_promise m l s ok)
-
   to_body : (id : ℕ) (body t : List ℕ) → BodyPassed l s id body × (functions.patched_body l s id body ≡ t)
       → Promise l s t (a_body id body)
   to_body id body t (ok, p) = subst (λ (x : List ℕ). Promise l s x (a_body id body)) p (body_promise l s id body ok)
@@ -187,7 +165,6 @@ module _ (l : Layout) (s : List ℕ) (ad : Admitted l s) where
   patch_promise (by_value m old new) t b e = to_strings m (only (find_id l s (utf16 old)) new) t (value_passed m old new t b e)
   patch_promise (in_pass m j k) t b e = to_strings m (values_of j k) t (pass_passed m j k t b e)
   patch_promise (to_body id body) t b e = to_body id body t (body_passed id body t b e)
-  patch_promise (repack m) t b e = to_repacked m t (repack_passed m t e)
 
   -- and in its room
   pub step_promise : (p : Step) (t : List ℕ) → InBytes p.patch → step_of l s p ≡ made t

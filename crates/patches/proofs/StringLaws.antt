@@ -15,7 +15,7 @@ use Rattle.footer.specs.Finalize.{size_limit, lengthed, sealed}
 use Rattle.image.specs.Sections.{identifiers_in, strings_in, debug_in, tail_at}
 use Rattle.image.specs.Strings.{Str, string_of}
 use Rattle.image.specs.Kinds.{hash_in}
-use Rattle.image.specs.Functions.{func_of, body_of}
+use Rattle.image.specs.Functions.{func_of}
 use Rattle.image.specs.Admitted.{Admitted}
 use Rattle.edits.specs.Packing.{Spaced}
 use Rattle.edits.specs.Packing as packing
@@ -32,8 +32,7 @@ use Rattle.string_edits.specs.Values.{Values}
 use Rattle.string_packing.specs.Strings.{string_with, strings_with}
 use Rattle.string_in_place.specs.Patch.{fits_all, in_place, rehashed, changed, finished, patched_strings, new_length, patch_fits}
 use Rattle.patches.specs.Patches.{Target, to_values}
-use Rattle.patches.specs.Promise.{string_after, body_after, hash_after, size_after, place_after, function_after, Unmoved, StringPlaces}
-use Rattle.patches.specs.Promise.{Kept, Promise}
+use Rattle.patches.specs.Promise.{string_after, hash_after, place_after, function_after, Unmoved, StringPlaces, Kept, Promise}
 use Rattle.patches.proofs.CalmLaws.{Calm, spaced-after, final_calm, final_hash, final_sealed, kept_after}
 use Rattle.patches.proofs.ValueLaws.{with_valid}
 use Rattle.patches.proofs.InPlaceLaws.{AllFit, in_place_kept, in_place_unmoved, in_place_hash}
@@ -47,58 +46,6 @@ pub record StringsPassed (m : Mode) (l : Layout) (s : List ℕ) (v : Values) : T
   pub limit : new_length m l s v ≤ size_limit
   -- 12
   pub field : patch_fits m l s v ≡ true
-
--- ---- a rebuild, whatever it is for
-
--- a patch that sets c rebuilds s with the packed strings ts, which are f; it sets no body
-pub record RebuildsTo (l : Layout) (s : List ℕ) (c : Target) (f : ℕ → Str) (ts : packing.Packed) : Type 0 where
-  pub admitted : Admitted l s
-  pub rebuilds : Rebuilds l f ts s
-  pub goes : (p : ℕ) → place_after l s c p ≡ rebuilt_place l ts s p
-  pub string : (i : ℕ) → i < strings_in s → f i ≡ string_after i c (string_of l s i)
-  pub body : (i : ℕ) (old : List ℕ) → body_after i c old ≡ old
-  pub size : (i old : ℕ) → size_after i c old ≡ old
-
-pub rebuilt_long : (l : Layout) (s : List ℕ) (c : Target) (ts : packing.Packed) → Admitted l s
-    → ((p : ℕ) → place_after l s c p ≡ rebuilt_place l ts s p) → length (rebuild l ts s) ≡ place_after l s c (length s)
-rebuilt_long l s c ts ad goes =
-    length_rebuilt l ts s ad ∙ sym (goes (length s) ∙ moved-high (tail_at l s) _ (length s) (omega (arith, ad.room)))
-
-pub rebuilt_kept : (l : Layout) (s : List ℕ) (c : Target) (f : ℕ → Str) (ts : packing.Packed) → RebuildsTo l s c f ts
-    → Kept l s (rebuild l ts s) c
-rebuilt_kept l s c f ts x =
-    let ad = x.admitted in
-    let ok = x.rebuilds in
-    let t : List ℕ = rebuild l ts s in
-    let counts = counts_kept l ts s ad in
-    record {
-      admitted = rebuilt_admitted l ts s ad f ok;
-      functions = functions_same l s t counts;
-      kinds = kind_count-same l s t counts;
-      identifiers = identifier_count-same l s t counts;
-      strings = string_count-same l s t counts;
-      string = λ i h. rebuilt_string l ts s ad f ok i h ∙ x.string i h;
-      body = λ i h. rebuilt_body l ts s ad f ok i h ∙ sym (x.body i (body_of l s i));
-      flag = rebuilt_identifier l ts s ad;
-      rank = rebuilt_rank l ts s ad;
-      function = λ i h.
-          rebuilt_func l ts s ad f ok i h
-          ∙ func_eq _ (function_after l s c i (func_of l s i))
-          (record {
-            large = refl;
-            ptr = sym (x.goes (func_of l s i).ptr);
-            begin = sym (x.goes (func_of l s i).begin);
-            size = sym (x.size i (func_of l s i).size);
-            info = sym (x.goes (func_of l s i).info);
-          });
-      debug = rebuilt_debug l ts s ad f ok ∙ sym (x.goes (debug_in l s));
-      long = rebuilt_long l s c ts ad x.goes;
-      tail = λ p h e b q.
-          let there : place_after l s c p ≡ p - tail_at l s + (tail_at l t)
-          = x.goes p ∙ moved-high (tail_at l s) _ p h ∙ rw (tail_is l ts s ad f ok) in
-          let n : length t ≡ length s - tail_at l s + (tail_at l t) = length_rebuilt l ts s ad ∙ rw (tail_is l ts s ad f ok) in
-          (omega (arith, there), omega (arith, there, n), rw (x.goes p) (rebuilt_tail l ts s ad p h q));
-    }
 
 -- x is s with its strings changed, but for their hashes
 record Edited (m : Mode) (l : Layout) (s : List ℕ) (v : Values) (x : List ℕ) : Type 0 where
@@ -127,27 +74,53 @@ module _ (m : Mode) (l : Layout) (s : List ℕ) (v : Values) (ok : StringsPassed
     goes : (p : ℕ) → place_after l s c p ≡ rebuilt_place l ts s p
     goes p = rw away
 
+    long : length t ≡ place_after l s c (length s)
+    long = length_rebuilt l ts s ad ∙ sym (goes (length s) ∙ moved-high (tail_at l s) _ (length s) (omega (arith, ad.room)))
+
     pub rebuilds : Rebuilds l f ts s
     unfolding new_length patch_fits strings_with
     rebuilds = record {
       carries = carries m f (strings_in s);
       strings = with_valid l s v ad ok.bytes;
-      limit = rw (rebuilt_long l s c ts ad goes, goes (length s)) (rw away at ok.limit);
+      limit = rw (long, goes (length s)) (rw away at ok.limit);
       field = fields_use l s (rebuilt_place l ts s) (rw away at ok.field);
     }
 
-    pub rebuild_kept : Kept l s t c
+    same-string : (i : ℕ) → i < strings_in s → string_of l t i ≡ string_after i c (string_of l s i)
     unfolding string_with
+    same-string i h = rebuilt_string l ts s ad f rebuilds i h
+
+    pub rebuild_kept : Kept l s t c
     rebuild_kept =
-        rebuilt_kept l s c f ts
-        (record {
-          admitted = ad;
-          rebuilds = rebuilds;
-          goes = goes;
-          string = λ i h. refl;
-          body = λ i old. refl;
-          size = λ i old. refl;
-        })
+        let counts = counts_kept l ts s ad in
+        record {
+          admitted = rebuilt_admitted l ts s ad f rebuilds;
+          functions = functions_same l s t counts;
+          kinds = kind_count-same l s t counts;
+          identifiers = identifier_count-same l s t counts;
+          strings = string_count-same l s t counts;
+          string = same-string;
+          body = rebuilt_body l ts s ad f rebuilds;
+          flag = rebuilt_identifier l ts s ad;
+          rank = rebuilt_rank l ts s ad;
+          function = λ i h.
+              rebuilt_func l ts s ad f rebuilds i h
+              ∙ func_eq _ (function_after l s c i (func_of l s i))
+              (record {
+                large = refl;
+                ptr = sym (goes (func_of l s i).ptr);
+                begin = sym (goes (func_of l s i).begin);
+                size = refl;
+                info = sym (goes (func_of l s i).info);
+              });
+          debug = rebuilt_debug l ts s ad f rebuilds ∙ sym (goes (debug_in l s));
+          long = long;
+          tail = λ p h e b q.
+              let there : place_after l s c p ≡ p - tail_at l s + (tail_at l t)
+              = goes p ∙ moved-high (tail_at l s) _ p h ∙ rw (tail_is l ts s ad f rebuilds) in
+              let n : length t ≡ length s - tail_at l s + (tail_at l t) = length_rebuilt l ts s ad ∙ rw (tail_is l ts s ad f rebuilds) in
+              (omega (arith, there), omega (arith, there, n), rw (goes p) (rebuilt_tail l ts s ad p h q));
+        }
 
     pub rebuild-spaced : Spaced m l t
     unfolding strings_with

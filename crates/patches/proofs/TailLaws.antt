@@ -15,7 +15,7 @@ use Rattle.image.specs.Functions.{func_of}
 use Rattle.image.specs.Admitted.{Disjoint, Admitted}
 use Rattle.image.proofs.PlaceLaws.{ordered}
 use Rattle.edits.proofs.RebuildLaws.{Large}
-use Rattle.patches.specs.Patches.{Patch, by_id, by_value, in_pass, to_body, repack, Target, to_values, a_body, stored_once, target_of}
+use Rattle.patches.specs.Patches.{Patch, by_id, by_value, in_pass, to_body, Target, to_values, a_body, target_of}
 use Rattle.patches.specs.Promise.{moves_from, moves_to, place_after, OutsideBody, OutsideHeaders, Kept}
 use Rattle.patches.specs.Faults.{PatchFault}
 use Rattle.patches.specs.Faults.PatchFault.{no_function}
@@ -24,7 +24,6 @@ use Rattle.patches.specs.Faults.PatchFault.{no_function}
 abbrev pub Known : Layout → List ℕ → Target → Type 0
 Known l s (to_values m v) = Unit {0}
 Known l s (a_body id body) = id < functions_in s
-Known l s (stored_once m) = Unit {0}
 
 pub known : (l : Layout) (s : List ℕ) (room : ℕ) (p : Patch) → ((n : ℕ) → PatchFault l s room p n → ⊥)
     → Known l s (target_of l s p)
@@ -32,7 +31,6 @@ unfolding target_of
 known l s room (by_id m id value) f = tt
 known l s room (by_value m old new) f = tt
 known l s room (in_pass m e k) f = tt
-known l s room (repack m) f = tt
 known l s room (to_body id body) f = elim (below_or id (functions_in s)) [ inl h ↦ h | inr h ↦ absurd (f 7 (no_function id body h)) ]
 
 -- z bytes from a are replaced by n: w bytes from x that share none with them do not come to share one with the byte p
@@ -73,26 +71,20 @@ zero_stays l s c st = moved-low (moves_from l s c) (moves_to l s c) 0 (past c st
   where
     past : (c : Target) → Stepped l s c → 0 < moves_from l s c
     past (to_values m v) st = let o = ordered l s in omega (arith, o.kinds, o.hashes, o.small, o.over, o.storage, o.tail)
-    past (stored_once m) st = let o = ordered l s in omega (arith, o.kinds, o.hashes, o.small, o.over, o.storage, o.tail)
     past (a_body id body) st =
         let o = ordered l s in
         omega (arith, o.kinds, o.hashes, o.small, o.over, o.storage, o.tail, (st.admitted.body id st.known).0)
 
--- what moves with the tail stays apart
-moved_apart : (from to x w p : ℕ) → from ≤ x → from ≤ p → Disjoint x w p 1 → Disjoint (moved from to x) w (moved from to p) 1
-moved_apart from to x w p h k d g =
-    let a = moved-high from to x h in
-    let b = moved-high from to p k in
-    rw (a, b) (omega (arith, h, k, d (omega (arith, a, b))))
-
 header_clear : (l : Layout) (s : List ℕ) (c : Target) → Stepped l s c → (p : ℕ) → TailByte l s c p → (j : ℕ) → Large l s j
     → Disjoint (place_after l s c (func_of l s j).ptr) (table.large_row l).width (place_after l s c p) 1
 header_clear l s (to_values m v) st p tb j la =
-    moved_apart (tail_at l s) (moves_to l s (to_values m v)) (func_of l s j).ptr (table.large_row l).width p
-    (st.admitted.header j la.known la.large).0 tb.tail (tb.headers j la.known la.large)
-header_clear l s (stored_once m) st p tb j la =
-    moved_apart (tail_at l s) (moves_to l s (stored_once m)) (func_of l s j).ptr (table.large_row l).width p
-    (st.admitted.header j la.known la.large).0 tb.tail (tb.headers j la.known la.large)
+    let from = tail_at l s in
+    let to = moves_to l s (to_values m v) in
+    let x : ℕ = (func_of l s j).ptr in
+    let h = (st.admitted.header j la.known la.large).0 in
+    let a = moved-high from to x h in
+    let b = moved-high from to p tb.tail in
+    λ g. rw (a, b) (omega (arith, h, tb.tail, tb.headers j la.known la.large (omega (arith, a, b))))
 header_clear l s (a_body id body) st p tb j la =
     let f = func_of l s id in
     moved_clear f.begin f.size (length body) (func_of l s j).ptr (table.large_row l).width p

@@ -3,7 +3,7 @@
 -- docs/FORMAT.md: Refusals, Order, Lists of patches.
 use Rattle.std.specs.Prelude.{◌≡◌, false, ◌⊎◌, ◌≢◌, List, ℕ, ◌≤◌, ◌<◌, length}
 use Rattle.refusals.specs.Numbers as refusals
-use Rattle.refusals.specs.Order.{of_string_by_id, of_string_by_value, of_pass, of_body, of_repack, turn_in}
+use Rattle.refusals.specs.Order.{of_string_by_id, of_string_by_value, of_pass, of_body, turn_in}
 use Rattle.format.specs.declared.Layout.{Layout}
 use Rattle.format.specs.declared.Layout.TheVariants.{Modern, Legacy}
 use Rattle.format.specs.declared.Mode.{Mode}
@@ -14,7 +14,7 @@ use Rattle.image.specs.Faults.{ShareByte, Fault}
 use Rattle.utf.specs.Utf8.{is_utf8, utf16}
 use Rattle.string_edits.specs.Values.{Edit}
 use Rattle.functions.specs.Patch.{threshold}
-use Rattle.patches.specs.Patches.{Patch, by_id, by_value, in_pass, to_body, repack, target_of}
+use Rattle.patches.specs.Patches.{Patch, by_id, by_value, in_pass, to_body, target_of}
 use Rattle.patches.specs.Promise.{place_after}
 
 -- the order in which the numbers of a patch are due
@@ -23,7 +23,6 @@ order_of (by_id m id value) = of_string_by_id
 order_of (by_value m old new) = of_string_by_value
 order_of (in_pass m e k) = of_pass
 order_of (to_body id body) = of_body
-order_of (repack m) = of_repack
 
 -- number k is due before number n
 abbrev pub DueBefore : Patch → ℕ → ℕ → Type 0

@@ -10,8 +10,7 @@ use Rattle.image.specs.Strings.{string_of}
 use Rattle.image.specs.Kinds.{is_identifier, hash_in}
 use Rattle.image.specs.Functions.{Func, func_of, body_of}
 use Rattle.image.specs.Admitted.{InTail, Admitted}
-use Rattle.patches.specs.Patches.{Patch, by_id, by_value, in_pass, to_body, repack, Step, step_of, image_after, target_of, taken}
-use Rattle.patches.specs.Patches.{carried}
+use Rattle.patches.specs.Patches.{Patch, by_id, by_value, in_pass, to_body, Step, step_of, image_after, target_of, taken, carried}
 use Rattle.patches.specs.Faults.{DueBefore, PatchFault}
 use Rattle.patches.specs.Promise.{string_after, body_after, hash_after, size_after, place_after, OutsideBody, OutsideHeaders}
 
@@ -21,7 +20,6 @@ InBytes (by_id m id value) = (p : ℕ) → get_or value p 0 < 256
 InBytes (by_value m old new) = (p : ℕ) → get_or new p 0 < 256
 InBytes (in_pass m e k) = (j : ℕ) → j < k → (p : ℕ) → get_or (e j).value p 0 < 256
 InBytes (to_body id body) = (p : ℕ) → get_or body p 0 < 256
-InBytes (repack m) = Unit {0}
 
 abbrev pub AllInBytes : List Step → Type 0
 AllInBytes [] = Unit {0}

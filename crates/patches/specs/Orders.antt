@@ -7,8 +7,8 @@ use Rattle.format.specs.declared.Mode.{Mode}
 use Rattle.utf.specs.Utf8.{utf16}
 use Rattle.string_find.specs.Find.{find_id}
 use Rattle.string_edits.specs.Values.{Values, Apart, Edit}
-use Rattle.patches.specs.Patches.{Patch, by_id, by_value, in_pass, to_body, repack, Step, step_of, image_after}
-use Rattle.patches.specs.Patches.{Target, to_values, a_body, stored_once, target_of}
+use Rattle.patches.specs.Patches.{Patch, by_id, by_value, in_pass, to_body, Step, step_of, image_after}
+use Rattle.patches.specs.Patches.{Target, to_values, a_body, target_of}
 use Rattle.patches.specs.Lists.{AllInBytes, AllAccepted}
 
 -- ---- "string patches .., in one mode": of the three kinds that there are
@@ -18,7 +18,6 @@ OfStrings m (by_id k id value) = k ≡ m
 OfStrings m (by_value k old new) = k ≡ m
 OfStrings m (in_pass k e n) = k ≡ m
 OfStrings m (to_body id body) = ⊥
-OfStrings m (repack k) = ⊥
 
 abbrev pub AllOfStrings : Mode → List Step → Type 0
 AllOfStrings m [] = Unit {0}
@@ -39,7 +38,6 @@ nothing i = none
 abbrev pub values_to : Target → Values
 values_to (to_values m v) = v
 values_to (a_body id body) = nothing
-values_to (stored_once m) = nothing
 
 -- by a patch of an image
 abbrev pub set_by : Layout → List ℕ → Patch → Values

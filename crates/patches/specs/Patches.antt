@@ -10,16 +10,14 @@ use Rattle.string_edits.specs.Values.{Values, only, Edit, values_of}
 use Rattle.strings.specs.Patch.{patch_by_id, patch_by_value}
 use Rattle.strings.specs.Pass.{patch_in_pass}
 use Rattle.functions.specs.Patch.{patch_body}
-use Rattle.edits.specs.Repack.{repack_of}
 
 -- a string by its id and a string by its value (old, new), each in a mode (02, No. 2); the first k edits of a list in one pass (02,
--- No. 4); a body by its id; equal strings stored once, in a mode (02, No. 10)
+-- No. 4); a body by its id
 pub data Patch : Type 0 where
   by_id : Mode → ℕ → List ℕ → Patch
   by_value : Mode → List ℕ → List ℕ → Patch
   in_pass : Mode → (ℕ → Edit) → ℕ → Patch
   to_body : ℕ → List ℕ → Patch
-  repack : Mode → Patch
 
 -- a patch in another mode; a body has none
 abbrev pub in_mode : Mode → Patch → Patch
@@ -27,7 +25,6 @@ in_mode m (by_id k id value) = by_id m id value
 in_mode m (by_value k old new) = by_value m old new
 in_mode m (in_pass j e k) = in_pass m e k
 in_mode m (to_body id body) = to_body id body
-in_mode m (repack k) = repack m
 
 -- what a patch makes of an image, whatever the room
 unfoldable pub outcome_of : Layout → List ℕ → Patch → Outcome
@@ -35,7 +32,6 @@ outcome_of l s (by_id m id value) = patch_by_id m l s id value
 outcome_of l s (by_value m old new) = patch_by_value m l s old new
 outcome_of l s (in_pass m e k) = patch_in_pass m l s e k
 outcome_of l s (to_body id body) = patch_body l s id body
-outcome_of l s (repack m) = repack_of m l s
 
 -- a patch, and the room for its result
 pub record Step : Type 0 where
@@ -60,12 +56,11 @@ unfoldable pub all_in : Mode → List Step → List Step
 all_in m [] = []
 all_in m (p ∷ ps) = record { patch = in_mode m p.patch; room = p.room } ∷ all_in m ps
 
--- ---- what a patch sets: strings to values, with the mode of a rebuild, or a body to bytes, or nothing, with equal strings stored once
+-- ---- what a patch sets: strings to values, with the mode of a rebuild, or a body to bytes
 
 pub data Target : Type 0 where
   to_values : Mode → Values → Target
   a_body : ℕ → List ℕ → Target
-  stored_once : Mode → Target
 
 -- by value it is the lowest id that has the old value's units
 unfoldable pub target_of : Layout → List ℕ → Patch → Target
@@ -73,7 +68,6 @@ target_of l s (by_id m id value) = to_values m (only id value)
 target_of l s (by_value m old new) = to_values m (only (find_id l s (utf16 old)) new)
 target_of l s (in_pass m e k) = to_values m (values_of e k)
 target_of l s (to_body id body) = a_body id body
-target_of l s (repack m) = stored_once m
 
 -- ---- what is carried along a list: each accepted step may set it, a refused one does not
 

@@ -3,7 +3,6 @@
 use Rattle.std.specs.Prelude.{◌≡◌, true, false, ◌⊎◌, List, ℕ, ◌+◌, ◌≤◌, ◌<◌, eqb, length, get_or}
 use Rattle.bits.specs.Choice.{pick, both}
 use Rattle.format.specs.declared.Layout.{Layout}
-use Rattle.format.specs.declared.Mode.{Mode}
 use Rattle.format.specs.declared.Mode.TheVariants.{Plain}
 use Rattle.format.specs.Table as table
 use Rattle.format.specs.Hash.{hash_of}
@@ -17,13 +16,12 @@ use Rattle.image.specs.Functions.{Func, func_of, body_of}
 use Rattle.image.specs.Admitted.{Disjoint, Admitted}
 use Rattle.utf.specs.Utf8.{utf16}
 use Rattle.edits.specs.Packing.{placed, NoneOdd, Spaced}
-use Rattle.edits.specs.Sharing.{shared_place, shared_strings}
 use Rattle.string_edits.specs.Values.{in_turn}
 use Rattle.string_packing.specs.Strings.{new_string, string_with, strings_with}
 use Rattle.edits.specs.Rebuild.{new_tail}
 use Rattle.string_in_place.specs.Patch.{fits_all}
 use Rattle.functions.specs.Patch.{threshold}
-use Rattle.patches.specs.Patches.{Target, to_values, a_body, stored_once}
+use Rattle.patches.specs.Patches.{Target, to_values, a_body}
 
 -- ---- what is set
 
@@ -31,13 +29,11 @@ use Rattle.patches.specs.Patches.{Target, to_values, a_body, stored_once}
 abbrev pub string_after : ℕ → Target → Str → Str
 string_after i (to_values m v) old = new_string (v i) old
 string_after i (a_body id body) old = old
-string_after i (stored_once m) old = old
 
 -- body i
 abbrev pub body_after : ℕ → Target → List ℕ → List ℕ
 body_after i (to_values m v) old = old
 body_after i (a_body id body) old = pick (eqb i id) body old
-body_after i (stored_once m) old = old
 
 -- hash slot r: the hash of the value that string i gets, where this is an identifier of that rank
 abbrev pub hash_over : Layout → ℕ → List ℕ → ℕ → List ℕ → ℕ → ℕ
@@ -46,19 +42,16 @@ hash_over l r s i value old = pick (both (is_identifier l s i) (eqb r (rank_of l
 abbrev pub hash_after : Layout → ℕ → List ℕ → Target → ℕ → ℕ
 hash_after l r s (to_values m v) old = in_turn v (hash_over l r s) (strings_in s) old
 hash_after l r s (a_body id body) old = old
-hash_after l r s (stored_once m) old = old
 
 -- ---- what moves: "a place at or past the tail (rebuild) or threshold (body) moves by delta, any other and 0 stay"
 
 abbrev pub moves_from : Layout → List ℕ → Target → ℕ
 moves_from l s (to_values m v) = tail_at l s
 moves_from l s (a_body id body) = threshold (func_of l s id)
-moves_from l s (stored_once m) = tail_at l s
 
 abbrev pub moves_to : Layout → List ℕ → Target → ℕ
 moves_to l s (to_values m v) = pick (fits_all l s v) (tail_at l s) (new_tail l (strings_with m l s v) s)
 moves_to l s (a_body id body) = (func_of l s id).begin + length body
-moves_to l s (stored_once m) = new_tail l (shared_strings m l s) s
 
 abbrev pub place_after : Layout → List ℕ → Target → ℕ → ℕ
 place_after l s c = moved (moves_from l s c) (moves_to l s c)
@@ -67,7 +60,6 @@ place_after l s c = moved (moves_from l s c) (moves_to l s c)
 abbrev pub size_after : ℕ → Target → ℕ → ℕ
 size_after i (to_values m v) old = old
 size_after i (a_body id body) old = pick (eqb i id) (length body) old
-size_after i (stored_once m) old = old
 
 -- function i: its places move, and a patched body has its new size
 abbrev pub function_after : Layout → List ℕ → Target → ℕ → Func → Func
@@ -83,33 +75,26 @@ function_after l s c i f = record {
 abbrev pub OutsideBody : Layout → List ℕ → Target → ℕ → Type 0
 OutsideBody l s (to_values m v) p = Unit {0}
 OutsideBody l s (a_body id body) p = p < threshold (func_of l s id) → p < (func_of l s id).begin
-OutsideBody l s (stored_once m) p = Unit {0}
 
 abbrev pub OutsideHeaders : Layout → List ℕ → ℕ → Type 0
 OutsideHeaders l s p =
     (j : ℕ) → j < functions_in s → (func_of l s j).large ≡ true → Disjoint (func_of l s j).ptr (table.large_row l).width p 1
 
--- ---- where the strings of t stand, made from s by a patch that sets c. 02, Nos. 2 and 10
+-- ---- where the strings of t stand, made from s by a patch that sets c. 02, No. 2
 
 -- no string has moved
 abbrev pub Unmoved : Layout → List ℕ → List ℕ → Type 0
 Unmoved l s t = (i : ℕ) → i < strings_in s → place_at l t i ≡ place_at l s i
 
--- each string stands where the packing with equal ones stored once has it
-abbrev pub Shared : Mode → Layout → List ℕ → List ℕ → Type 0
-Shared m l s t = (i : ℕ) → i < strings_in s → place_at l t i ≡ shared_place m (string_of l s) i
-
 -- after a rebuild as its mode packs them; "In-place patches never move a string"; and no body patch does
 abbrev pub StringPlaces : Layout → List ℕ → List ℕ → Target → Type 0
 StringPlaces l s t (to_values m v) = (fits_all l s v ≡ false → Spaced m l t) × (fits_all l s v ≡ true → Unmoved l s t)
 StringPlaces l s t (a_body id body) = Unmoved l s t
-StringPlaces l s t (stored_once m) = Shared m l s t
 
 -- the mode does not matter: nothing moves, or no wide string comes to an odd place where each stands where the one before it ends
 abbrev pub Modeless : Layout → List ℕ → Target → Type 0
 Modeless l s (to_values m v) = (fits_all l s v ≡ true) ⊎ NoneOdd (strings_in s) (placed Plain (string_with l s v))
 Modeless l s (a_body id body) = Unit {0}
-Modeless l s (stored_once m) = NoneOdd (strings_in s) (shared_place Plain (string_of l s))
 
 -- ---- what t promises, made from s by a patch that sets c
 

@@ -103,9 +103,9 @@ valid_at [] i v h = absurd (not-suc-le-zero h)
 valid_at (us ∷ uss) zero v h = v.0
 valid_at (us ∷ uss) (suc i) v h = valid_at uss i v.1 (omega arith)
 
-each-writable : (uss : List (List ℕ)) → EachValid uss → EachWritable (map utf8_of uss)
-each-writable [] v = tt
-each-writable (us ∷ uss) v = (utf16_utf8 us v.0.0 v.0.1, writable_bytes us v.0.2, each-writable uss v.1)
+each_writable : (uss : List (List ℕ)) → EachValid uss → EachWritable (map utf8_of uss)
+each_writable [] v = tt
+each_writable (us ∷ uss) v = (utf16_utf8 us v.0.0 v.0.1, writable_bytes us v.0.2, each_writable uss v.1)
 
 bytes-at : (uss : List (List ℕ)) (i : ℕ) → i < length uss → get_or (map utf8_of uss) i [] ≡ utf8_of (get_or uss i [])
 bytes-at [] i h = absurd (not-suc-le-zero h)
@@ -130,4 +130,4 @@ different_bytes uss v =
 
 pub read_back_units : (uss : List (List ℕ)) → EachValid uss → different uss ≡ true
     → read_file (file_of (map utf8_of uss)) ≡ pairs (map untranslated (map utf8_of uss))
-read_back_units uss v d = read_back (map utf8_of uss) (each-writable uss v) (different_bytes uss v ∙ d)
+read_back_units uss v d = read_back (map utf8_of uss) (each_writable uss v) (different_bytes uss v ∙ d)

@@ -1,15 +1,35 @@
-// Strings of an image as text, where they stand: their units read as code points, which are judged,
-// counted and written as a translators' file has them (02, No. 1).
+// Strings of an image as text, where they stand: their units hashed, compared, and read as code points,
+// which are judged, counted and written as a translators' file has them (02, No. 1).
 ghost use Rattle.std.specs.Prelude.{◌≡◌, true, ◌+◌, ◌*◌, ◌≤◌, ◌<◌, ltb, length};
 ghost use Rattle.bits.specs.Choice.{both};
+ghost use Rattle.format.specs.Hash.{hash_of};
+ghost use Rattle.footer.specs.Footer.{same};
 ghost use Rattle.text.specs.Text.{Wrote};
 ghost use Rattle.utf.specs.Utf16.{is_utf16, utf8_of};
 ghost use Rattle.po_text.specs.Written.{can_write, escaped};
 ghost use Rattle.string_walk.specs.Units.{unit_at};
-ghost use Rattle.string_texts.specs.Texts.{Inside, units_in, units_left};
-ghost use Rattle.po_strings.specs.Texts.{is_held, no_point, FirstPoint};
+ghost use Rattle.po_strings.specs.Texts.{is_held, text_of, Inside, units_in, units_left, no_point, FirstPoint};
 
-use string_texts::Text;
+use string_walk::StringRecord;
+
+// Where the units of a string stand.
+#[derive(Drop)]
+pub struct Text {
+    pub start: usize,
+    pub wide: bool,
+    pub count: usize,
+}
+
+// That of a string that was found.
+pub fn text_of(string: StringRecord) -> Text
+    ensures { result ≡ text_of string }
+{
+    Text {
+        start: string.start,
+        wide: string.place.wide,
+        count: string.place.count,
+    }
+}
 
 // A code point of a text, or `NO_POINT` for a surrogate that stands alone, and the unit behind it.
 #[derive(Drop)]
@@ -19,6 +39,46 @@ struct Point {
 }
 
 const NO_POINT: u64 = 0x110000;
+
+// Unit `i` of a text.
+fn unit_of(image: &[u8], t: Text, i: usize) -> u64
+    requires { Inside image.now t × (i < t.count) }
+    ensures { (result ≡ unit_at image.now t.start t.wide i) × (result < 65536) }
+{
+    string_walk::unit_at(image, t.start, t.wide, i)
+}
+
+// The hash of the units of a text.
+pub fn hash_units(image: &[u8], t: Text) -> u32
+    requires { Inside image.now t }
+    ensures { result ≡ hash_of (units_in image.now t) }
+{
+    let mut h: u32 = 0;
+    let mut i = 0;
+    while i < t.count {
+        h = utf::hash_step(h, unit_of(image, t, i) as u32);
+        i += 1;
+    }
+    h
+}
+
+// Whether two texts have the same units, whatever their widths.
+pub fn have_same_units(image: &[u8], a: Text, b: Text) -> bool
+    requires { Inside image.now a × Inside image.now b }
+    ensures { result ≡ same (units_in image.now a) (units_in image.now b) }
+{
+    if a.count != b.count {
+        return false;
+    }
+    let mut i = 0;
+    while i < a.count {
+        if unit_of(image, a, i) != unit_of(image, b, i) {
+            return false;
+        }
+        i += 1;
+    }
+    true
+}
 
 // The code point that starts with high surrogate `high`, which is unit `i`.
 fn paired(image: &[u8], t: Text, i: usize, high: u64) -> Point
@@ -34,7 +94,7 @@ fn paired(image: &[u8], t: Text, i: usize, high: u64) -> Point
             next,
         };
     }
-    let low = string_texts::unit_of(image, t, next);
+    let low = unit_of(image, t, next);
     if low < 0xDC00 {
         return Point {
             value: NO_POINT,
@@ -59,7 +119,7 @@ fn next_point(image: &[u8], t: Text, i: usize) -> Point
     ensures { FirstPoint (units_left image.now t i) (units_left image.now t result.next) result.value
         × (i < result.next) × (result.next ≤ t.count) }
 {
-    let unit = string_texts::unit_of(image, t, i);
+    let unit = unit_of(image, t, i);
     let next = i + 1;
     if unit < 0xD800 {
         return Point { value: unit, next };

@@ -1,12 +1,14 @@
 // The pairs of a translators' file, looked up among the plain strings of an image: each string is hashed
 // where it stands, and the chain of its bucket is walked. A string that a pair goes to is marked, and
 // each pair that is to be applied must be found.
-ghost use Rattle.std.specs.Prelude.{◌≡◌, not, ℕ, suc, ◌+◌, ◌≤◌, ◌<◌, eqb, length, get_or};
+ghost use Rattle.std.specs.Prelude.{◌≡◌, not, ℕ, suc, ◌+◌, ◌*◌, ◌≤◌, ◌<◌, eqb, length, get_or};
 ghost use Rattle.bits.specs.Choice.{implies};
-ghost use Rattle.image.specs.Strings.{units_of, string_of};
+ghost use Rattle.format.specs.Hash.{hash_of};
+ghost use Rattle.image.specs.Strings.{unit_size, units_of, string_of};
 ghost use Rattle.sections.specs.Places.{Placed, Laid};
 ghost use Rattle.string_walk.specs.Places.{Stands};
 ghost use Rattle.string_edits.specs.Lists.{Within};
+ghost use Rattle.string_find.specs.Find.{units_at};
 ghost use Rattle.po_targets.specs.Targets.{applied, fits, pair_for, target_of, all_found};
 ghost use Rattle.po_targets.specs.Marks.{id_in, str_in, Different, Entered, all_flagged, mark_of, Looked};
 
@@ -14,6 +16,20 @@ use sections::Places;
 use string_walk::StringRecord;
 
 // ---- one string
+
+// The hash of the `count` units of a string whose bytes start at `start`.
+fn hash_units(image: &[u8], start: usize, wide: bool, count: usize) -> u32
+    requires { start + count * unit_size wide ≤ length image.now }
+    ensures { result ≡ hash_of (units_at image.now start wide 0 count) }
+{
+    let mut h: u32 = 0;
+    let mut i = 0;
+    while i < count {
+        h = utf::hash_step(h, string_walk::unit_at(image, start, wide, i) as u32);
+        i += 1;
+    }
+    h
+}
 
 // Whether pair `q` is applied: neither its msgid nor its msgstr is empty.
 fn is_applied(text: &[u8], ends: &[u32], q: usize) -> bool
@@ -70,8 +86,8 @@ fn find_pair(
     ensures { (result ≡ pair_for (id_in text.now ends.now) (str_in text.now ends.now)
         (units_of (string_of p.layout image.now id)) pairs) × (result ≤ pairs) }
 {
-    let text_there = string_texts::text_of(string);
-    let bucket = string_texts::hash_units(image, text_there) as usize % m;
+    let place = string.place;
+    let bucket = hash_units(image, string.start, place.wide, place.count) as usize % m;
     let mut c = chains::word_at(work, bucket);
     while 0 < c {
         if is_pair(image, p, id, string, text, ends, c - 1) {

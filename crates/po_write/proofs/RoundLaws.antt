@@ -21,7 +21,7 @@ use Rattle.po_pairs.proofs.UnitRoundLaws.{EachValid, read_back_units}
 use Rattle.image.specs.Sections.{strings_in}
 use Rattle.image.specs.Kinds.{is_identifier}
 use Rattle.po_strings.proofs.PointLaws.{held_valid}
-use Rattle.string_texts.proofs.StringLaws.{string_below}
+use Rattle.po_strings.proofs.StringLaws.{string_below}
 use Rattle.po_write.specs.Strings.{value_of, is_offered, is_first, is_written, written_at, written_to}
 use Rattle.po_write.specs.File.{file_to, po_of}
 use Rattle.po_write.proofs.FirstLaws.{written_plain, written_held}

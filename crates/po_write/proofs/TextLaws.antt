@@ -7,13 +7,12 @@ use lib.ListN.{length}
 use Rattle.utf.specs.Utf16.{is_utf16, utf8_of}
 use Rattle.po_text.specs.Written.{entry_of}
 use Rattle.sections.specs.declared.Places.{Places}
-use Rattle.string_texts.specs.declared.Text.{Text}
-use Rattle.string_texts.specs.Texts.{Inside, units_in}
+use Rattle.po_strings.specs.declared.Text.{Text}
+use Rattle.po_strings.specs.Texts.{Inside, units_in}
 use Rattle.po_strings.proofs.PointLaws.{held_valid}
 use Rattle.po_write.specs.Strings.{value_of, is_written}
 use Rattle.po_write.specs.File.{file_at}
-use Rattle.string_texts.specs.Kept.{shape_at, text_at}
-use Rattle.po_write.specs.Work.{Kept, Filled}
+use Rattle.po_write.specs.Work.{shape_at, text_at, Kept, Filled}
 use Rattle.po_write.proofs.FirstLaws.{written_held}
 use Rattle.po_write.proofs.FileLaws.{pair_some}
 use Rattle.po_write.proofs.WorkLaws.{told_on}

@@ -18,16 +18,14 @@ use Rattle.string_walk.specs.declared.StringRecord.{StringRecord}
 use Rattle.string_walk.specs.Records.{is_ranked}
 use Rattle.string_walk.specs.Places.{Stands}
 use Rattle.string_walk.proofs.RankLaws.{ranked_flag}
-use Rattle.string_texts.specs.declared.Text.{Text}
-use Rattle.string_texts.specs.Texts.{text_of, Inside, units_in}
-use Rattle.po_strings.specs.Texts.{is_held}
+use Rattle.po_strings.specs.declared.Text.{Text}
+use Rattle.po_strings.specs.Texts.{is_held, text_of, Inside, units_in}
 use Rattle.po_strings.proofs.PointLaws.{held_valid}
-use Rattle.string_texts.proofs.StringLaws.{text_inside, text_units}
+use Rattle.po_strings.proofs.StringLaws.{text_inside, text_units}
 use Rattle.string_find.proofs.FindLaws.{length_at}
 use Rattle.po_write.specs.Strings.{value_of, is_written}
 use Rattle.po_write.specs.File.{file_at}
-use Rattle.string_texts.specs.Kept.{kept_text}
-use Rattle.po_write.specs.Work.{bucket_of, Filled}
+use Rattle.po_write.specs.Work.{bucket_of, Filled, kept_text}
 use Rattle.po_write.proofs.FirstLaws.{written_held}
 use Rattle.po_write.proofs.FileLaws.{pair_none, pair_some}
 use Rattle.po_write.proofs.WorkLaws.{filled_skip, Keeps, filled_keep}

@@ -13,11 +13,10 @@ use Rattle.chains.proofs.WalkLaws.{Walked, walk_from, walk_end, walk_lower, walk
 use Rattle.sections.specs.declared.Places.{Places}
 use Rattle.sections.proofs.SectionLaws.{Sectioned, sectioned}
 use Rattle.footer.proofs.SameLaws.{same-is, same_self}
-use Rattle.string_texts.specs.declared.Text.{Text}
-use Rattle.string_texts.specs.Texts.{Inside, units_in}
+use Rattle.po_strings.specs.declared.Text.{Text}
+use Rattle.po_strings.specs.Texts.{Inside, units_in}
 use Rattle.po_write.specs.Strings.{value_of, is_first, is_written}
-use Rattle.string_texts.specs.Kept.{text_at}
-use Rattle.po_write.specs.Work.{bucket_of, Kept, Sought}
+use Rattle.po_write.specs.Work.{bucket_of, text_at, Kept, Sought}
 use Rattle.po_write.proofs.FirstLaws.{not_first, is-first}
 
 module _ (p : Places) (s : List ℕ) (id : ℕ) where

@@ -1,81 +1,89 @@
 -- What `write_po` makes, by the way that it takes: 1 to 6, 13 for the work space, else what the file has room for.
-use mathlib.Core.Path.{◌≡◌, refl}
+use mathlib.Core.Path.{◌≡◌, refl, ap, sym, ◌∙◌}
 use mathlib.Core.Bool.{Bool, true, false}
-use mathlib.Core.List.{List, ◌++◌}
+use mathlib.Core.List.{List, [], ◌∷◌, ◌++◌}
 use Prim.Native.Nat.{ℕ, ◌-◌, ◌*◌, ◌≤◌, ◌<◌}
 use native.Mathlib.Omega.{arith}
-use borrow.Author.Tests.{ltb-true, ltb-false}
-use lib.Dec.{ltb, eqb}
-use lib.ListN.{length, drop, replicate}
-use Rattle.bits.specs.Choice.{pick}
-use Rattle.bits.specs.Outcome.{Outcome, refused, made, roomed, Answers}
+use borrow.Author.Tests.{ltb-true, ltb-false, lt-ltb, le-ltb, ne_eqb}
+use lib.Dec.{ltb}
+use lib.ListN.{length, take, drop, replicate}
+use lib.Seq.{length-take-le}
+use Rattle.refusals.specs.Numbers as refusals
+use Rattle.bits.specs.Choice.{pick, check, judge}
+use Rattle.bits.specs.Outcome.{refused, made, outcome_for, roomed, Answers}
 use Rattle.bits.specs.declared.Answer.{Answer}
 use Rattle.bits.specs.declared.Answer.TheVariants.{Refused}
-use Rattle.bits.proofs.OutcomeLaws.{roomed_more}
+use Rattle.bits.proofs.OutcomeLaws.{one_answer, roomed_more}
 use Rattle.format.specs.declared.Layout.{Layout}
+use Rattle.image.specs.Sections.{strings_in}
+use Rattle.image.specs.Admission.{checks}
 use Rattle.sections.specs.declared.Places.{Places}
+use Rattle.sections.specs.Places.{places_of}
 use Rattle.admission.specs.declared.Admission.{Admission}
 use Rattle.admission.specs.declared.Admission.TheVariants as answer
 use Rattle.admission.specs.Admission.{admission, number_of}
-use Rattle.admission.specs.Lent.{lent_refusal, lent, work_after}
-use Rattle.admission.proofs.AnswerLaws.{laid_layout}
-use Rattle.admission.proofs.LentLaws as lent-laws
-use Rattle.admission.proofs.LentLaws.{one_end, work_used}
-use Rattle.po_write.specs.File.{po_of, words_each, longest_file, room_for, write_po}
+use Rattle.admission.proofs.AnswerLaws.{refused_is, refused_then, laid-is, laid_then, laid_layout}
+use Rattle.po_write.specs.File.{po_of, words_for, write_refusal, longest_file, room_for, write_po, work_after}
 use Rattle.po_write.proofs.FileLaws.{fits-room}
 
--- two runs on the same input end alike
+-- the answer, and both lent buffers afterwards
 abbrev pub Writes : Layout → List ℕ → List ℕ → List ℕ → Answer → List ℕ → List ℕ → Type 0
-Writes l s work out a work' out' =
-    Answers (write_po l s (length work) (length out)) a out out' × (work' ≡ work_after l s words_each work)
+Writes l s work out a work' out' = Answers (write_po l s (length work) (length out)) a out out' × (work' ≡ work_after l s work)
 
+-- two runs on the same input end alike
 pub one_write : (l : Layout) (s work out : List ℕ) (a a' : Answer) (work₁ work₂ out₁ out₂ : List ℕ)
     → Writes l s work out a work₁ out₁ → Writes l s work out a' work₂ out₂
     → (a ≡ a') × (out₁ ≡ out₂) × (work₁ ≡ work₂)
-unfolding write_po
-one_write l s work out =
-    one_end l s words_each (roomed (room_for (length out)) (made (po_of l s))) work out
+one_write l s work out a a' work₁ work₂ out₁ out₂ p q =
+    let e = one_answer (write_po l s (length work) (length out)) a a' out out₁ out₂ p.0 q.0 in
+    (e.0, e.1, p.1 ∙ sym q.1)
 
 -- a longer buffer changes no answer but 13
 pub longer_room : (l : Layout) (s : List ℕ) (words room more : ℕ) → room ≤ more → (write_po l s words room ≡ refused 13 → ⊥)
     → write_po l s words more ≡ write_po l s words room
-unfolding write_po lent
-longer_room l s words room more h = go (eqb (lent_refusal l s words_each words) 0)
+unfolding write_po
+longer_room l s words room more h k =
+    roomed_more (outcome_for (write_refusal l s words) (po_of l s)) (room_for room) (room_for more) (counts (ltb room longest_file) refl) k
   where
     counts : (t : Bool) → ltb room longest_file ≡ t → pick t room longest_file ≤ room_for more
     counts true e = fits-room more room h (omega (arith, ltb-true room longest_file e))
     counts false e = fits-room more longest_file (omega (arith, ltb-false room longest_file e)) (omega arith)
 
-    go : (b : Bool) → (pick b (roomed (room_for room) (made (po_of l s))) (refused (lent_refusal l s words_each words)) ≡ refused 13 → ⊥)
-        → pick b (roomed (room_for more) (made (po_of l s))) (refused (lent_refusal l s words_each words))
-        ≡ pick b (roomed (room_for room) (made (po_of l s))) (refused (lent_refusal l s words_each words))
-    go true k = roomed_more (made (po_of l s)) (room_for room) (room_for more) (counts (ltb room longest_file) refl) k
-    go false k = refl
-
--- ---- what is made by the way that `write_po` takes
+-- the part of the work space that is lent further
+pub lent-words : (n : ℕ) (work : List ℕ) → n ≤ length work → length (take (n - 0) work) ≡ n
+lent-words n work h = let k : n - 0 ≡ n = omega arith in rw k (length-take-le n work h)
 
 module _ (l : Layout) (s work out : List ℕ) where
-  -- in the words of `lent`
-  abbrev file : Outcome
-  file = roomed (room_for (length out)) (made (po_of l s))
+  -- a refusal before the file leaves both as they are
+  stopped : (n : ℕ) → 0 < n → write_refusal l s (length work) ≡ n → Writes l s work out (Refused n) work out
+  unfolding write_po work_after roomed
+  stopped n h e = rw (e, ne_eqb n 0 (λ z. omega arith)) ((refl, refl), refl)
 
-  pub image_refused : (r : Admission) → r ≡ admission l s → (k n : ℕ) → r ≡ answer.Refused k → n ≡ number_of r
-      → Writes l s work out (Refused n) work out
-  unfolding write_po
-  image_refused = lent-laws.image_refused l s words_each file work out
+  module _ (r : Admission) (e : r ≡ admission l s) where
+    pub image_refused : (k n : ℕ) → r ≡ answer.Refused k → n ≡ number_of r → Writes l s work out (Refused n) work out
+    unfolding write_refusal
+    image_refused k n f g =
+        let m : k ≡ n = sym (g ∙ ap number_of f) in
+        stopped n (omega (arith, (refused_is l s r e k f).1)) (refused_then l s r e k f _ ∙ m)
 
-  pub work_short : (r : Admission) → r ≡ admission l s → (p : Places) → r ≡ answer.Laid p → length work < 4 * p.strings
-      → Writes l s work out (Refused 13) work out
-  unfolding write_po
-  work_short = lent-laws.work_short l s words_each file work out
+    module _ (p : Places) (f : r ≡ answer.Laid p) where
+      strings_are : p.strings ≡ strings_in s
+      unfolding places_of
+      strings_are = ap (λ (q : Places). q.strings) (laid-is l s r e p f).1
 
--- in the layout of the places
-pub file_made : (l : Layout) (s work out : List ℕ) (r : Admission) (e : r ≡ admission l s) (p : Places) → r ≡ answer.Laid p
-    → 4 * p.strings ≤ length work → (a : Answer) (work' out' : List ℕ)
-    → Answers (roomed (room_for (length out)) (made (po_of p.layout s))) a out out' × (work' ≡ replicate (4 * p.strings) 0)
-    → Writes l s work out a (work' ++ drop (4 * p.strings - 0) work) out'
-unfolding write_po
-file_made l s work out r e p f h a work' out' w =
-    let g : p.layout ≡ l = laid_layout l s r e p f in
-    work_used l s words_each (roomed (room_for (length out)) (made (po_of l s))) work out r e p f h a work' out'
-    (rw (← g) w.0, w.1)
+      pub work_short : length work < 4 * p.strings → Writes l s work out (Refused 13) work out
+      unfolding write_refusal judge
+      work_short h =
+          stopped 13 (omega arith)
+          (laid_then l s r e p f _ ∙ rw (lt-ltb (length work) (words_for s) (omega (arith, strings_are))))
+
+      pub file_made : 4 * p.strings ≤ length work → (a : Answer) (work' out' : List ℕ)
+          → Answers (roomed (room_for (length out)) (made (po_of p.layout s))) a out out' × (work' ≡ replicate (4 * p.strings) 0)
+          → Writes l s work out a (work' ++ drop (4 * p.strings - 0) work) out'
+      unfolding write_po work_after write_refusal judge
+      file_made h a work' out' w =
+          let z : judge (checks l s ++ (check refusals.room (ltb (length work) (words_for s)) ∷ [])) ≡ 0
+          = laid_then l s r e p f _ ∙ rw (le-ltb (length work) (words_for s) (omega (arith, strings_are))) in
+          let g : p.layout ≡ l = laid_layout l s r e p f in
+          let k : 4 * p.strings - 0 ≡ words_for s = omega (arith, strings_are) in
+          (rw (z, ← g) w.0, rw (z, w.1, k, strings_are))

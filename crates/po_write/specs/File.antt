@@ -1,14 +1,15 @@
 -- The file that is written of an image, and what the lent space does to it. 02, No. 1: "Also write such a file from an image"; "the writer
 -- gives 1 to 6 and 13".
 -- docs/FORMAT.md: Translators' files.
-use Rattle.std.specs.Prelude.{List, map, ℕ, ltb}
-use Rattle.bits.specs.Choice.{pick}
-use Rattle.bits.specs.Outcome.{Outcome, made, roomed}
+use Rattle.std.specs.Prelude.{List, [], ◌∷◌, ◌++◌, map, ℕ, ◌*◌, ltb, eqb, length, drop, replicate}
+use Rattle.refusals.specs.Numbers as refusals
+use Rattle.bits.specs.Choice.{pick, check, judge}
+use Rattle.bits.specs.Outcome.{Outcome, outcome_for, roomed}
 use Rattle.format.specs.declared.Layout.{Layout}
 use Rattle.utf.specs.Utf16.{utf8_of}
 use Rattle.po_text.specs.Written.{file_of}
 use Rattle.image.specs.Sections.{strings_in}
-use Rattle.admission.specs.Lent.{lent}
+use Rattle.image.specs.Admission.{checks}
 use Rattle.po_write.specs.Strings.{written_at, written_to}
 
 -- the pair of string i, if it is written
@@ -23,9 +24,13 @@ file_to l s n = file_of (map utf8_of (written_to l s n))
 unfoldable pub po_of : Layout → List ℕ → List ℕ
 po_of l s = file_to l s (strings_in s)
 
--- the words of work space that are asked for, for each string
-abbrev pub words_each : ℕ
-words_each = 4
+-- the words of work space that are asked for: four for each string
+abbrev pub words_for : List ℕ → ℕ
+words_for s = 4 * strings_in s
+
+-- 1 to 6; then 13 where the work space has fewer words
+unfoldable pub write_refusal : Layout → List ℕ → ℕ → ℕ
+write_refusal l s words = judge (checks l s ++ (check refusals.room (ltb words (words_for s)) ∷ []))
 
 -- the longest file that an answer tells: a length is below 2^32
 abbrev pub longest_file : ℕ
@@ -37,4 +42,12 @@ room_for room = pick (ltb room longest_file) room longest_file
 
 -- what `write_po` makes, in so many words of work space and so many bytes of room
 unfoldable pub write_po : Layout → List ℕ → ℕ → ℕ → Outcome
-write_po l s words room = lent l s words_each words (roomed (room_for room) (made (po_of l s)))
+write_po l s words room = roomed (room_for room) (outcome_for (write_refusal l s words) (po_of l s))
+
+-- zeros over the first n words
+abbrev pub cleared : ℕ → List ℕ → List ℕ
+cleared n w = replicate n 0 ++ drop n w
+
+-- the work space afterwards: as it was where it was not used, else zeros over what was asked for
+unfoldable pub work_after : Layout → List ℕ → List ℕ → List ℕ
+work_after l s w = pick (eqb (write_refusal l s (length w)) 0) (cleared (words_for s) w) w

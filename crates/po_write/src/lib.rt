@@ -9,17 +9,16 @@ ghost use Rattle.utf.specs.Utf16.{is_utf16, utf8_of};
 ghost use Rattle.po_text.specs.Written.{entry_of};
 ghost use Rattle.sections.specs.Places.{Laid};
 ghost use Rattle.string_walk.specs.Places.{Stands};
-ghost use Rattle.string_texts.specs.Texts.{Inside, units_in};
+ghost use Rattle.po_strings.specs.Texts.{Inside, units_in};
 ghost use Rattle.po_write.specs.Strings.{is_first};
-ghost use Rattle.admission.specs.Lent.{work_after};
-ghost use Rattle.po_write.specs.File.{file_at, words_each, room_for, po_of, write_po};
-ghost use Rattle.po_write.specs.Work.{Filled, Sought};
+ghost use Rattle.po_write.specs.File.{file_at, room_for, po_of, write_po, work_after};
+ghost use Rattle.po_write.specs.Work.{text_at, Filled, kept_text, Sought};
 
 use admission::Admission;
 use bits::Answer;
 use format::Layout;
+use po_strings::Text;
 use sections::Places;
-use string_texts::Text;
 use string_walk::StringRecord;
 
 // The bytes of a pair around its value.
@@ -27,6 +26,32 @@ const FRAME: usize = 20;
 
 // An answer tells a length below 2^32.
 const LONGEST: usize = 4294967295;
+
+// ---- words of the work space: heads, links, starts, shapes, `n` of each
+
+// The text that is kept of string `j`.
+fn text_at(work: &[u32], n: usize, j: usize) -> Text
+    requires { (length work.now ≡ 4 * n) × (n < 4294967296) × (j < n) }
+    ensures { result ≡ text_at work.now n j }
+{
+    let shape = chains::word_at(work, n + n + n + j);
+    Text {
+        start: chains::word_at(work, n + n + j),
+        wide: shape % 2 == 1,
+        count: shape / 2,
+    }
+}
+
+// The text of string `k` is kept, and the string enters a bucket.
+fn keep(work: &mut [u32], n: usize, k: usize, bucket: usize, t: Text)
+    requires work_len { (length work.old ≡ 4 * n) × (n < 4294967296) × (k < n) × (bucket < n) }
+    requires start_bound { (t.start ≤ 67108864) × (t.count ≤ 67108864) }
+    ensures { work.new ≡ kept_text work.old n k bucket t }
+{
+    chains::enter(work, n, k, bucket);
+    work[n + n + k] = t.start as u32;
+    work[n + n + n + k] = (t.count * 2 + format::if_set(t.wide, 1)) as u32;
+}
 
 // ---- the strings, one by one
 
@@ -37,8 +62,8 @@ fn is_first(image: &[u8], p: Places, work: &[u32], id: usize, bucket: usize, t: 
 {
     let mut c = chains::word_at(work, bucket);
     while 0 < c {
-        let other = string_texts::text_at(work, p.strings, c - 1);
-        if string_texts::have_same_units(image, other, t) {
+        let other = text_at(work, p.strings, c - 1);
+        if po_strings::have_same_units(image, other, t) {
             return false;
         }
         c = chains::word_at(work, p.strings + (c - 1));
@@ -57,15 +82,15 @@ fn take_turn(image: &[u8], p: Places, id: usize, string: StringRecord, work: &mu
     if string_walk::is_identifier(rank) {
         return 0;
     }
-    let t = string_texts::text_of(string);
+    let t = po_strings::text_of(string);
     if !po_strings::is_held(image, t) {
         return 0;
     }
-    let bucket = string_texts::hash_units(image, t) as usize % p.strings;
+    let bucket = po_strings::hash_units(image, t) as usize % p.strings;
     if !is_first(image, p, work, id, bucket, t) {
         return 0;
     }
-    string_texts::keep(work, p.strings, id, bucket, t);
+    keep(work, p.strings, id, bucket, t);
     po_strings::written_length(image, t) + FRAME
 }
 
@@ -109,7 +134,7 @@ fn put_kept(out: &mut [u8], at: usize, image: &[u8], p: Places, work: &[u32], j:
     if chains::word_at(work, n + n + n + j) == 0 {
         return at;
     }
-    put_entry(out, at, image, string_texts::text_at(work, n, j))
+    put_entry(out, at, image, text_at(work, n, j))
 }
 
 // The pairs of all strings that are kept, in id order.
@@ -163,8 +188,7 @@ fn write_known(image: &[u8], p: Places, work: &mut [u32], out: &mut [u8]) -> Ans
 // `out` has no room, or the file has 2^32 bytes or more. Then no byte of `out` changes.
 pub fn write_po(image: &[u8], layout: Layout, work: &mut [u32], out: &mut [u8]) -> Answer
     ensures { Answers (write_po layout image.now (length work.old) (length out.old)) result
-        out.old out.new × (work.new ≡ work_after layout image.now words_each
-        work.old) }
+        out.old out.new × (work.new ≡ work_after layout image.now work.old) }
 {
     let admitted = admission::admit(image, layout);
     let Admission::Laid(p) = admitted else {

@@ -31,10 +31,6 @@ of_string_by_value = of_image ++ (refusals.value ∷ refusals.absent ∷ of_resu
 abbrev pub of_file : List ℕ
 of_file = of_image ++ (refusals.file ∷ refusals.absent ∷ of_result)
 
--- 02, No. 10: "1 to 6, 11 to 13, in that order"; the space that is lent for work comes right behind 1 to 6
-abbrev pub of_repack : List ℕ
-of_repack = of_image ++ of_result
-
 -- 02, No. 6: those of a patch by id, but for 13, which is of the lent index and comes right behind 1 to 6
 abbrev pub of_reason : List ℕ
 of_reason = of_image ++ (refusals.room ∷ refusals.id ∷ refusals.value ∷ refusals.limit ∷ refusals.field ∷ [])

@@ -11,7 +11,7 @@ use lib.Dec.{eqb}
 use lib.ListN.{length, get_or, drop, length-append}
 use lib.Seq.{ext_get_or}
 use Rattle.refusals.specs.Numbers as refusals
-use Rattle.bits.specs.Choice.{pick, both, first_from}
+use Rattle.bits.specs.Choice.{pick, both}
 use Rattle.bits.specs.Bytes.{bytes_at}
 use Rattle.footer.specs.Footer.{same}
 use Rattle.footer.proofs.SameLaws.{longer_differs}
@@ -31,7 +31,7 @@ use Rattle.string_walk.specs.Units.{unit_at}
 use Rattle.string_walk.specs.Walk.{visits}
 use Rattle.string_walk.proofs.UnitLaws.{units_count, units_at}
 use Rattle.string_walk.proofs.RecordLaws.{record_string, record_count, units_inside}
-use Rattle.string_find.specs.Find.{has_units, find_id, units_at}
+use Rattle.string_find.specs.Find.{find_from, find_id, units_at}
 
 -- ---- lists that are the same
 
@@ -231,31 +231,30 @@ module _ (p : Places) (s units : List ℕ) (i : ℕ) (r : StringRecord) (n : ℕ
 pub record Compared (p : Places) (s units : List ℕ) (i : ℕ) (t : Bool) (x : ℕ) : Type 0 where
   pub known : i < p.strings
   pub tested : t ≡ same (units_of (string_of p.layout s i)) units
-  pub finds : first_from (has_units p.layout s units) i (p.strings - i) ≡ x
+  pub finds : find_from p.layout s units i (p.strings - i) ≡ x
 
 module _ (p : Places) (s units : List ℕ) (i : ℕ) (t : Bool) (x : ℕ) (h : Compared p s units i t x) where
   left_is : p.strings - i ≡ suc (p.strings - suc i)
   left_is = omega (arith, h.known)
 
-  found_or : pick t i (first_from (has_units p.layout s units) (suc i) (p.strings - suc i)) ≡ x
-  unfolding first_from
+  found_or : pick t i (find_from p.layout s units (suc i) (p.strings - suc i)) ≡ x
+  unfolding find_from
   found_or =
-      ap (λ (c : Bool). pick c i (first_from (has_units p.layout s units) (suc i) (p.strings - suc i))) h.tested
-      ∙ rw left_is at h.finds
+      ap (λ (c : Bool). pick c i (find_from p.layout s units (suc i) (p.strings - suc i))) h.tested ∙ rw left_is at h.finds
 
   found : t ≡ true → i ≡ x
   found g = rw g at found_or
 
-  pub find_next : t ≡ false → first_from (has_units p.layout s units) (i + 1) (p.strings - (i + 1)) ≡ x
+  pub find_next : t ≡ false → find_from p.layout s units (i + 1) (p.strings - (i + 1)) ≡ x
   find_next g = rw add-one (rw g at found_or)
 
 module _ (p : Places) (s units : List ℕ) where
-  pub find_none : Placed p s → first_from (has_units p.layout s units) 0 (p.strings - 0) ≡ find_id p.layout s units
+  pub find_none : Placed p s → find_from p.layout s units 0 (p.strings - 0) ≡ find_id p.layout s units
   unfolding find_id
   find_none pl = let e : p.strings - 0 ≡ strings_in s = omega (arith, (sectioned p s pl).strings) in rw e
 
-  find_end : (i x : ℕ) → p.strings ≤ i → first_from (has_units p.layout s units) i (p.strings - i) ≡ x → i ≡ x
-  unfolding first_from
+  find_end : (i x : ℕ) → p.strings ≤ i → find_from p.layout s units i (p.strings - i) ≡ x → i ≡ x
+  unfolding find_from
   find_end i x h e = let z : p.strings - i ≡ 0 = omega arith in rw z at e
 
   -- ---- what is answered
@@ -269,6 +268,6 @@ module _ (p : Places) (s units : List ℕ) where
       let x : i ≡ find_id p.layout s units = found p s units i t (find_id p.layout s units) h g in
       (x, rw x at h.known, subst (λ (j : ℕ). Stands p s j q) x st, v ∙ ap (visits p.layout s) x)
 
-  pub found_none : (i : ℕ) → p.strings ≤ i → first_from (has_units p.layout s units) i (p.strings - i) ≡ find_id p.layout s units
+  pub found_none : (i : ℕ) → p.strings ≤ i → find_from p.layout s units i (p.strings - i) ≡ find_id p.layout s units
       → Locates p s (find_id p.layout s units) refusals.absent (Refused refusals.absent)
   found_none i h e = (refl, rw (find_end i (find_id p.layout s units) h e) at h)

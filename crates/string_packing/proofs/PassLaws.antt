@@ -19,8 +19,7 @@ use Rattle.format.specs.Entry as entry
 use Rattle.footer.specs.Finalize.{size_limit}
 use Rattle.image.specs.Sections.{strings_in, small_at}
 use Rattle.image.specs.Strings.{Str, size_of, string_of}
-use Rattle.edits.specs.Packing.{Packed}
-use Rattle.edits.specs.Rebuild.{region, padded, new_tail}
+use Rattle.edits.specs.Rebuild.{overs, region, padded, new_tail}
 use Rattle.edits.proofs.TableLaws.{size-smalls, size-pairs}
 use Rattle.sections.specs.declared.Places.{Places}
 use Rattle.sections.specs.Places.{Placed}
@@ -39,10 +38,10 @@ use Rattle.string_packing.specs.declared.Packer.{Packer}
 use Rattle.string_packing.specs.declared.Turn.{Turn}
 use Rattle.string_packing.specs.Strings.{as_string, new_string, string_with, strings_with, Shaped, place_with, Held}
 use Rattle.string_packing.specs.declared.Sizes.{Sizes}
-use Rattle.string_packing.specs.Pass.{string_most, Reached, InTurn, Turned, StretchOf, Measured, SizesOf}
+use Rattle.string_packing.specs.Pass.{string_most, Reached, InTurn, Turned, StretchOf, Measured}
 use Rattle.string_packing.proofs.ShapeLaws.{shaped_count, value_count, sums_none, sums_next}
 
-pub set-bit : (b : Bool) → if_set b 1 ≡ entry.bit b
+set-bit : (b : Bool) → if_set b 1 ≡ entry.bit b
 set-bit true = refl
 set-bit false = refl
 
@@ -190,31 +189,37 @@ measured m p s f c e rc =
 
 -- ---- the tail behind them
 
-pub measured_sizes : (m : Mode) (p : Places) (s : List ℕ) → Placed p s → (v : Values) (z : Sizes)
-    → Measured m p (string_with p.layout s v) z → SizesOf s (strings_with m p.layout s v) z
-unfolding strings_with
-measured_sizes m p s pl v z me =
-    let e = (sectioned p s pl).strings in
-    record { storage = rw e at me.sums.0; overflows = rw e at me.sums.1 }
+module _ (m : Mode) (p : Places) (s : List ℕ) (pl : Placed p s) (v : Values) (z : Sizes)
+    (me : Measured m p (string_with p.layout s v) z) where
+  pub storage_is : z.storage ≡ length (strings_with m p.layout s v).store
+  unfolding strings_with
+  storage_is = rw (sectioned p s pl).strings at me.sums.0
 
-module _ (p : Places) (s : List ℕ) (pl : Placed p s) (q : Packed) (z : Sizes) (si : SizesOf s q z) where
-  length-region : p.small_at + length (region (strings_in s) q) ≡ p.over_at + z.overflows * 8 + z.storage
-  unfolding region
+  pub overflows_are : z.overflows ≡ overs (strings_with m p.layout s v).place (strings_in s)
+  unfolding strings_with
+  overflows_are = rw (sectioned p s pl).strings at me.sums.1
+
+  pub length-region : p.small_at + length
+      (region (strings_in s) (strings_with m p.layout s v)) ≡ p.over_at + z.overflows * 8 + z.storage
+  unfolding region strings_with
   length-region =
       let sc : Sectioned p s = sectioned p s pl in
+      let q = strings_with m p.layout s v in
       rw (
         length-append,
         length-append,
         size-smalls q.place (strings_in s),
         size-pairs q.place (strings_in s),
-        ← si.overflows,
-        ← si.storage,
+        ← overflows_are,
+        ← storage_is,
       ) (omega arith)
 
-  pub tail_is : up4 (p.over_at + z.overflows * 8 + z.storage) ≡ new_tail p.layout q s
+  pub tail_is : up4 (p.over_at + z.overflows * 8 + z.storage) ≡ new_tail p.layout (strings_with m p.layout s v) s
   unfolding padded
   tail_is =
       let n : ℕ = p.over_at + z.overflows * 8 + z.storage in
-      let e : small_at p.layout s + length (region (strings_in s) q) ≡ n
-      = ap (λ (a : ℕ). a + length (region (strings_in s) q)) (sym (sectioned p s pl).small_from) ∙ length-region in
+      let e : small_at p.layout s + length (region (strings_in s) (strings_with m p.layout s v)) ≡ n
+      =
+      ap (λ (a : ℕ). a + length (region (strings_in s) (strings_with m p.layout s v))) (sym (sectioned p s pl).small_from)
+      ∙ length-region in
       rw (length-append, e, length-replicate) (omega (arith, e))

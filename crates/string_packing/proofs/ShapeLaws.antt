@@ -73,7 +73,7 @@ value_count value = go (ascii value)
     go false = rw (length_units (utf16 value)) (omega (arith, units_most value))
 
 -- a string of the image has the shape of its place
-pub old_shaped : (l : Layout) (s : List ℕ) (i : ℕ)
+old_shaped : (l : Layout) (s : List ℕ) (i : ℕ)
     → Shaped (record { wide = (place_at l s i).wide; count = (place_at l s i).count }) (string_of l s i)
 unfolding string_of
 old_shaped l s i = (refl, length-bytes_at s (storage_at l s + (place_at l s i).at) (size_of (place_at l s i)))

@@ -1,13 +1,10 @@
 -- The pass over the strings that a rebuild measures and writes by: where it stands, and what one turn of it promises.
 -- docs/FORMAT.md: Packing.
-use Rattle.std.specs.Prelude.{◌≡◌, ◌≢◌, List, ℕ, ◌+◌, ◌*◌, ◌≤◌, ◌<◌, eqb, length}
+use Rattle.std.specs.Prelude.{◌≡◌, ◌≢◌, List, ℕ, ◌+◌, ◌*◌, ◌≤◌, ◌<◌, eqb}
 use Rattle.std.proofs.Math.Option.{none, some}
 use Rattle.format.specs.declared.Mode.{Mode}
 use Rattle.format.specs.Entry.{bit, is_over}
-use Rattle.image.specs.Sections.{strings_in}
 use Rattle.image.specs.Strings.{Str, size_of}
-use Rattle.edits.specs.Packing.{Packed}
-use Rattle.edits.specs.Rebuild.{overs}
 use Rattle.sections.specs.declared.Places.{Places}
 use Rattle.sections.specs.Places.{Laid}
 use Rattle.string_tables.specs.Strings.{as_place}
@@ -66,8 +63,3 @@ pub record Measured (m : Mode) (p : Places) (f : ℕ → Str) (z : Sizes) : Type
   pub sums : Sums m f p.strings z.storage z.overflows
   pub few : z.overflows ≤ p.strings
   pub low : z.storage ≤ p.strings * string_most
-
--- sizes are those of the packed strings of an image
-pub record SizesOf (s : List ℕ) (q : Packed) (z : Sizes) : Type 0 where
-  pub storage : z.storage ≡ length q.store
-  pub overflows : z.overflows ≡ overs q.place (strings_in s)

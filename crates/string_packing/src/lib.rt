@@ -92,7 +92,7 @@ pub fn is_over(place: Place) -> bool
 }
 
 // The zero bytes before a string that is packed next, where those before it take `at` bytes.
-pub fn gap(mode: Mode, wide: bool, at: usize) -> usize
+fn gap(mode: Mode, wide: bool, at: usize) -> usize
     ensures { (result ≡ gap_of mode wide at) × (result ≤ 1) }
 {
     match mode {

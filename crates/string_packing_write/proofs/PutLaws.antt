@@ -3,14 +3,14 @@ use mathlib.Core.Path.{◌≡◌, refl, ap, sym, ◌∙◌, subst⁻¹}
 use mathlib.Core.Bool.{Bool, true, false}
 use mathlib.Core.Option.{none, some}
 use mathlib.Core.List.{List}
-use Prim.Native.Nat.{ℕ, suc, ◌+◌, ◌-◌, ◌*◌, ◌≤◌, ◌<◌}
+use Prim.Native.Nat.{ℕ, ◌+◌, ◌-◌, ◌*◌, ◌≤◌, ◌<◌}
 use native.Mathlib.Numerals.{add-one}
 use native.Mathlib.Omega.{arith}
 use lib.Dec.{eqb}
 use lib.ListN.{length, replicate, length-replicate}
 use lib.Seq.{sets}
 use Rattle.bits.specs.Choice.{pick, both}
-use Rattle.bits.specs.Bytes.{bytes_at, ascii, zeros_to4}
+use Rattle.bits.specs.Bytes.{bytes_at, ascii}
 use Rattle.bits.proofs.WriteLaws.{sets_append}
 use Rattle.format.specs.declared.Mode.{Mode}
 use Rattle.format.specs.Entry as entry
@@ -36,12 +36,11 @@ use Rattle.string_packing.specs.declared.Sizes.{Sizes}
 use Rattle.string_walk.proofs.RecordLaws.{record_small, record_inside, record_string}
 use Rattle.string_packing.specs.Pass.{Reached, InTurn, Turned}
 use Rattle.string_packing.proofs.ShapeLaws.{place_is, size_is, place_next, sums_more}
-use Rattle.string_packing.proofs.PassLaws.{measured_sizes}
+use Rattle.string_packing.proofs.PassLaws.{storage_is, overflows_are}
 use Rattle.string_packing_write.specs.declared.RegionPlaces.{RegionPlaces}
-use Rattle.string_packing_write.specs.Region.{put_entry, put_string, region_put, region_places, EntryFits, StringFits, Roomy, source_of}
-use Rattle.string_packing_write.specs.Region.{stored_bytes}
-use Rattle.string_packing_write.specs.Written.{Behind, Sized, RegionFits}
-use Rattle.string_packing_write.proofs.RegionLaws.{laid_next, region-padded}
+use Rattle.string_packing_write.specs.Region.{put_entry, put_string, region_put, EntryFits, StringFits, Roomy, source_of, stored_bytes}
+use Rattle.string_packing_write.specs.Written.{Behind, Sized}
+use Rattle.string_packing_write.proofs.RegionLaws.{laid_next, Joined, Filled, region-padded}
 
 -- the bytes of a value, by its width
 value_bytes : (value : List ℕ) (b : Bool) → (as_string value).wide ≡ b
@@ -166,29 +165,6 @@ module _ (m : Mode) (p : Places) (s value : List ℕ) (id : ℕ) (x : Shape) (c 
         = w.entered ∙ ap (λ (q : entry.Place). put_entry to c.old.id c.over q out) new_is in
         w.stored ∙ rw (b, a, w.zeros, g, o, sets_append (replicate gap 0) (strings c.old.id).bytes, length-replicate)
 
--- ---- packed strings, however they are packed: there is room for each entry
-
-pub entry-room : (to : RegionPlaces) (n : ℕ) (ps : Packed) (room : ℕ) → Roomy to n ps room → n ≤ size_limit → (i k : ℕ) → i < n
-    → k ≡ overs ps.place i → k ≤ i → EntryFits to i k (ps.place i) room
-entry-room to n ps room ro few i k h e l =
-    let o = overs-room ps.place i n h in
-    record {
-      small = omega (arith, ro.smalls, ro.pairs, ro.store);
-      pair = omega (arith, ro.pairs, ro.store, o);
-      small_low = omega (arith, ro.smalls, ro.pairs, ro.limit);
-      over_low = omega (arith, ro.pairs, ro.limit);
-      few = omega arith;
-      few_over = omega arith;
-    }
-
--- entry i starts before the overflow table, and the pair of the next one before storage
-pub entry-apart : (to : RegionPlaces) (n : ℕ) (ps : Packed) (room : ℕ) → Roomy to n ps room → (i : ℕ) → i < n
-    → (to.small_at + i * 4 + 4 ≤ to.over_at) × (to.over_at + overs ps.place (suc i) * 8 ≤ to.storage_at)
-entry-apart to n ps room ro i h = (
-  omega (arith, ro.smalls),
-  omega (arith, ro.pairs, overs-room ps.place i n h, overs_next ps.place i),
-)
-
 -- ---- the strings f, one after the other
 
 -- the first strings of f are packed, another one is next, and a buffer of n bytes has room for all
@@ -206,6 +182,11 @@ module _ (m : Mode) (p : Places) (s : List ℕ) (f : ℕ → Str) (c : Packer) (
   here : standing from (f c.old.id) ≡ placed m f c.old.id
   here = place_next m f c.old.id c.at q.reached.sums.0
 
+  over_fits : c.over + entry.bit (entry.is_over (standing from (f c.old.id))) ≤ overs (placed m f) p.strings
+  over_fits =
+      subst⁻¹ (λ (y : entry.Place). c.over + entry.bit (entry.is_over y) ≤ overs (placed m f) p.strings) here
+      (rw q.reached.sums.1 (overs-room (placed m f) c.old.id p.strings q.known))
+
   size_fits : from + length (f c.old.id).bytes ≤ length (store_of m f (strings_in s))
   size_fits =
       let known : c.old.id < strings_in s = omega (arith, q.known, (sectioned p s q.placed).strings) in
@@ -217,9 +198,14 @@ module _ (m : Mode) (p : Places) (s : List ℕ) (f : ℕ → Str) (c : Packer) (
       let z : Sectioned p s = sectioned p s q.placed in
       let ro = q.roomy in
       record {
-        entry = subst⁻¹ (λ (y : entry.Place). EntryFits to c.old.id c.over y n) here
-            (entry-room to p.strings (packed m f (strings_in s)) n ro (omega arith) c.old.id c.over q.known
-            q.reached.sums.1 q.reached.going.few);
+        entry = record {
+          small = omega (arith, ro.smalls, ro.pairs, ro.store, q.known);
+          pair = omega (arith, ro.pairs, ro.store, over_fits);
+          small_low = omega (arith, ro.smalls, ro.pairs, ro.limit);
+          over_low = omega (arith, ro.pairs, ro.limit);
+          few = omega (arith, q.known);
+          few_over = omega (arith, q.known, q.reached.going.few);
+        };
         store = omega (arith, ro.store, size_fits);
         limit = omega (arith, ro.limit, size_fits);
       }
@@ -235,8 +221,16 @@ module _ (m : Mode) (p : Places) (s : List ℕ) (f : ℕ → Str) (c : Packer) (
       → o1 ≡ region_put to c.old.id (packed m f c.old.id) out
       → o2 ≡ put_string m to c.old.id c.over c.at (f c.old.id) o1 → o2 ≡ region_put to i (packed m f i) out
   laid-further i out o1 o2 e h g =
-      let (x, y) = entry-apart to p.strings (packed m f (strings_in s)) n q.roomy c.old.id q.known in
-      let next = laid_next m to f c.old.id out x y in
+      let next
+      =
+      laid_next m to f c.old.id out (omega (arith, q.roomy.smalls, q.known))
+      (omega (
+        arith,
+        q.roomy.pairs,
+        overs-room (placed m f) c.old.id p.strings q.known,
+        overs_next (placed m f)
+            c.old.id,
+      )) in
       rw (e, add-one, next, ← q.reached.sums.1, ← q.reached.sums.0, ← h) g
 
 -- behind the last string
@@ -247,50 +241,36 @@ pub all_strings : (m : Mode) (p : Places) (s : List ℕ) → Placed p s → (v :
 unfolding strings_with
 all_strings m p s pl v i e to out o1 h = rw (← (sectioned p s pl).strings) (rw e at h)
 
--- ---- the region of strings whose sizes are known
+-- the region of strings that were measured
+module _ (m : Mode) (p : Places) (s : List ℕ) (edits : Told) (text ends : List ℕ) (z : Sizes) (n : ℕ)
+    (q : Sized m p s edits text ends z n) (storage : ℕ) (e : storage ≡ p.over_at + z.overflows * 8) where
+  abbrev target : RegionPlaces
+  target = record { small_at = p.small_at; over_at = p.over_at; storage_at = storage }
 
-module _ (p : Places) (s : List ℕ) (ps : Packed) (z : Sizes) (n : ℕ) (q : RegionFits p s ps z n) where
-  abbrev to : RegionPlaces
-  to = region_places p z
+  abbrev every : Packed
+  every = strings_with m p.layout s (values_in edits text ends)
 
-  sc : Sectioned p s
-  sc = sectioned p s q.placed
+  store_is : z.storage ≡ length every.store
+  store_is = storage_is m p s q.laid.placed (values_in edits text ends) z q.measured
 
-  pairs_are : z.overflows ≡ overs ps.place p.strings
-  pairs_are = q.sizes.overflows ∙ ap (overs ps.place) (sym sc.strings)
+  pairs_are : z.overflows ≡ overs every.place p.strings
+  pairs_are =
+      overflows_are m p s q.laid.placed (values_in edits text ends) z q.measured
+      ∙ ap (overs every.place) (sym (sectioned p s q.laid.placed).strings)
 
-  roomy : Roomy to p.strings ps n
-  roomy = record {
-    smalls = omega (arith, sc);
-    pairs = omega (arith, pairs_are);
-    store = omega (arith, q.room, q.sizes.storage);
-    limit = omega (arith, q.limit, q.sizes.storage);
-  }
+  pub roomy : Roomy target p.strings every n
+  roomy =
+      let sc : Sectioned p s = sectioned p s q.laid.placed in
+      record {
+        smalls = omega arith;
+        pairs = omega (arith, pairs_are);
+        store = omega (arith, q.room, store_is);
+        limit = omega (arith, q.limit, store_is);
+      }
 
-  region-put : (out o1 o2 : List ℕ) → o1 ≡ region_put to p.strings ps out
-      → o2 ≡ sets o1 (to.storage_at + z.storage) (zeros_to4 (to.storage_at + z.storage))
-      → o2 ≡ sets out p.small_at (padded p.small_at (region p.strings ps))
-  region-put out o1 o2 f g =
-      region-padded to p.strings ps (record { over = omega (arith, sc); storage = omega (arith, pairs_are) })
-      (to.storage_at + z.storage) out o1 o2 (omega (arith, q.sizes.storage)) f g
-
-  -- by the places that the code holds
-  pub roomy_at : (at : RegionPlaces) → at ≡ to → Roomy at p.strings ps n
-  roomy_at at e = subst⁻¹ (λ (y : RegionPlaces). Roomy y p.strings ps n) e roomy
-
-  pub region-at : (at : RegionPlaces) → at ≡ to → (out o1 o2 : List ℕ) → o1 ≡ region_put at p.strings ps out
-      → o2 ≡ sets o1 (at.storage_at + z.storage) (zeros_to4 (at.storage_at + z.storage))
-      → o2 ≡ sets out p.small_at (padded p.small_at (region p.strings ps))
-  region-at at e out o1 o2 f g =
-      region-put out o1 o2 (f ∙ ap (λ (y : RegionPlaces). region_put y p.strings ps out) e)
-      (g ∙ ap (λ (y : RegionPlaces). sets o1 (y.storage_at + z.storage) (zeros_to4 (y.storage_at + z.storage))) e)
-
--- that of strings that were measured
-pub sized_fits : (m : Mode) (p : Places) (s : List ℕ) (edits : Told) (text ends : List ℕ) (z : Sizes) (n : ℕ)
-    → Sized m p s edits text ends z n → RegionFits p s (strings_with m p.layout s (values_in edits text ends)) z n
-sized_fits m p s edits text ends z n q = record {
-  placed = q.laid.placed;
-  sizes = measured_sizes m p s q.laid.placed (values_in edits text ends) z q.measured;
-  room = q.room;
-  limit = q.limit;
-}
+  pub region-put : (up : ℕ) (out o1 o2 : List ℕ) → Filled target p.strings every (storage + z.storage) up out o1 o2
+      → o2 ≡ sets out p.small_at (padded p.small_at (region p.strings every))
+  region-put up out o1 o2 f =
+      let sc : Sectioned p s = sectioned p s q.laid.placed in
+      let j : Joined target p.strings every = record { over = omega arith; storage = omega (arith, pairs_are) } in
+      region-padded target p.strings every j (storage + z.storage) up out o1 o2 (omega (arith, store_is)) f

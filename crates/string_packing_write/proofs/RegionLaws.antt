@@ -1,17 +1,17 @@
 -- The tables of a list of strings, one string longer, and side by side.
-use mathlib.Core.Path.{◌≡◌, refl, ap, sym, ◌∙◌}
+use mathlib.Core.Path.{◌≡◌, refl, sym, ◌∙◌}
 use mathlib.Core.List.{List, ◌++◌}
 use Prim.Native.Nat.{ℕ, suc, ◌+◌, ◌-◌, ◌*◌, ◌≤◌}
 use native.Mathlib.Omega.{arith}
 use lib.ListN.{length, replicate, length-append}
 use lib.Seq.{sets}
-use Rattle.bits.specs.Bytes.{bytes_of, zeros_to4}
+use Rattle.bits.specs.Bytes.{bytes_of, up4}
 use Rattle.bits.proofs.ByteLaws.{length-bytes_of}
 use Rattle.bits.proofs.WriteLaws.{sets_append, sets_comm}
 use Rattle.format.specs.declared.Mode.{Mode}
 use Rattle.format.specs.Entry.{Place, small_word}
 use Rattle.image.specs.Strings.{Str}
-use Rattle.edits.specs.Packing.{Packed, gap_of, store_own, start_own, placed, store_of, packed}
+use Rattle.edits.specs.Packing.{Packed, gap_of, start_of, placed, store_of, packed}
 use Rattle.edits.specs.Rebuild.{smalls, pair_if_over, pairs, overs, region, padded}
 use Rattle.edits.proofs.TableLaws.{overs_next, smalls_next, pairs_next, size-smalls, size_pair, size-pairs}
 use Rattle.edits.proofs.PackLaws.{store_next}
@@ -36,28 +36,6 @@ longer A a P p S s o x y z h k =
 
 -- ---- one string more
 
--- whatever is stored for it
-pub laid_more : (to : RegionPlaces) (ps : ℕ → Place) (i : ℕ) (store new out : List ℕ)
-    → to.small_at + i * 4 + 4 ≤ to.over_at → to.over_at + overs ps (suc i) * 8 ≤ to.storage_at
-    → region_put to (suc i) (record { place = ps; store = store ++ new }) out
-    ≡ sets (put_entry to i (overs ps i) (ps i) (region_put to i (record { place = ps; store = store }) out))
-    (to.storage_at + length store) new
-unfolding region_put put_entry
-laid_more to ps i store new out h l =
-    let w : ℕ = small_word (overs ps i) (ps i) in
-    let A : List ℕ = smalls ps i in
-    let B : List ℕ = pairs ps i in
-    let j : to.small_at + length A + length (bytes_of 4 w) ≤ to.over_at = rw (size-smalls ps i, length-bytes_of 4 w) h in
-    let k : to.over_at + length B + length (pair_if_over (ps i)) ≤ to.storage_at
-    = rw (size-pairs ps i, size_pair ps i) (omega (arith, l, overs_next ps i)) in
-    rw (
-      smalls_next ps i,
-      pairs_next ps i,
-      longer A (bytes_of 4 w) B (pair_if_over (ps i)) store new out to.small_at to.over_at to.storage_at j k,
-      size-smalls ps i,
-      size-pairs ps i,
-    )
-
 module _ (m : Mode) (to : RegionPlaces) (f : ℕ → Str) (i : ℕ) (out : List ℕ) where
   abbrev at : ℕ
   at = length (store_of m f i)
@@ -65,16 +43,33 @@ module _ (m : Mode) (to : RegionPlaces) (f : ℕ → Str) (i : ℕ) (out : List 
   abbrev ps : ℕ → Place
   ps = placed m f
 
+  abbrev before : List ℕ
+  before = region_put to i (packed m f i) out
+
   pub laid_next : to.small_at + i * 4 + 4 ≤ to.over_at → to.over_at + overs ps (suc i) * 8 ≤ to.storage_at
-      → region_put to (suc i) (packed m f (suc i)) out ≡ put_string m to i (overs ps i) at (f i) (region_put to i (packed m f i) out)
-  unfolding put_string start_own
+      → region_put to (suc i) (packed m f (suc i)) out ≡ put_string m to i (overs ps i) at (f i) before
+  unfolding region_put put_string put_entry start_of
   laid_next h l =
-      let new : List ℕ = replicate (gap_of m (f i).wide at) 0 ++ (f i).bytes in
-      ap (λ (x : List ℕ). region_put to (suc i) (record { place = ps; store = x }) out) (store_next m f i)
-      ∙ laid_more to ps i (store_of m f i) new out h l
+      let w : ℕ = small_word (overs ps i) (ps i) in
+      let A : List ℕ = smalls ps i in
+      let B : List ℕ = pairs ps i in
+      let zeros : List ℕ = replicate (gap_of m (f i).wide at) 0 in
+      let j : to.small_at + length A + length (bytes_of 4 w) ≤ to.over_at = rw (size-smalls ps i, length-bytes_of 4 w) h in
+      let k : to.over_at + length B + length (pair_if_over (ps i)) ≤ to.storage_at
+      = rw (size-pairs ps i, size_pair ps i) (omega (arith, l, overs_next ps i)) in
+      rw (
+        store_next m f i,
+        smalls_next ps i,
+        pairs_next ps i,
+        longer A (bytes_of 4 w) B (pair_if_over (ps i)) (store_of m f i) (zeros ++ (f i).bytes) out to.small_at to.over_at
+            to.storage_at j k,
+        size-smalls ps i,
+        size-pairs ps i,
+      )
+      refl
 
 pub laid_none : (m : Mode) (to : RegionPlaces) (f : ℕ → Str) (out : List ℕ) → out ≡ region_put to 0 (packed m f 0) out
-unfolding region_put store_own smalls pairs
+unfolding region_put store_of smalls pairs
 laid_none m to f out = refl
 
 -- ---- the tables side by side, then zeros
@@ -83,6 +78,12 @@ laid_none m to f out = refl
 pub record Joined (to : RegionPlaces) (n : ℕ) (ps : Packed) : Type 0 where
   pub over : to.over_at ≡ to.small_at + n * 4
   pub storage : to.storage_at ≡ to.over_at + overs ps.place n * 8
+
+-- n strings are written, then zeros up to a multiple of 4
+pub record Filled (to : RegionPlaces) (n : ℕ) (ps : Packed) (end up : ℕ) (out o1 o2 : List ℕ) : Type 0 where
+  pub strings : o1 ≡ region_put to n ps out
+  pub four : up ≡ up4 end
+  pub zeros : o2 ≡ sets o1 end (replicate (up - end) 0)
 
 module _ (to : RegionPlaces) (n : ℕ) (ps : Packed) (j : Joined to n ps) where
   laid-region : (out : List ℕ) → region_put to n ps out ≡ sets out to.small_at (region n ps)
@@ -103,11 +104,10 @@ module _ (to : RegionPlaces) (n : ℕ) (ps : Packed) (j : Joined to n ps) where
       rw (length-append, length-append, size-smalls ps.place n, size-pairs ps.place n, j.storage, j.over)
       (omega arith)
 
-  -- n strings are written, then zeros up to a multiple of 4
-  pub region-padded : (end : ℕ) (out o1 o2 : List ℕ) → end ≡ to.storage_at + length ps.store
-      → o1 ≡ region_put to n ps out → o2 ≡ sets o1 end (zeros_to4 end)
+  pub region-padded : (end up : ℕ) (out o1 o2 : List ℕ) → end ≡ to.storage_at + length ps.store
+      → Filled to n ps end up out o1 o2
       → o2 ≡ sets out to.small_at (padded to.small_at (region n ps))
   unfolding padded
-  region-padded end out o1 o2 d f g =
+  region-padded end up out o1 o2 d f =
       let l : to.small_at + length (region n ps) ≡ end = length-region ∙ sym d in
-      rw (sets_append (region n ps), l, ← laid-region out, ← f) g
+      rw (sets_append (region n ps), l, ← laid-region out, ← f.strings) (rw f.four at f.zeros)

@@ -13,8 +13,6 @@ use Rattle.utf.specs.Utf8.{utf16, unit_bytes}
 use Rattle.image.specs.Strings.{Str}
 use Rattle.edits.specs.Packing.{Packed, gap_of, standing}
 use Rattle.edits.specs.Rebuild.{smalls, pair_if_over, pairs, overs}
-use Rattle.sections.specs.declared.Places.{Places}
-use Rattle.string_packing.specs.declared.Sizes.{Sizes}
 use Rattle.string_packing_write.specs.declared.RegionPlaces.{RegionPlaces}
 
 -- entry i, of a place, with k overflow entries before it: its small entry, and its pair if it overflows
@@ -34,14 +32,6 @@ unfoldable pub region_put : RegionPlaces → ℕ → Packed → List ℕ → Lis
 region_put to n ps out =
     sets (sets (sets out to.small_at (smalls ps.place n)) to.over_at (pairs ps.place n)) to.storage_at
     ps.store
-
--- where the tables and the storage of strings of these sizes start, in the place of those of an image
-abbrev pub region_places : Places → Sizes → RegionPlaces
-region_places p z = record {
-  small_at = p.small_at;
-  over_at = p.over_at;
-  storage_at = entry_at p.over_at table.overflow_entry z.overflows;
-}
 
 -- the tables do not meet, and there is room for all
 pub record Roomy (to : RegionPlaces) (n : ℕ) (ps : Packed) (room : ℕ) : Type 0 where

@@ -7,14 +7,14 @@ use Rattle.format.specs.Number.{entry_at}
 use Rattle.format.specs.Entry.{bit, is_over}
 use Rattle.footer.specs.Finalize.{size_limit}
 use Rattle.image.specs.Strings.{Str}
-use Rattle.edits.specs.Packing.{Packed, gap_of, standing, packed}
+use Rattle.edits.specs.Packing.{gap_of, standing, packed}
 use Rattle.sections.specs.declared.Places.{Places}
-use Rattle.sections.specs.Places.{Placed, Laid}
+use Rattle.sections.specs.Places.{Laid}
 use Rattle.string_edits.specs.Told.{Told, values_in, Listed}
 use Rattle.string_packing.specs.declared.Packer.{Packer}
 use Rattle.string_packing.specs.declared.Sizes.{Sizes}
 use Rattle.string_packing.specs.Strings.{string_with, strings_with}
-use Rattle.string_packing.specs.Pass.{Going, Measured, SizesOf}
+use Rattle.string_packing.specs.Pass.{Going, Measured}
 use Rattle.string_packing_write.specs.declared.RegionPlaces.{RegionPlaces}
 use Rattle.string_packing_write.specs.Region.{region_put, Roomy}
 
@@ -42,12 +42,5 @@ pub record Sized (m : Mode) (p : Places) (s : List ℕ) (edits : Told) (text end
   pub laid : Laid p s
   pub listed : Listed edits text ends
   pub measured : Measured m p (string_with p.layout s (values_in edits text ends)) z
-  pub room : up4 (entry_at p.over_at overflow_entry z.overflows + z.storage) ≤ n
-  pub limit : entry_at p.over_at overflow_entry z.overflows + z.storage ≤ size_limit
-
--- packed strings of an image, however they are packed, and their sizes: the region ends in a buffer of n bytes
-pub record RegionFits (p : Places) (s : List ℕ) (q : Packed) (z : Sizes) (n : ℕ) : Type 0 where
-  pub placed : Placed p s
-  pub sizes : SizesOf s q z
   pub room : up4 (entry_at p.over_at overflow_entry z.overflows + z.storage) ≤ n
   pub limit : entry_at p.over_at overflow_entry z.overflows + z.storage ≤ size_limit

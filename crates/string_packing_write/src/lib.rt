@@ -3,8 +3,6 @@
 ghost use Rattle.std.specs.Prelude.{◌≡◌, ◌+◌, ◌≤◌, ◌<◌, length};
 ghost use Rattle.std.proofs.lemmas.List.Edits.{sets};
 ghost use Rattle.bits.specs.Choice.{both};
-ghost use Rattle.bits.specs.Bytes.{up4, zeros_to4};
-ghost use Rattle.footer.specs.Finalize.{size_limit};
 ghost use Rattle.string_tables.specs.Strings.{as_place};
 ghost use Rattle.edits.specs.Rebuild.{region, padded};
 ghost use Rattle.string_edits.specs.Values.{only};
@@ -12,7 +10,6 @@ ghost use Rattle.string_edits.specs.Told.{told, values_in};
 ghost use Rattle.string_packing.specs.Strings.{as_string, string_with, strings_with, Shaped};
 ghost use Rattle.string_packing.specs.Pass.{Reached, InTurn};
 ghost use Rattle.string_packing_write.specs.Region.{put_entry, put_string, region_put, EntryFits, StringFits, source_of, stored_bytes};
-ghost use Rattle.string_packing_write.specs.Region.{region_places};
 ghost use Rattle.string_packing_write.specs.Written.{Behind, LaidOn, Writable, Sized};
 
 use format::Mode;
@@ -30,7 +27,7 @@ pub struct RegionPlaces {
 }
 
 // Entry `i`, of a place: its small entry, and its pair if it is overflow entry `k`.
-pub fn put_entry(out: &mut [u8], to: RegionPlaces, i: usize, k: usize, place: Place)
+fn put_entry(out: &mut [u8], to: RegionPlaces, i: usize, k: usize, place: Place)
     requires { EntryFits to i k (as_place place) (length out.old) }
     ensures { out.new ≡ put_entry to i k (as_place place) out.old }
 {
@@ -191,26 +188,6 @@ fn put_strings<'a>(
     }
 }
 
-// Where the tables and the storage of strings of these sizes start.
-pub fn region_places(p: Places, sizes: Sizes) -> RegionPlaces
-    requires { (p.over_at ≤ size_limit) × (sizes.overflows ≤ size_limit) }
-    ensures { result ≡ region_places p sizes }
-{
-    RegionPlaces {
-        small_at: p.small_at,
-        over_at: p.over_at,
-        storage_at: sections::entry_at(p.over_at, sizes.overflows, format::OVERFLOW_ENTRY),
-    }
-}
-
-// Zeros behind storage, which ends at `end`, to a multiple of 4.
-pub fn put_padding(out: &mut [u8], end: usize)
-    requires { (end ≤ size_limit) × (up4 end ≤ length out.old) }
-    ensures { out.new ≡ sets out.old end (zeros_to4 end) }
-{
-    bits::put_zeros(out, end, bits::up4(end) - end);
-}
-
 // The small table, the overflow table and the storage of all strings, and zeros to a multiple of 4,
 // from the small table's place on.
 pub fn put_region<'a>(
@@ -229,7 +206,13 @@ pub fn put_region<'a>(
         (region p.strings (strings_with mode p.layout image.now
         (values_in (told form words.now) text.now ends.now)))) }
 {
-    let to = region_places(p, sizes);
+    let storage_at = sections::entry_at(p.over_at, sizes.overflows, format::OVERFLOW_ENTRY);
+    let to = RegionPlaces {
+        small_at: p.small_at,
+        over_at: p.over_at,
+        storage_at,
+    };
     put_strings(out, image, p, mode, to, form, words, text, ends);
-    put_padding(out, to.storage_at + sizes.storage);
+    let end = storage_at + sizes.storage;
+    bits::put_zeros(out, end, bits::up4(end) - end);
 }

@@ -18,8 +18,7 @@ use Rattle.string_overlap.specs.Overlap.{is_apart, is_alone}
 use Rattle.string_in_place.specs.Patch.{fits_in_place}
 use Rattle.string_reasons.specs.Reasons.{lowest_overlap}
 use Rattle.string_reasons.specs.Facts.{Overlaps, GoesInPlace}
-use Rattle.bits.proofs.FirstLaws.{false-true}
-use Rattle.string_reasons.proofs.OverlapLaws.{lowest_is, shared-some}
+use Rattle.string_reasons.proofs.OverlapLaws.{false-true, lowest_is, shared_some}
 use Rattle.string_reasons.proofs.PathLaws.{is_of_length}
 
 module _ (value : List ℕ) where
@@ -80,7 +79,7 @@ module _ (l : Layout) (s : List ℕ) (id : ℕ) where
   pub lowest_overlaps : is_alone l s id ≡ false → Overlaps l s id (lowest_overlap l s id)
       × ((k : ℕ) → k < lowest_overlap l s id → Overlaps l s id k → ⊥)
   lowest_overlaps f =
-      let (h, e, a) = shared-some l s id f in
+      let (h, e, a) = shared_some l s id f in
       (not_overlaps (lowest_overlap l s id) h e, λ k g o. false-true (is_apart l s id k) (overlaps_not k o) (a k g))
 
   pub overlaps_lowest : (i : ℕ) → Overlaps l s id i → ((k : ℕ) → k < i → Overlaps l s id k → ⊥)

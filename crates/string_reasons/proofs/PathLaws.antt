@@ -38,7 +38,7 @@ use Rattle.string_reasons.specs.declared.Reason.{Reason}
 use Rattle.string_reasons.specs.declared.Reason.TheVariants.{InPlace, Wide, NotAscii, Lengths, Overlap}
 use Rattle.string_reasons.specs.Reasons.{lowest_overlap, path_of}
 use Rattle.string_reasons.specs.Facts.{over_old, anew, way_for}
-use Rattle.string_reasons.proofs.OverlapLaws.{lowest_is, lowest_none, none_alone, some-shared}
+use Rattle.string_reasons.proofs.OverlapLaws.{lowest_is, lowest_none, none_alone, some_shared}
 
 -- ---- the overlaps, by the places that an index tells
 
@@ -159,7 +159,7 @@ module _ (p : Places) (s : List ℕ) (laid : Laid p s) (id : ℕ) (value : List 
           finds_overlap h =
               let g : lowest_overlap p.layout s id < strings_in s = omega (arith, z.strings, f) in
               ap Overlap f
-              ∙ sym (path_overlap p.layout s id value (wide_is ∙ narrow) plain long (some-shared p.layout s id g))
+              ∙ sym (path_overlap p.layout s id value (wide_is ∙ narrow) plain long (some_shared p.layout s id g))
 
           pub finds_none : p.strings ≤ other → InPlace ≡ path
           finds_none h =
@@ -191,7 +191,7 @@ module _ (m : Mode) (p : Places) (s : List ℕ) (id : ℕ) (value : List ℕ) (p
 
   module _ (pl : Planned m p s (only id value) plan) where
     pub plan_rises : plan.tail ≤ plan.length
-    plan_rises = omega (arith, planned_length p s plan pl.is)
+    plan_rises = omega (arith, planned_length m p s (only id value) plan pl)
 
   -- what it meets in the room that it asks for is what the patch is refused with, whatever the room
   pub plan_judged : Laid p s → id < p.strings → fits_in_place p.layout s id value ≡ false → Planned m p s (only id value) plan

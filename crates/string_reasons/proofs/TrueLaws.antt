@@ -31,7 +31,7 @@ use Rattle.string_reasons.specs.declared.Reason.TheVariants.{Refused, InPlace, W
 use Rattle.string_reasons.specs.Reasons.{lowest_overlap, path_of, reason_refusal, reason_of}
 use Rattle.string_reasons.specs.Facts.{ReasonFault, of_patch, Fact, turn_of, First, refuses, over_old, anew}
 use Rattle.string_reasons.specs.Facts.{way_of, made_by, way_for, Rebuilds, Enough, Taken, TrueReason, short_index}
-use Rattle.bits.proofs.FirstLaws.{false-true}
+use Rattle.string_reasons.proofs.OverlapLaws.{false-true}
 use Rattle.string_reasons.proofs.PathLaws.{is_of_length, path_goes, path_wide, path_not-ascii, path_lengths, path_overlap, path_anew}
 use Rattle.string_reasons.proofs.PathLaws.{fits_one}
 use Rattle.string_reasons.proofs.FactLaws.{ascii-not, not_plain, lowest_overlaps, overlaps_lowest, overlaps_shared}
@@ -65,8 +65,8 @@ module _ (m : Mode) (l : Layout) (s : List ℕ) (words id : ℕ) (value : List �
     pub last : k ≤ turn_of (Overlap 0)
 
   -- where nothing before it is so, a reason that is so is first
-  first-of : (r : Reason) → NoneBefore (turn_of r) → Fact m l s words id value r → IsFirst r
-  first-of r n x = record { holds = x; none = go }
+  first_of : (r : Reason) → NoneBefore (turn_of r) → Fact m l s words id value r → IsFirst r
+  first_of r n x = record { holds = x; none = go }
     where
       go : (q : Reason) → turn_of q < turn_of r → Fact m l s words id value q → ⊥
       go (Refused k) h y = omega (arith, fault_refused m l s words id value k y, n.refusal)
@@ -82,7 +82,7 @@ module _ (m : Mode) (l : Layout) (s : List ℕ) (words id : ℕ) (value : List �
     first_path : IsFirst (path_of l s id value)
     first_path = elim (which (fits_in_place l s id value)) [
       | inl t ↦ subst IsFirst (sym (path_goes l s id value t))
-          (first-of InPlace (record {
+          (first_of InPlace (record {
             refusal = none;
             in_place = λ h. absurd (omega arith);
             wide = λ h. absurd (omega arith);
@@ -92,7 +92,7 @@ module _ (m : Mode) (l : Layout) (s : List ℕ) (words id : ℕ) (value : List �
           }) (fits_goes l s id value t))
       | inr moves ↦ elim (which (place_at l s id).wide) [
         | inl t ↦ subst IsFirst (sym (path_wide l s id value t))
-            (first-of Wide (record {
+            (first_of Wide (record {
               refusal = none;
               in_place = λ h. moves;
               wide = λ h. absurd (omega arith);
@@ -102,7 +102,7 @@ module _ (m : Mode) (l : Layout) (s : List ℕ) (words id : ℕ) (value : List �
             }) t)
         | inr narrow ↦ elim (which (ascii value)) [
           | inr f ↦ subst IsFirst (sym (path_not-ascii l s id value narrow f))
-              (first-of NotAscii (record {
+              (first_of NotAscii (record {
                 refusal = none;
                 in_place = λ h. moves;
                 wide = λ h. narrow;
@@ -112,7 +112,7 @@ module _ (m : Mode) (l : Layout) (s : List ℕ) (words id : ℕ) (value : List �
               }) (ascii-not value f))
           | inl plain ↦ elim (which (is_of_length l s id value)) [
             | inr f ↦ subst IsFirst (sym (path_lengths l s id value narrow plain f))
-                (first-of (Lengths (size_of (place_at l s id)) (length value)) (record {
+                (first_of (Lengths (size_of (place_at l s id)) (length value)) (record {
                   refusal = none;
                   in_place = λ h. moves;
                   wide = λ h. narrow;
@@ -122,7 +122,7 @@ module _ (m : Mode) (l : Layout) (s : List ℕ) (words id : ℕ) (value : List �
                 }) (refl, refl, λ e. eqb-false (length value) (size_of (place_at l s id)) f (sym e)))
             | inl same ↦ let shared : is_alone l s id ≡ false = not_alone l s id value narrow plain same moves in
                 subst IsFirst (sym (path_overlap l s id value narrow plain same shared))
-                (first-of (Overlap (lowest_overlap l s id)) (record {
+                (first_of (Overlap (lowest_overlap l s id)) (record {
                   refusal = none;
                   in_place = λ h. moves;
                   wide = λ h. narrow;

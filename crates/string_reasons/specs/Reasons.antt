@@ -1,9 +1,9 @@
 -- Why a string patch takes the path that it takes. 02, No. 6: "answers one reason"; "The first that holds, in that order, is given. Room is
 -- left out."
 -- docs/FORMAT.md: Reasons.
-use Rattle.std.specs.Prelude.{not, List, ◌∷◌, ◌++◌, ℕ, leb, ltb, eqb, length}
+use Rattle.std.specs.Prelude.{not, List, ◌∷◌, ◌++◌, ℕ, zero, suc, leb, ltb, eqb, length}
 use Rattle.refusals.specs.Numbers as refusals
-use Rattle.bits.specs.Choice.{pick, check, judge, first_from}
+use Rattle.bits.specs.Choice.{pick, check, judge}
 use Rattle.bits.specs.Bytes.{ascii}
 use Rattle.format.specs.declared.Layout.{Layout}
 use Rattle.format.specs.declared.Mode.{Mode}
@@ -18,9 +18,14 @@ use Rattle.string_in_place.specs.Patch.{fits_in_place, result_checks}
 use Rattle.string_reasons.specs.declared.Reason.{Reason}
 use Rattle.string_reasons.specs.declared.Reason.TheVariants.{Refused, InPlace, Wide, NotAscii, Lengths, Overlap}
 
+-- the lowest of the ids i, i + 1, .. below i + n whose entry overlaps that of id, else i + n
+unfoldable pub overlap_from : Layout → List ℕ → ℕ → ℕ → ℕ → ℕ
+overlap_from l s id i zero = i
+overlap_from l s id i (suc n) = pick (is_apart l s id i) (overlap_from l s id (suc i) n) i
+
 -- "the lowest overlapping id", else the string count
 unfoldable pub lowest_overlap : Layout → List ℕ → ℕ → ℕ
-lowest_overlap l s id = first_from (λ i. not (is_apart l s id i)) 0 (strings_in s)
+lowest_overlap l s id = overlap_from l s id 0 (strings_in s)
 
 -- "in place; wide entry; value not ASCII; lengths differ, with both; or overlap, with the lowest overlapping id"
 unfoldable pub path_of : Layout → List ℕ → ℕ → List ℕ → Reason

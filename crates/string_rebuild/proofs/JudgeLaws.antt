@@ -8,35 +8,32 @@ use native.Mathlib.Omega.{arith}
 use borrow.Author.Tests.{lt-ltb, le-ltb, ltb-false, not-false}
 use lib.Dec.{ltb}
 use lib.ListN.{length}
-use Rattle.refusals.specs.Numbers as refusals
-use Rattle.bits.specs.Choice.{pick, Check, check, judge}
+use Rattle.bits.specs.Choice.{pick, check, judge}
 use Rattle.bits.specs.Bytes.{up4}
 use Rattle.bits.specs.Outcome.{Outcome, Answers, refused, made, outcome_for, roomed}
 use Rattle.bits.specs.declared.Answer.TheVariants.{Refused}
 use Rattle.bits.proofs.JudgeLaws.{judge_pass}
-use Rattle.format.specs.declared.Layout.{Layout}
 use Rattle.format.specs.declared.Mode.{Mode}
-use Rattle.format.specs.Table as table
 use Rattle.format.specs.Move.{moved}
 use Rattle.format.proofs.MoveLaws.{moved-high}
 use Rattle.footer.specs.Finalize.{size_limit}
 use Rattle.image.specs.Sections.{small_at, tail_at}
 use Rattle.edits.specs.Fit.{fields_fit}
-use Rattle.edits.specs.Packing.{Packed}
-use Rattle.edits.specs.Rebuild.{new_tail, rebuild}
+use Rattle.edits.specs.Rebuild.{new_tail}
 use Rattle.edits.proofs.RebuildLaws.{length_rebuilt}
 use Rattle.sections.specs.declared.Places.{Places}
 use Rattle.sections.specs.Places.{Placed, Laid}
 use Rattle.sections.proofs.SectionLaws.{Sectioned, sectioned}
 use Rattle.string_edits.specs.Values.{Values}
 use Rattle.string_packing.specs.declared.Sizes.{Sizes}
-use Rattle.string_packing.specs.Strings.{string_with, strings_with}
-use Rattle.string_packing.specs.Pass.{string_most, Measured, SizesOf}
-use Rattle.string_packing.proofs.PassLaws.{measured_sizes, tail_is}
+use Rattle.string_packing.specs.Strings.{string_with}
+use Rattle.string_packing.specs.Pass.{string_most, Measured}
+use Rattle.string_packing.proofs.PassLaws.{tail_is}
 use Rattle.string_in_place.specs.Patch.{fits_all, changed, patched_strings, new_length, patch_fits, result_checks, patch_known}
 use Rattle.string_in_place.proofs.FinishLaws.{length-finished, Makes}
 use Rattle.string_rebuild.specs.declared.Plan.{Plan}
-use Rattle.string_rebuild.specs.Ready.{tail_of, plan_of, Planned, plan_refusal, number_of, Moving}
+use Rattle.string_rebuild.specs.Ready.{tail_of, plan_of, Planned, plan_refusal, number_of}
+use Rattle.string_rebuild.proofs.RebuildLaws.{new_strings}
 
 -- ---- an outcome by its number
 
@@ -88,14 +85,14 @@ pub planned : (m : Mode) (p : Places) (s : List ℕ) (v : Values) (z : Sizes) �
 unfolding plan_of
 planned m p s v z me plan e = rw e (record { measured = me; is = refl })
 
-module _ (p : Places) (s : List ℕ) (plan : Plan) (is : plan ≡ plan_of p (length s) plan.sizes) where
+module _ (m : Mode) (p : Places) (s : List ℕ) (v : Values) (plan : Plan) (pl : Planned m p s v plan) where
   pub planned_tail : plan.tail ≡ tail_of p plan.sizes
   unfolding plan_of
-  planned_tail = ap (λ (x : Plan). x.tail) is
+  planned_tail = ap (λ (x : Plan). x.tail) pl.is
 
   pub planned_length : plan.length ≡ length s - p.tail + plan.tail
   unfolding plan_of
-  planned_length = ap (λ (x : Plan). x.length) is ∙ ap (λ (t : ℕ). length s - p.tail + t) (sym planned_tail)
+  planned_length = ap (λ (x : Plan). x.length) pl.is ∙ ap (λ (t : ℕ). length s - p.tail + t) (sym planned_tail)
 
 -- ---- what it meets
 
@@ -138,139 +135,67 @@ none_met p s plan room e =
       enough = ltb-false _ _ short;
     }
 
--- ---- a plan of packed strings, however they are packed
-
-pub record PlanOf (p : Places) (s : List ℕ) (q : Packed) (plan : Plan) : Type 0 where
-  pub laid : Laid p s
-  pub sizes : SizesOf s q plan.sizes
-  pub is : plan ≡ plan_of p (length s) plan.sizes
-
-module _ (p : Places) (s : List ℕ) (q : Packed) (plan : Plan) (pl : PlanOf p s q plan) where
-  sc : Sectioned p s
-  sc = sectioned p s pl.laid.placed
-
-  abbrev to : ℕ
-  to = new_tail p.layout q s
-
-  tail_to : plan.tail ≡ to
-  tail_to = planned_tail p s plan pl.is ∙ tail_is p s pl.laid.placed q plan.sizes pl.sizes
-
-  length_to : plan.length ≡ length s - p.tail + to
-  length_to = planned_length p s plan pl.is ∙ ap (λ (t : ℕ). length s - p.tail + t) tail_to
-
-  pub plan_length : moved (tail_at p.layout s) to (length s) ≡ plan.length
-  plan_length = moved-high (tail_at p.layout s) to (length s) (omega (arith, sc)) ∙ rw (← sc.tail_from) (sym length_to)
-
-  pub plan_fits : fields_fit p.layout s (moved (tail_at p.layout s) to) ≡ fields_fit p.layout s (moved p.tail plan.tail)
-  plan_fits = rw (tail_to, sc.tail_from)
-
-  pub plan_rebuilt : length (rebuild p.layout q s) ≡ plan.length
-  plan_rebuilt = length_rebuilt p.layout q s pl.laid.admitted ∙ rw (← sc.tail_from) (sym length_to)
-
-  -- the header's words are in the result
-  pub plan_least : table.header_length ≤ plan.length
-  plan_least = omega (arith, length_to, sc, small_to)
-    where
-      small_to : small_at p.layout s ≤ to
-      small_to = omega arith
-
-  -- what meets no number may be written
-  pub plan_moving : (room : ℕ) → MeetsNone p s plan room → Moving p s q plan.sizes plan.tail plan.length
-  plan_moving room n = record {
-    laid = pl.laid;
-    sizes = pl.sizes;
-    tail = planned_tail p s plan pl.is;
-    long = planned_length p s plan pl.is;
-    limit = n.limit;
-    fields = n.fields;
-  }
-
--- what is judged of a rebuild with packed strings: 11 and 12
-abbrev pub rebuild_checks : Layout → Packed → List ℕ → List Check
-rebuild_checks l q s =
-    let mv = moved (tail_at l s) (new_tail l q s) in
-    check refusals.limit (ltb size_limit (mv (length s))) ∷ check refusals.field (not (fields_fit l s mv)) ∷ []
-
--- an outcome that is so judged, and makes an image of that length
-module _ (p : Places) (s : List ℕ) (q : Packed) (plan : Plan) (pl : PlanOf p s q plan) (new : List ℕ) (long : length new ≡ plan.length)
-    (o : Outcome) (e : o ≡ outcome_for (judge (rebuild_checks p.layout q s)) new) where
-  -- A PLAN MEETS WHAT THE OUTCOME IS REFUSED WITH
-  pub meets_is : (room : ℕ) → plan_refusal p s plan room ≡ number_of (roomed room o)
-  unfolding plan_refusal
-  meets_is room =
-      rw (e, plan_length p s q plan pl, plan_fits p s q plan pl)
-      (judged_room (ltb size_limit plan.length) (not (fields_fit p.layout s (moved p.tail plan.tail))) room plan.length new
-      long)
-
-  pub meets_refused : (out : List ℕ) (n : ℕ) → n ≡ plan_refusal p s plan (length out) → n ≢ 0
-      → Answers (roomed (length out) o) (Refused n) out out
-  meets_refused out n g = refuses (roomed (length out) o) n out (g ∙ meets_is (length out))
-
-  -- and where it meets nothing it is made
-  pub meets_makes : (room : ℕ) → MeetsNone p s plan room → Makes o new plan.length
-  unfolding judge
-  meets_makes room n = record {
-    is = e ∙ rw (
-      plan_length p s q plan pl,
-      plan_fits p s q plan pl,
-      le-ltb size_limit plan.length n.limit,
-      n.fields,
-    );
-    long = long;
-  }
-
 -- ---- a plan of strings that do not all fit in place
 
-module _ (m : Mode) (p : Places) (s : List ℕ) (v : Values) (plan : Plan) (laid : Laid p s) where
-  pub planned_of : Planned m p s v plan → PlanOf p s (strings_with m p.layout s v) plan
-  planned_of pl = record {
-    laid = laid;
-    sizes = measured_sizes m p s laid.placed v plan.sizes pl.measured;
-    is = pl.is;
+module _ (m : Mode) (p : Places) (s : List ℕ) (v : Values) (plan : Plan) (laid : Laid p s)
+    (moves : fits_all p.layout s v ≡ false) (pl : Planned m p s v plan) where
+  sc : Sectioned p s
+  sc = sectioned p s laid.placed
+
+  abbrev to : ℕ
+  to = new_tail p.layout (new_strings m p s v) s
+
+  tail_to : plan.tail ≡ to
+  tail_to = planned_tail m p s v plan pl ∙ tail_is m p s laid.placed v plan.sizes pl.measured
+
+  length_to : plan.length ≡ length s - p.tail + to
+  length_to = planned_length m p s v plan pl ∙ ap (λ (t : ℕ). length s - p.tail + t) tail_to
+
+  long-is : new_length m p.layout s v ≡ plan.length
+  unfolding new_length
+  long-is = rw moves (moved-high (tail_at p.layout s) to (length s) (omega (arith, sc)) ∙ rw (← sc.tail_from) (sym length_to))
+
+  fits-is : patch_fits m p.layout s v ≡ fields_fit p.layout s (moved p.tail plan.tail)
+  unfolding patch_fits
+  fits-is = rw (moves, tail_to, sc.tail_from)
+
+  length-changed : length (changed m p.layout s v) ≡ plan.length
+  unfolding changed
+  length-changed =
+      rw moves (length_rebuilt p.layout (new_strings m p s v) s laid.admitted ∙ rw (← sc.tail_from) (sym length_to))
+
+  small_to : small_at p.layout s ≤ to
+  small_to = omega arith
+
+  length_patched : length (patched_strings m p.layout s v) ≡ plan.length
+  unfolding patched_strings
+  length_patched =
+      length-finished p.layout s v (changed m p.layout s v) (omega (arith, length-changed, length_to, sc, small_to))
+      ∙ length-changed
+
+  -- A PLAN MEETS WHAT THE PATCH IS REFUSED WITH
+  pub refusal_is : (room : ℕ) → plan_refusal p s plan room ≡ number_of (roomed room (patch_known m p.layout s v))
+  unfolding plan_refusal patch_known
+  refusal_is room =
+      rw (long-is, fits-is)
+      (judged_room (ltb size_limit plan.length) (not (fields_fit p.layout s (moved p.tail plan.tail))) room plan.length
+      (patched_strings m p.layout s v) length_patched)
+
+  -- in the room that it asks for it meets 11 and 12 alone
+  pub refusal_roomless : plan_refusal p s plan plan.length ≡ judge (result_checks m p.layout s v)
+  unfolding plan_refusal judge
+  refusal_roomless = rw (long-is, fits-is, le-ltb plan.length plan.length (omega arith))
+
+  pub met_refused : (out : List ℕ) (n : ℕ) → n ≡ plan_refusal p s plan (length out) → n ≢ 0
+      → Answers (roomed (length out) (patch_known m p.layout s v)) (Refused n) out out
+  met_refused out n e =
+      refuses (roomed (length out) (patch_known m p.layout s v)) n out (e ∙ refusal_is (length out))
+
+  -- and where it meets nothing the patch is made
+  pub makes : (room : ℕ) → MeetsNone p s plan room
+      → Makes (patch_known m p.layout s v) (patched_strings m p.layout s v) plan.length
+  unfolding patch_known judge
+  makes room n = record {
+    is = rw (long-is, fits-is, le-ltb size_limit plan.length n.limit, n.fields);
+    long = length_patched;
   }
-
-  module _ (moves : fits_all p.layout s v ≡ false) (pl : Planned m p s v plan) where
-    abbrev ts : Packed
-    ts = strings_with m p.layout s v
-
-    of : PlanOf p s ts plan
-    of = planned_of pl
-
-    length-changed : length (changed m p.layout s v) ≡ plan.length
-    unfolding changed
-    length-changed = rw moves (plan_rebuilt p s ts plan of)
-
-    length_patched : length (patched_strings m p.layout s v) ≡ plan.length
-    unfolding patched_strings
-    length_patched =
-        length-finished p.layout s v (changed m p.layout s v) (omega (arith, length-changed, plan_least p s ts plan of))
-        ∙ length-changed
-
-    checks_are : judge (result_checks m p.layout s v) ≡ judge (rebuild_checks p.layout ts s)
-    unfolding new_length patch_fits
-    checks_are = rw moves
-
-    known_is : patch_known m p.layout s v
-        ≡ outcome_for (judge (rebuild_checks p.layout ts s)) (patched_strings m p.layout s v)
-    unfolding patch_known
-    known_is = ap (λ (n : ℕ). outcome_for n (patched_strings m p.layout s v)) checks_are
-
-    pub refusal_is : (room : ℕ) → plan_refusal p s plan room ≡ number_of (roomed room (patch_known m p.layout s v))
-    refusal_is = meets_is p s ts plan of (patched_strings m p.layout s v) length_patched (patch_known m p.layout s v) known_is
-
-    -- in the room that it asks for it meets 11 and 12 alone
-    pub refusal_roomless : plan_refusal p s plan plan.length ≡ judge (result_checks m p.layout s v)
-    unfolding plan_refusal judge
-    refusal_roomless =
-        rw (← plan_fits p s ts plan of, le-ltb plan.length plan.length (omega arith), ← plan_length p s ts plan of)
-        (sym checks_are)
-
-    pub met_refused : (out : List ℕ) (n : ℕ) → n ≡ plan_refusal p s plan (length out) → n ≢ 0
-        → Answers (roomed (length out) (patch_known m p.layout s v)) (Refused n) out out
-    met_refused =
-        meets_refused p s ts plan of (patched_strings m p.layout s v) length_patched (patch_known m p.layout s v) known_is
-
-    -- and where it meets nothing the patch is made
-    pub makes : (room : ℕ) → MeetsNone p s plan room
-        → Makes (patch_known m p.layout s v) (patched_strings m p.layout s v) plan.length
-    makes = meets_makes p s ts plan of (patched_strings m p.layout s v) length_patched (patch_known m p.layout s v) known_is

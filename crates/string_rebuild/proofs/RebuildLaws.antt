@@ -30,34 +30,46 @@ use Rattle.string_edits.specs.Values.{Values}
 use Rattle.string_edits.specs.Told.{Told, values_in}
 use Rattle.string_packing.specs.declared.Sizes.{Sizes}
 use Rattle.string_packing.specs.Strings.{strings_with}
-use Rattle.string_packing.proofs.PassLaws.{tail_is}
+use Rattle.string_packing.proofs.PassLaws.{storage_is, overflows_are, tail_is}
 use Rattle.string_in_place.specs.Known.{Finishable}
 use Rattle.string_in_place.specs.Patch.{changed, finished, patched_strings}
 use Rattle.string_in_place.proofs.FinishLaws.{answers_over, length-finished}
-use Rattle.string_rebuild.specs.Ready.{Moving, Ready}
+use Rattle.string_rebuild.specs.Ready.{Ready}
+
+-- the strings of the new image, packed
+abbrev pub new_strings : Mode → Places → List ℕ → Values → Packed
+new_strings m p s v = strings_with m p.layout s v
 
 -- the tail moves, for the strings' sake
-abbrev pub move_tail : Places → ℕ → Move
+abbrev move_tail : Places → ℕ → Move
 move_tail p to = record { from = p.tail; to = to; cause = Strings }
 
 -- in a buffer of so much room: what stands around the strings, the strings, the two counts and what moves, one after the other
-pub record Rewritten (p : Places) (s : List ℕ) (q : Packed) (z : Sizes) (to room : ℕ) (out o₁ o₂ o₃ o₄ : List ℕ) : Type 0 where
+pub record Rewritten (m : Mode) (p : Places) (s : List ℕ) (v : Values) (z : Sizes) (to room : ℕ)
+    (out o₁ o₂ o₃ o₄ : List ℕ) : Type 0 where
   pub fits : length out ≡ room
   pub around : o₁ ≡ around p.small_at p.tail to s out
-  pub strings : o₂ ≡ sets o₁ p.small_at (padded p.small_at (region p.strings q))
+  pub strings : o₂ ≡ sets o₁ p.small_at (padded p.small_at (region p.strings (new_strings m p s v)))
   pub counts : o₃ ≡ write_all (count_words z.overflows z.storage) o₂
   pub places : o₄ ≡ relocated p.layout s (move_tail p to) o₃
   pub long : length o₄ ≡ length out
 
-module _ (p : Places) (s : List ℕ) (ts : Packed) (z : Sizes) (to room : ℕ) (rd : Moving p s ts z to room) where
+module _ (m : Mode) (p : Places) (s : List ℕ) (edits : Told) (text ends : List ℕ) (c : Cursor) (z : Sizes) (to room : ℕ)
+    (rd : Ready m p s edits text ends c z to room) where
+  abbrev gets : Values
+  gets = values_in edits text ends
+
   laid : Laid p s
-  laid = rd.laid
+  laid = rd.asked.given.laid
 
   sc : Sectioned p s
   sc = sectioned p s laid.placed
 
+  abbrev ts : Packed
+  ts = new_strings m p s gets
+
   to_is : to ≡ new_tail p.layout ts s
-  to_is = rd.tail ∙ tail_is p s laid.placed ts z rd.sizes
+  to_is = rd.tail ∙ tail_is m p s laid.placed gets z rd.measured
 
   -- ---- what the calls ask for
 
@@ -95,7 +107,7 @@ module _ (p : Places) (s : List ℕ) (ts : Packed) (z : Sizes) (to room : ℕ) (
 
   -- ---- what they leave
 
-  module _ {out o₁ o₂ o₃ o₄ : List ℕ} (w : Rewritten p s ts z to room out o₁ o₂ o₃ o₄) where
+  module _ {out o₁ o₂ o₃ o₄ : List ℕ} (w : Rewritten m p s gets z to room out o₁ o₂ o₃ o₄) where
     spliced : o₂ ≡ splice (small_at p.layout s) (tail_at p.layout s) (padded (small_at p.layout s) (region (strings_in s) ts)) s
     spliced =
         let a : ℕ = small_at p.layout s in
@@ -110,24 +122,23 @@ module _ (p : Places) (s : List ℕ) (ts : Packed) (z : Sizes) (to room : ℕ) (
         (w.around ∙ rw (sc.tail_from, to_is, sc.small_from))
         (w.strings ∙ rw (sc.small_from, sc.strings))
 
-    pub rebuilt : o₄ ≡ rebuild p.layout ts s
+    rebuilt : o₄ ≡ rebuild p.layout ts s
     rebuilt =
         w.places ∙ ap (λ (v : Move). relocated p.layout s v o₃) move_is
         ∙ ap (relocated p.layout s (rebuilding p.layout ts s))
-        (w.counts ∙ rw (rd.sizes.overflows, rd.sizes.storage, spliced))
+        (w.counts
+        ∙ rw (
+          overflows_are m p s laid.placed gets z rd.measured,
+          storage_is m p s laid.placed gets z rd.measured,
+          spliced,
+        ))
         ∙ rebuild-is p.layout ts s
 
--- strings with the values that they get
-pub patch_put : (m : Mode) (p : Places) (s : List ℕ) (edits : Told) (text ends : List ℕ) (c : Cursor) (z : Sizes) (to room : ℕ)
-    → Ready m p s edits text ends c z to room → {out o₁ o₂ o₃ o₄ : List ℕ}
-    → Rewritten p s (strings_with m p.layout s (values_in edits text ends)) z to room out o₁ o₂ o₃ o₄ → (o₅ : List ℕ) (r : Answer)
-    → Answers (made (finished p.layout s (values_in edits text ends) o₄)) r o₄ o₅
-    → Answers (made (patched_strings m p.layout s (values_in edits text ends))) r out o₅
-unfolding patched_strings changed
-patch_put m p s edits text ends c z to room rd {out} {o₁} {o₂} {o₃} {o₄} w o₅ r a =
-    let gets : Values = values_in edits text ends in
-    let ts : Packed = strings_with m p.layout s gets in
-    let k : length (finished p.layout s gets o₄) ≡ length o₄
-    = length-finished p.layout s gets o₄ (omega (arith, header-room p s ts z to room rd.moving, w.long, w.fits)) in
-    rw (rd.asked.moves, ← rebuilt p s ts z to room rd.moving w)
-    (answers_over (finished p.layout s gets o₄) o₄ out o₅ r (sym k) (sym w.long ∙ sym k) a)
+    pub patch_put : (o₅ : List ℕ) (r : Answer) → Answers (made (finished p.layout s gets o₄)) r o₄ o₅
+        → Answers (made (patched_strings m p.layout s gets)) r out o₅
+    unfolding patched_strings changed
+    patch_put o₅ r a =
+        let k : length (finished p.layout s gets o₄) ≡ length o₄
+        = length-finished p.layout s gets o₄ (omega (arith, header-room, w.long, w.fits)) in
+        rw (rd.asked.moves, ← rebuilt)
+        (answers_over (finished p.layout s gets o₄) o₄ out o₅ r (sym k) (sym w.long ∙ sym k) a)

@@ -10,16 +10,14 @@ use Rattle.format.specs.Table.{overflow_entry}
 use Rattle.format.specs.Number.{entry_at}
 use Rattle.format.specs.Move.{moved}
 use Rattle.footer.specs.Finalize.{size_limit}
-use Rattle.edits.specs.Packing.{Packed}
 use Rattle.edits.specs.Fit.{fields_fit}
 use Rattle.sections.specs.declared.Places.{Places}
-use Rattle.sections.specs.Places.{Laid}
 use Rattle.string_walk.specs.declared.Cursor.{Cursor}
 use Rattle.string_edits.specs.Values.{Values}
 use Rattle.string_edits.specs.Told.{Told, values_in}
 use Rattle.string_packing.specs.declared.Sizes.{Sizes}
-use Rattle.string_packing.specs.Strings.{string_with, strings_with}
-use Rattle.string_packing.specs.Pass.{Measured, SizesOf}
+use Rattle.string_packing.specs.Strings.{string_with}
+use Rattle.string_packing.specs.Pass.{Measured}
 use Rattle.string_in_place.specs.Known.{Given}
 use Rattle.string_in_place.specs.Patch.{fits_all}
 use Rattle.string_rebuild.specs.declared.Plan.{Plan}
@@ -55,24 +53,18 @@ number_of (made t) = 0
 
 -- ---- writing
 
--- packed strings of an image, however they are packed: their sizes and the tail's new start are at hand, a buffer has the length of the
--- result, and small records hold the places that move
-pub record Moving (p : Places) (s : List ℕ) (q : Packed) (z : Sizes) (to room : ℕ) : Type 0 where
-  pub laid : Laid p s
-  pub sizes : SizesOf s q z
-  pub tail : to ≡ tail_of p z
-  pub long : room ≡ length s - p.tail + to
-  pub limit : room ≤ size_limit
-  pub fields : fields_fit p.layout s (moved p.tail to) ≡ true
-
 -- strings of an admitted image get values that do not all fit in place
 pub record Asked (p : Places) (s : List ℕ) (edits : Told) (text ends : List ℕ) (c : Cursor) : Type 0 where
   pub given : Given p s edits text ends c
   pub moves : fits_all p.layout s (values_in edits text ends) ≡ false
 
--- their strings were measured, and are to be written
+-- the measured sizes and the tail's new start are at hand, the buffer has the length of the result, and small records hold the places
+-- that move
 pub record Ready (m : Mode) (p : Places) (s : List ℕ) (edits : Told) (text ends : List ℕ) (c : Cursor) (z : Sizes)
     (to room : ℕ) : Type 0 where
   pub asked : Asked p s edits text ends c
   pub measured : Measured m p (string_with p.layout s (values_in edits text ends)) z
-  pub moving : Moving p s (strings_with m p.layout s (values_in edits text ends)) z to room
+  pub tail : to ≡ tail_of p z
+  pub long : room ≡ length s - p.tail + to
+  pub limit : room ≤ size_limit
+  pub fields : fields_fit p.layout s (moved p.tail to) ≡ true

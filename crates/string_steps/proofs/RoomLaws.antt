@@ -25,7 +25,7 @@ use Rattle.image.specs.Strings.{Str, string_of}
 use Rattle.image.specs.Functions.{Func, func_of}
 use Rattle.image.specs.Admitted.{Admitted}
 use Rattle.edits.specs.Fit.{fields_fit}
-use Rattle.edits.specs.Packing.{gap_of, store_own, store_of, placed, packed}
+use Rattle.edits.specs.Packing.{gap_of, store_of, placed, packed}
 use Rattle.edits.specs.Rebuild.{overs, padded, new_tail}
 use Rattle.edits.proofs.RegionLaws.{length-region}
 use Rattle.edits.proofs.SpacedLaws.{gap_most}
@@ -44,7 +44,7 @@ use Rattle.string_steps.specs.Room.{new_size, store_most, tail_most, is_roomy}
 
 store_most : (m : Mode) (f : ℕ → Str) (a b : ℕ → ℕ) (n : ℕ) → ((i : ℕ) → i < n → length (f i).bytes ≤ a i + b i)
     → length (store_of m f n) ≤ sum_below n a + sum_below n b + n
-unfolding store_own sum_below
+unfolding store_of sum_below
 store_most m f a b zero h = omega arith
 store_most m f a b (suc n) h =
     let gap : ℕ = gap_of m (f n).wide (length (store_of m f n)) in

@@ -21,7 +21,6 @@ pub enum Export {
     ReadPo,
     WritePo,
     Why,
-    Repack,
 }
 
 /// A call, but for its lent buffers. What an export does not take is 0 or empty.

@@ -2,7 +2,6 @@
 
 mod call;
 pub mod po;
-pub mod repack;
 pub mod why;
 
 use call::{Call, Export};

@@ -1,11 +1,10 @@
 //! Limits that no stream of calls reaches, since they take inputs or results of 8 to 70 MB: our exports are held to the
-//! Rust, and to documents 01 and 02 where the Rust has no limit, no such mode, no such pass, tells no reason and shares no place.
-//! Ends with 1 at the first difference.
+//! Rust, and to documents 01 and 02 where the Rust has no limit, no such mode, no such pass and tells no reason. Ends with 1 at
+//! the first difference.
 
 mod lists;
 mod modes;
 mod reasons;
-mod sharing;
 
 use std::process::ExitCode;
 
@@ -102,17 +101,16 @@ fn main() -> ExitCode {
     ];
     let sizes = checks.iter().map(|(name, holds, size)| (name, holds(*size)));
     let patches = modes::CHECKS.iter().chain(&lists::CHECKS).chain(&reasons::CHECKS);
-    let patches = patches.chain(&sharing::CHECKS);
     let patches = patches.map(|(name, holds)| (name, holds()));
     if let Some((name, _)) = sizes.chain(patches).find(|(_, holds)| !holds) {
         println!("oracle: limits: {name}: differs");
         return ExitCode::FAILURE;
     }
     let (sizes, modes, lists) = (checks.len(), modes::CHECKS.len(), lists::CHECKS.len());
-    let (reasons, sharing) = (reasons::CHECKS.len(), sharing::CHECKS.len());
+    let reasons = reasons::CHECKS.len();
     println!(
         "oracle: limits: {sizes} inputs of up to 70 MB, {modes} checks of string patches in both modes, {lists} of passes, \
-         {reasons} of reasons, {sharing} of strings that share a place: as they should be"
+         {reasons} of reasons: as they should be"
     );
     ExitCode::SUCCESS
 }

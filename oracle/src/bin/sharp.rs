@@ -1,5 +1,5 @@
-//! sharp image|patches|index|why|repack [all]: an honest look at the fixed calls of a family. For each mistake that the second
-//! reading can make on purpose it counts those that a program with that mistake would answer otherwise. Ends with 1 where
+//! sharp image|patches|index|why [all]: an honest look at the fixed calls of a family. For each mistake that the second reading
+//! can make on purpose it counts those that a program with that mistake would answer otherwise. Ends with 1 where
 //! there are none, or where an image that was made whole is refused.
 
 use std::fmt::Debug;
@@ -9,7 +9,7 @@ use oracle::family::Family;
 use oracle::image::reading::{self, Slip, TESTS};
 use oracle::image::{self, makes_whole_images};
 use oracle::stream::Call;
-use oracle::{index, patches, repack, why};
+use oracle::{index, patches, why};
 
 fn main() -> ExitCode {
     if !makes_whole_images() {
@@ -34,11 +34,8 @@ fn main() -> ExitCode {
         Some(("why", family, all)) => {
             report(family, &why::slips(), why::finds, |slip| format!("{slip:?}"), all)
         }
-        Some(("repack", family, all)) => {
-            report(family, &repack::slips(), repack::finds, |slip| format!("{slip:?}"), all)
-        }
         _ => {
-            eprintln!("usage: sharp image|patches|index|why|repack [all]");
+            eprintln!("usage: sharp image|patches|index|why [all]");
             ExitCode::from(2)
         }
     }

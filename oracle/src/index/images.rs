@@ -54,8 +54,7 @@ fn bytes(id: usize, wide: bool, count: usize) -> Vec<u8> {
     (0..count).flat_map(|i| if wide { unit(i) } else { narrow(i) }).collect()
 }
 
-/// The kind words, where it is not one for each string.
-pub fn kind_words(bare: &Bare, kinds: Kinds) -> Option<Vec<u32>> {
+fn kind_words(bare: &Bare, kinds: Kinds) -> Option<Vec<u32>> {
     let flags: Vec<bool> = bare.strings.iter().map(|string| string.1).collect();
     let run = |run: &[bool]| (if run[0] { IDENTIFIER } else { 0 }) | run.len() as u32;
     let runs = flags.chunk_by(|a, b| a == b).map(run);

@@ -34,9 +34,9 @@ pub enum Patch {
     },
 }
 
-pub const LIMIT: u64 = 67_108_864;
+const LIMIT: u64 = 67_108_864;
 /// The largest offset or info place of a small record.
-pub const FIELD: u64 = 33_554_431;
+const FIELD: u64 = 33_554_431;
 
 /// The new image, or the number of the refusal.
 pub fn patch(layout: Layout, image: &[u8], room: u64, patch: &Patch) -> Result<Vec<u8>, u32> {
@@ -65,7 +65,7 @@ pub fn finish(mut image: Vec<u8>) -> Vec<u8> {
 
 /// A string: where its bytes stand in storage.
 #[derive(Clone, Copy)]
-pub(crate) struct Text {
+pub(super) struct Text {
     pub wide: bool,
     pub start: usize,
     pub end: usize,
@@ -81,7 +81,7 @@ struct Function {
 }
 
 /// What an admitted image is made of.
-pub(crate) struct Parts<'a> {
+pub(super) struct Parts<'a> {
     layout: Layout,
     pub image: &'a [u8],
     pub hashes: usize,
@@ -414,7 +414,7 @@ fn function(layout: Layout, image: &[u8], id: usize) -> Function {
 }
 
 /// "per UTF-16 unit, add it, add the sum shifted left 10, xor with itself shifted right 6"
-pub(crate) fn hash(units: impl IntoIterator<Item = u16>) -> u32 {
+pub(super) fn hash(units: impl IntoIterator<Item = u16>) -> u32 {
     units.into_iter().fold(0u32, |hash, unit| {
         let sum = hash.wrapping_add(unit.into());
         let sum = sum.wrapping_add(sum << 10);

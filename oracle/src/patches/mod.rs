@@ -10,7 +10,7 @@ pub mod odd;
 pub mod orders;
 pub mod parsed;
 pub mod pass;
-pub(crate) mod rust;
+mod rust;
 pub mod small;
 pub mod texts;
 

@@ -6,9 +6,7 @@ use crate::patches::texts;
 use crate::random::Random;
 
 /// An image of strings, told with bars between them: n or w and what it says, in capitals an identifier; u and its units as
-/// hex numbers; = and the id of a string before whose place it has too, + where it is an identifier. In place of what it says
-/// may stand @, an offset in storage, a dot and the count, where it has no bytes of its own; and before either a +, for an
-/// overflow pair that its count does not ask for. _ is no string, but bytes of storage that none has. It has a small and a
+/// hex numbers; = and the id of a string before whose place it has too, + where it is an identifier. It has a small and a
 /// large record, info places and a debug offset.
 pub fn image(layout: u8, strings: &str) -> Vec<u8> {
     told(layout, strings).image()
@@ -24,15 +22,6 @@ pub fn told(layout: u8, strings: &str) -> Bare {
             bare.strings.push((wide, kind == "+", offset, count));
             continue;
         }
-        let wide = !kind.eq_ignore_ascii_case("n") && kind != "_";
-        let is_identifier = kind.as_bytes()[0].is_ascii_uppercase();
-        let (said, needless) = said.strip_prefix('+').map_or((said, false), |said| (said, true));
-        bare.needless.extend(needless.then_some(bare.strings.len()));
-        if let Some((start, count)) = said.strip_prefix('@').and_then(|at| at.split_once('.')) {
-            let [start, count] = [start, count].map(|number| number.parse().unwrap());
-            bare.strings.push((wide, is_identifier, start, count));
-            continue;
-        }
         let said = said.strip_prefix(':').unwrap();
         let units: Vec<u16> = match kind {
             "u" | "U" => {
@@ -40,9 +29,9 @@ pub fn told(layout: u8, strings: &str) -> Bare {
             }
             _ => said.encode_utf16().collect(),
         };
-        if kind != "_" {
-            bare.strings.push((wide, is_identifier, bare.storage.len(), units.len()));
-        }
+        let wide = !kind.eq_ignore_ascii_case("n");
+        let is_identifier = kind.as_bytes()[0].is_ascii_uppercase();
+        bare.strings.push((wide, is_identifier, bare.storage.len(), units.len()));
         let bytes = units
             .iter()
             .flat_map(|unit| unit.to_le_bytes().into_iter().take(1 + usize::from(wide)));

@@ -9,7 +9,7 @@ returns c =
     let at_flag = c.before in
     let at_size = at_flag.before in
     let a = at_size.before.args in
-    gathered a.start (as_place a.place) a.identifier a.counts _ _ _ at_size.size-of.ensures.0 at_flag.flag.ensures
+    gathered a.start (as_place a.place) a.identifier a.counts _ _ _ at_size.type_size.ensures.0 at_flag.flag.ensures
     c.flag2.ensures
 
 pub facts-of-parts-spec : {M : Type 1} → statement M

@@ -28,7 +28,7 @@ copied-requires c κs =
     let at-string = at_read.before.before in
     let at-bytes = at-string.before.before in
     let a = at-bytes.before.args in
-    rw at_size.size-of.ensures.0
+    rw at_size.type_size.ensures.0
     (string-inside a.layout a.image.now a.id _ at-string.string.ensures _ _ at_read.read.given.1
     (λ i. (at-bytes.shared-slice-known.given i).fits))
 
@@ -39,7 +39,7 @@ returns-2 c =
     let at-string = at_read.before.before in
     let a = at-string.before.before.before.args in
     a_string a.layout a.image.now a.id _ a.out.now _ at-string.string.ensures _ _ _ _ _ at_read.read.given.1
-    at_size.size-of.ensures.0 c.before.before.copied.ensures
+    at_size.type_size.ensures.0 c.before.before.copied.ensures
 
 pub read-string-spec : {M : Type 1} → statement M
 read-string-spec =

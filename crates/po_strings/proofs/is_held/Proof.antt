@@ -9,9 +9,8 @@ use Rattle.bits.specs.Choice.{both}
 use Rattle.utf.specs.Utf16.{is_utf16}
 use Rattle.po_text.specs.Written.{writable}
 use Rattle.string_find.proofs.FindLaws.{length_at}
-use Rattle.string_texts.specs.Texts.{units_in, units_left}
-use Rattle.po_strings.specs.Texts.{is_held}
-use Rattle.string_texts.proofs.UnitLaws.{left_all, left_end}
+use Rattle.po_strings.specs.Texts.{is_held, units_in, units_left}
+use Rattle.po_strings.proofs.UnitLaws.{left_all, left_end}
 use Rattle.po_strings.proofs.PointLaws.{held_turn, held_stop, held_some, held_none, held_end}
 
 abbrev invariant-loop : tie.invariant-loop

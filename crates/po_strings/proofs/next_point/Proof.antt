@@ -3,7 +3,7 @@ use borrow.Author.Rules.{rules}
 use Rattle.po_strings.proofs.next_point.Statement.{statement}
 use Rattle.po_strings.proofs.next_point.Tie as tie
 use native.Mathlib.Omega.{arith}
-use Rattle.string_texts.proofs.UnitLaws.{left_next}
+use Rattle.po_strings.proofs.UnitLaws.{left_next}
 use Rattle.po_strings.proofs.PointLaws.{below_point, above_point, low_alone}
 
 returns : tie.Need-returns

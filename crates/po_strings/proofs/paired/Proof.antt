@@ -4,9 +4,9 @@ use Rattle.po_strings.proofs.paired.Statement.{statement}
 use Rattle.po_strings.proofs.paired.Tie as tie
 use mathlib.Core.Logic.{inl, inr}
 use Prim.Native.Nat.{◌+◌}
-use Rattle.string_texts.specs.Texts.{units_left}
+use Rattle.po_strings.specs.Texts.{units_left}
 use native.Mathlib.Omega.{arith}
-use Rattle.string_texts.proofs.UnitLaws.{left_next, left_end}
+use Rattle.po_strings.proofs.UnitLaws.{left_next, left_end}
 use Rattle.po_strings.proofs.PointLaws.{high_last, high_alone, pair_point}
 
 returns : tie.Need-returns

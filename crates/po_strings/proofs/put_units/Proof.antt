@@ -9,8 +9,8 @@ use lib.ListN.{length}
 use lib.Seq.{sets}
 use Rattle.utf.specs.Utf16.{is_utf16, utf8_of}
 use Rattle.po_text.specs.Written.{escaped}
-use Rattle.string_texts.specs.Texts.{units_in, units_left}
-use Rattle.string_texts.proofs.UnitLaws.{left_all, left_end}
+use Rattle.po_strings.specs.Texts.{units_in, units_left}
+use Rattle.po_strings.proofs.UnitLaws.{left_all, left_end}
 use Rattle.po_strings.proofs.PointLaws.{point_there, left_valid, length_parts, put_turn, escaped_end}
 
 abbrev invariant-loop : tie.invariant-loop

@@ -8,8 +8,8 @@ use native.Mathlib.Omega.{arith}
 use lib.ListN.{length}
 use Rattle.utf.specs.Utf16.{is_utf16, utf8_of}
 use Rattle.po_text.specs.Written.{escaped}
-use Rattle.string_texts.specs.Texts.{units_in, units_left}
-use Rattle.string_texts.proofs.UnitLaws.{left_all, left_end}
+use Rattle.po_strings.specs.Texts.{units_in, units_left}
+use Rattle.po_strings.proofs.UnitLaws.{left_all, left_end}
 use Rattle.po_strings.proofs.PointLaws.{left_valid, length_parts, escaped_end}
 
 abbrev invariant-loop : tie.invariant-loop

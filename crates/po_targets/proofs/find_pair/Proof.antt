@@ -2,17 +2,14 @@
 use borrow.Author.Rules.{rules}
 use Rattle.po_targets.proofs.find_pair.Statement.{statement}
 use Rattle.po_targets.proofs.find_pair.Tie as tie
-use mathlib.Core.Path.{◌≡◌, refl, ap, sym, ◌∙◌, subst⁻¹}
+use mathlib.Core.Path.{◌≡◌, refl, sym, ◌∙◌}
 use mathlib.Core.Bool.{true}
 use Prim.Native.Nat.{suc, ◌-◌, ◌%◌}
 use native.Mathlib.Nat.{mod-lt}
 use native.Mathlib.Omega.{arith}
 use Rattle.image.specs.Strings.{string_of, units_of}
 use Rattle.utf.specs.Utf8.{utf16}
-use Rattle.format.specs.Hash.{hash_of}
-use Rattle.string_texts.specs.declared.Text.{Text}
-use Rattle.string_texts.specs.Texts.{Inside, units_in}
-use Rattle.string_texts.proofs.StringLaws.{text_inside}
+use Rattle.string_walk.proofs.RecordLaws.{units_inside}
 use Rattle.chains.specs.Chains.{head_of}
 use Rattle.po_targets.specs.Marks.{id_in, str_in, bucket_of}
 use Rattle.po_targets.proofs.PairLaws.{string_bucket, Down, down_from, down_end, down_is, down_lower, down_on}
@@ -28,7 +25,7 @@ hash-units-requires : tie.Need-hash-units-requires invariant-loop decreases-loop
 hash-units-requires c κs =
     let start = c.before.before.before.before.before in
     let q = start.requires in
-    subst⁻¹ (λ (t : Text). Inside start.args.image.now t) c.text_of.ensures (text_inside _ _ q.0.0 _ _ q.0.1)
+    units_inside _ _ q.0.0 _ _ q.0.1 _ (omega arith)
 
 rem-bucket : tie.Need-nonzero-rem-bucket invariant-loop decreases-loop
 rem-bucket c = c.before.before.before.before.before.before.requires.1.0.some
@@ -46,8 +43,7 @@ loop-holds c =
     let h = c.before.hash-units in
     down_from (id_in a.text.now a.ends.now) (str_in a.text.now a.ends.now)
     (units_of (string_of a.p.layout a.image.now a.id)) a.m a.pairs (h.result % a.m) _
-    (string_bucket _ _ q.0.0 _ _ q.0.1 a.m _
-    (h.ensures ∙ ap (λ (t : Text). hash_of (units_in a.image.now t)) c.before.before.text_of.ensures))
+    (string_bucket _ _ q.0.0 _ _ q.0.1 a.m _ h.ensures)
     (c.word_at.ensures.0 ∙ q.1.0.chained.heads (h.result % a.m) (mod-lt h.result q.1.0.some))
 
 is-pair-requires : tie.Need-is-pair-requires invariant-loop decreases-loop
@@ -118,6 +114,5 @@ returns-2 c =
 pub find-pair-spec : {M : Type 1} → statement M
 find-pair-spec =
     tie.close
-    (tie.spec invariant-loop decreases-loop (λ c κs. tt) hash-units-requires (λ c. search rules) rem-bucket word-at-requires loop-holds
-    (λ c. search rules)
+    (tie.spec invariant-loop decreases-loop hash-units-requires (λ c. search rules) rem-bucket word-at-requires loop-holds (λ c. search rules)
     is-pair-requires returns (λ c. search rules) add-word-at word-at-requires-2 loop-less loop-again returns-2)

@@ -32,7 +32,7 @@ text-at-requires : tie.Need-text-at-requires invariant-loop decreases-loop
 text-at-requires c κs =
     let q = c.before.before.before.before.before.requires in
     let k = stands c in
-    (omega (arith, q.filled.long), k.1, omega (arith, k.0, q.known))
+    (q.filled.long, k.1, omega (arith, k.0, q.known))
 
 have-same-units-requires : tie.Need-have-same-units-requires invariant-loop decreases-loop
 have-same-units-requires c κs =

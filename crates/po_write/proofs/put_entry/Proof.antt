@@ -4,7 +4,7 @@ use Rattle.po_write.proofs.put_entry.Statement.{statement}
 use Rattle.po_write.proofs.put_entry.Tie as tie
 use native.Mathlib.Omega.{arith}
 use Rattle.utf.specs.Utf16.{utf8_of}
-use Rattle.string_texts.specs.Texts.{units_in}
+use Rattle.po_strings.specs.Texts.{units_in}
 use Rattle.po_text.proofs.EscapeLaws.{entry_length, entry-wrote}
 
 put-text-requires : tie.Need-put-text-requires

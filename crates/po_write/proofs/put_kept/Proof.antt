@@ -44,7 +44,7 @@ text-at-requires : tie.Need-text-at-requires
 text-at-requires c κs =
     let at-known = c.before.before.before in
     let q = at-known.before.before.before.requires.0 in
-    (omega (arith, q.1.long), few at-known, q.2)
+    (q.1.long, few at-known, q.2)
 
 put-entry-requires : tie.Need-put-entry-requires
 put-entry-requires c κs =

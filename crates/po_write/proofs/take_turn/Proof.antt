@@ -96,7 +96,7 @@ keep-requires c κs =
     let q = start.requires in
     let z : Sectioned start.args.p start.args.image.now = sectioned _ _ q.0.0.placed in
     let f = found at-text in
-    ((omega (arith, q.1.long), omega arith, q.0.1, bucket_low _ _ _ _ _ f _), found_small _ _ _ _ _ f)
+    ((q.1.long, omega arith, q.0.1, bucket_low _ _ _ _ _ f _), found_small _ _ _ _ _ f)
 
 written-length-requires : tie.Need-written-length-requires
 written-length-requires c κs =

@@ -3,10 +3,8 @@ use borrow.Author.Rules.{rules}
 use Rattle.po_write.proofs.write_known.Statement.{statement}
 use Rattle.po_write.proofs.write_known.Tie as tie
 use mathlib.Core.Path.{refl, sym, ◌∙◌}
-use Prim.Native.Nat.{◌*◌}
 use native.Mathlib.Omega.{arith}
-use Rattle.admission.proofs.LentLaws.{all_zeros}
-use Rattle.po_write.proofs.WorkLaws.{filled_none}
+use Rattle.po_write.proofs.WorkLaws.{filled_none, all_zeros}
 
 fill-requires : tie.Need-fill-requires
 fill-requires c κs =
@@ -38,7 +36,7 @@ returns c =
     let start = at_fill_lem.before.before.before.before.before.before.before.before.before in
     let a = start.args in (
       at-put.put-file.ensures,
-      all_zeros (4 * a.p.strings) _ _ _ start.requires.1
+      all_zeros a.p.strings _ _ _ start.requires.1
           (at_fill_lem.fill.ensures.1.long ∙ sym start.requires.1) at_clear.clear2.ensures,
     )
 

@@ -8,8 +8,7 @@ use lib.ListN.{get_or}
 use Rattle.sections.specs.Places.{Laid}
 use Rattle.sections.proofs.SectionLaws.{Sectioned, sectioned}
 use Rattle.admission.proofs.AnswerLaws.{is-laid}
-use Rattle.admission.proofs.LentLaws.{lent-words}
-use Rattle.po_write.proofs.WriteLaws.{image_refused, work_short, file_made}
+use Rattle.po_write.proofs.WriteLaws.{lent-words, image_refused, work_short, file_made}
 
 -- the image is admitted
 laid : (c : tie.After-admitted) → let at-admit = c.before.before in

@@ -5,17 +5,16 @@ use Rattle.string_find.proofs.find.Tie as tie
 use mathlib.Core.Path.{◌≡◌}
 use Prim.Native.Nat.{◌≤◌, ◌-◌}
 use native.Mathlib.Omega.{arith}
-use Rattle.bits.specs.Choice.{first_from}
 use Rattle.utf.specs.Utf8.{utf16}
 use Rattle.string_walk.specs.Places.{CursorOf}
 use Rattle.string_walk.proofs.WalkLaws.{pass_visits}
-use Rattle.string_find.specs.Find.{has_units, find_id}
+use Rattle.string_find.specs.Find.{find_from, find_id}
 use Rattle.string_find.proofs.FindLaws.{find_none, found_at, find_next, found_none}
 
 abbrev invariant-loop : tie.invariant-loop
 invariant-loop image p old count c₀ c =
     (c.id ≤ p.strings) × CursorOf p image c
-    × (first_from (has_units p.layout image (utf16 old)) c.id (p.strings - c.id) ≡ find_id p.layout image (utf16 old))
+    × (find_from p.layout image (utf16 old) c.id (p.strings - c.id) ≡ find_id p.layout image (utf16 old))
 
 abbrev decreases-loop : tie.decreases-loop
 decreases-loop image p old count c₀ c = p.strings - c.id

@@ -18,7 +18,7 @@ returns-3 c =
     let at_ascii = c.before.before in
     let a = at_ascii.before.before.before.args in
     of_size (as_place a.place) a.value.now at_ascii.before.if1.false _ at_ascii.ascii.ensures c.before.if2.false _
-    c.size-of.ensures.0
+    c.type_size.ensures.0
 
 pub is-sized-spec : {M : Type 1} → statement M
 is-sized-spec = tie.close (tie.spec returns (λ c κs. search rules) returns-2 (λ c κs. search rules) returns-3)

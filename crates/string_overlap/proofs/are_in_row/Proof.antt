@@ -49,7 +49,7 @@ add-end c =
     let at-string = c.before.before.before.before.before in
     let q = at-string.before.before.before.before.before.before.before.requires in
     let low = lies_low _ _ q.placed _ _ at-string.string-at.ensures.string.place in
-    omega (arith, c.before.size-of.ensures.2, low.0, low.1)
+    omega (arith, c.before.type_size.ensures.2, low.0, low.1)
 
 loop-less : tie.Need-loop-smaller invariant-loop decreases-loop
 loop-less c =
@@ -64,7 +64,7 @@ loop-again c =
     let q = at-loop.before.before.before.requires in
     let e = at-string.string-at.ensures in
     let v = at-loop.loop.invariant in
-    let end = row_end _ _ q.placed _ _ _ e.string.place v.2 _ at_size.size-of.ensures.0 in
+    let end = row_end _ _ q.placed _ _ _ e.string.place v.2 _ at_size.type_size.ensures.0 in
     let row = row_next _ _ q.placed _ _ _ e.string.place v.2 at_size.before.if2.false v.3 in
     (omega (arith, e.id, at-string.before.if1.true), e.next, rw e.id end, rw e.id row)
 

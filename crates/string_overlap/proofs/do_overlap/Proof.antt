@@ -11,14 +11,14 @@ returns c =
     let at-size-of = c.before.before.before in
     let start = at-size-of.before in
     let a = start.args in
-    behind (as_place a.a) (as_place a.b) _ 0 at-size-of.size-of.ensures.0 c.if1.true
+    behind (as_place a.a) (as_place a.b) _ 0 at-size-of.type_size.ensures.0 c.if1.true
 
 returns-2 : tie.Need-returns-2
 returns-2 c =
     let at-size-of = c.before.before.before.before.before.before in
     let start = at-size-of.before in
     let a = start.args in
-    before (as_place a.a) (as_place a.b) _ _ at-size-of.size-of.ensures.0 (omega arith)
+    before (as_place a.a) (as_place a.b) _ _ at-size-of.type_size.ensures.0 (omega arith)
     c.before.before.size-of2.ensures.0
 
 pub do-overlap-spec : {M : Type 1} → statement M

@@ -48,8 +48,8 @@ returns c =
       overflows = at-is-over.is-over.ensures;
       entries = at-if-set.if-set.ensures.0;
       few = at-if-set.if-set.ensures.1;
-      size = at_size.size-of.ensures.0;
-      low = at_size.size-of.ensures.2;
+      size = at_size.type_size.ensures.0;
+      low = at_size.type_size.ensures.2;
     })
 
 pub take-turn-spec : {M : Type 1} → statement M

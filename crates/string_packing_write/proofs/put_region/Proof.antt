@@ -2,46 +2,33 @@
 use borrow.Author.Rules.{rules}
 use Rattle.string_packing_write.proofs.put_region.Statement.{statement}
 use Rattle.string_packing_write.proofs.put_region.Tie as tie
-use mathlib.Core.Path.{ap}
-use native.Mathlib.Omega.{arith}
-use Rattle.string_packing_write.specs.declared.RegionPlaces.{RegionPlaces}
-use Rattle.string_packing_write.proofs.PutLaws.{roomy_at, region-at, sized_fits}
+use Rattle.string_edits.specs.Told.{told}
+use Rattle.string_packing_write.proofs.PutLaws.{roomy, region-put}
 
 put-strings-requires : tie.Need-put-strings-requires
 put-strings-requires c κs =
-    let at_places = c.before in
-    let q = at_places.before.before.before.before.before.before.requires in
-    record {
-      laid = q.laid;
-      listed = q.listed;
-      roomy = roomy_at _ _ _ _ _ (sized_fits _ _ _ _ _ _ _ _ q) _ at_places.region-places.ensures;
-    }
-
--- storage ends in the buffer, within the limit
-add-put-padding : tie.Need-overflow-add-put-padding
-add-put-padding c =
-    let at_places = c.before.before.before.before.before.before.before in
-    let q = at_places.before.before.before.before.before.before.requires in
-    omega (arith, ap (λ (to : RegionPlaces). to.storage_at) at_places.region-places.ensures, q.limit)
-
-put-padding-requires : tie.Need-put-padding-requires
-put-padding-requires c κs =
-    let at-put = c.before.before.before.before.before in
-    let at_places = at-put.before.before in
-    let q = at_places.before.before.before.before.before.before.requires in
-    let e = ap (λ (to : RegionPlaces). to.storage_at) at_places.region-places.ensures in
-    (rw e q.limit, rw (e, at-put.put-strings.auto.0) q.room)
+    let start = c.before.before.before.before.before.before.before in
+    let q = start.requires in
+    record { laid = q.laid; listed = q.listed; roomy = roomy _ _ _ _ _ _ _ _ q _ c.before.entry_at.ensures }
 
 returns : tie.Need-returns
 returns c =
-    let at-pad = c.before.before in
-    let at-put = at-pad.before.before.before.before.before.before in
-    let at_places = at-put.before.before in
-    let start = at_places.before.before.before.before.before.before in
-    region-at _ _ _ _ _ (sized_fits _ _ _ _ _ _ _ _ start.requires) _ at_places.region-places.ensures start.args.out.now _ _
-    at-put.put-strings.ensures at-pad.put-padding.ensures
+    let at-up4 = c.before.before.before in
+    let at-put-strings = at-up4.before.before.before.before.before in
+    let at-entry-at = at-put-strings.before.before in
+    let start = at-entry-at.before.before.before.before.before.before in
+    let a = start.args in
+    let q = start.requires in
+    region-put a.mode a.p a.image.now (told a.form a.words.now) a.text.now a.ends.now a.sizes _ q _
+    at-entry-at.entry_at.ensures _ a.out.now _ _
+    (record {
+      strings = at-put-strings.put-strings.ensures;
+      four = at-up4.up4.ensures;
+      zeros = c.before.before.put-zeros.ensures;
+    })
 
 pub put-region-spec : {M : Type 1} → statement M
 put-region-spec =
     tie.close
-    (tie.spec (λ c κs. search rules) put-strings-requires add-put-padding put-padding-requires (λ c. search rules) returns)
+    (tie.spec (λ c κs. search rules) put-strings-requires (λ c. search rules) (λ c κs. search rules) (λ c. search rules)
+    (λ c κs. search rules) (λ c. search rules) returns)

@@ -54,8 +54,8 @@ put-stored-requires c κs =
     let at_turn = at_size.before.before in
     let d = due at_turn in
     let t = at_turn.take-turn.ensures in (
-      rw at_size.size-of.ensures.0 (old_in _ _ _ _ _ _ d.turn _ t),
-      rw (at_size.size-of.ensures.0, at-zeros.put-zeros.auto.0, at_entry_lem.put-entry.auto.0)
+      rw at_size.type_size.ensures.0 (old_in _ _ _ _ _ _ d.turn _ t),
+      rw (at_size.type_size.ensures.0, at-zeros.put-zeros.auto.0, at_entry_lem.put-entry.auto.0)
           (bytes_room _ _ _ _ _ _ _ _ _ d _ t),
     )
 
@@ -78,7 +78,7 @@ returns c =
       behind _ _ _ _ _ _ _ _ _ (due at_turn) _ t,
       string-put _ _ _ _ _ _ _ _ _ (due at_turn) _ t _ a.out.now _ _ _
           (record {
-            size = at_size.size-of.ensures.0;
+            size = at_size.type_size.ensures.0;
             entered = at_entry_lem.put-entry.ensures;
             zeros = at-zeros.put-zeros.ensures;
             stored = at_stored.put-stored.ensures;

@@ -12,7 +12,7 @@ copy-around-requires c κs =
     let a = start.args in
     let edits = told a.form a.words.now in
     let q = start.requires in
-    around-room _ _ _ _ _ _ q.moving
+    around-room a.mode a.p a.image.now edits a.text.now a.ends.now a.from a.sizes a.tail _ q
 
 put-region-requires : tie.Need-put-region-requires
 put-region-requires c κs =
@@ -21,7 +21,7 @@ put-region-requires c κs =
     let a = start.args in
     let edits = told a.form a.words.now in
     let q = start.requires in
-    let r = region-room _ _ _ _ _ _ q.moving in
+    let r = region-room a.mode a.p a.image.now edits a.text.now a.ends.now a.from a.sizes a.tail _ q in
     record {
       laid = q.asked.given.laid;
       listed = q.asked.given.listed;
@@ -39,7 +39,7 @@ put-counts-requires c κs =
     let edits = told a.form a.words.now in
     let q = start.requires in
     rw (at-put-region.put-region.auto.0, at-copy-around.copy-around.auto.0)
-    (header-room _ _ _ _ _ _ q.moving)
+    (header-room a.mode a.p a.image.now edits a.text.now a.ends.now a.from a.sizes a.tail _ q)
 
 relocate-requires : tie.Need-relocate-requires
 relocate-requires c κs =
@@ -51,7 +51,7 @@ relocate-requires c κs =
     let edits = told a.form a.words.now in
     let q = start.requires in
     rw (at-put-counts.put-counts.auto.0, at-put-region.put-region.auto.0, at-copy-around.copy-around.auto.0)
-    (movable _ _ _ _ _ _ q.moving)
+    (movable a.mode a.p a.image.now edits a.text.now a.ends.now a.from a.sizes a.tail _ q)
 
 finish-requires : tie.Need-finish-requires
 finish-requires c κs =
@@ -70,7 +70,7 @@ finish-requires c κs =
         at-put-region.put-region.auto.0,
         at-copy-around.copy-around.auto.0,
       )
-          (ends_room _ _ _ _ _ _ q.moving),
+          (ends_room a.mode a.p a.image.now edits a.text.now a.ends.now a.from a.sizes a.tail _ q),
     )
 
 returns : tie.Need-returns

@@ -6,7 +6,7 @@ use mathlib.Core.Path.{sym, ◌∙◌}
 use native.Mathlib.Omega.{arith}
 use lib.ListN.{length}
 use Rattle.string_in_place.proofs.FinishLaws.{room-written, part_length}
-use Rattle.string_rebuild.proofs.JudgeLaws.{planned_length, MeetsNone, none_met, plan_moving, planned_of, met_refused, makes}
+use Rattle.string_rebuild.proofs.JudgeLaws.{planned_tail, planned_length, MeetsNone, none_met, met_refused, makes}
 
 -- nothing was met
 passed : (c : tie.Else1) → let at-plan = c.before.before in
@@ -16,11 +16,8 @@ passed c = none_met _ _ _ _ (sym c.before.refusal.ensures ∙ c.if1.false)
 
 refusal-requires : tie.Need-refusal-requires
 refusal-requires c κs =
-    let start = c.before.before.before.before.before.before in
-    let a = start.args in (
-      start.requires.given.laid,
-      omega (arith, planned_length a.p a.image.now c.plan-rebuild.result c.plan-rebuild.ensures.is),
-    )
+    let q = c.before.before.before.before.before.before.requires in
+    (q.given.laid, omega (arith, planned_length _ _ _ _ _ c.plan-rebuild.ensures))
 
 returns : tie.Need-returns
 returns c =
@@ -43,7 +40,10 @@ put-rebuilt-requires c κs =
     record {
       asked = start.requires;
       measured = pl.decreases;
-      moving = rw long (plan_moving _ _ _ _ (planned_of _ _ _ _ _ start.requires.given.laid pl) _ ok);
+      tail = planned_tail _ _ _ _ _ pl;
+      long = long ∙ planned_length _ _ _ _ _ pl;
+      limit = rw long ok.limit;
+      fields = ok.fields;
     }
 
 returns-2 : tie.Need-returns-2

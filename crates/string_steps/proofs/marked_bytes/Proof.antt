@@ -18,10 +18,10 @@ returns-2 c =
     let at_value = at-shape.before in
     let a = at_value.before.before.before.before.args in
     let small = shape_small _ _ at-shape.shape_of.ensures at_value.value_of_lem.ensures.1 in (
-      c.size-of.ensures.0
+      c.type_size.ensures.0
           ∙ marked-size a.text.now a.ends.now a.mark at_value.before.if1.false _ at_value.value_of_lem.ensures.0 _
           at-shape.shape_of.ensures,
-      omega (arith, c.size-of.ensures.2),
+      omega (arith, c.type_size.ensures.2),
     )
 
 pub marked-bytes-spec : {M : Type 1} → statement M

@@ -43,7 +43,7 @@ add-sum c =
     let q = at-loop.before.before.before.requires in
     let z = sectioned _ _ q.placed in
     let small = (record_small _ _ q.placed _ _ at-string.string-at.ensures.string).0 in
-    omega (arith, c.size-of.ensures.2, at-loop.loop.invariant.3, at-loop.loop.invariant.0)
+    omega (arith, c.type_size.ensures.2, at-loop.loop.invariant.3, at-loop.loop.invariant.0)
 
 loop-less : tie.Need-loop-smaller invariant-loop decreases-loop
 loop-less c =
@@ -57,7 +57,7 @@ loop-again c =
     let at-loop = at-string.before.before.before.before in
     let q = at-loop.before.before.before.requires in
     let e = at-string.string-at.ensures in
-    let n = old_next _ _ q.placed _ _ e _ _ at_size.size-of.ensures.0 at-loop.loop.invariant.2 at-loop.loop.invariant.3 in
+    let n = old_next _ _ q.placed _ _ e _ _ at_size.type_size.ensures.0 at-loop.loop.invariant.2 at-loop.loop.invariant.3 in
     (omega (arith, e.id, at-string.before.if1.true), e.next, n.0, n.1)
 
 returns : tie.Need-returns invariant-loop decreases-loop

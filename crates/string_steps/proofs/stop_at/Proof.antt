@@ -10,10 +10,8 @@ use Rattle.string_steps.proofs.StopLaws.{placed_short, placed-fits}
 
 refusal-requires : tie.Need-refusal-requires
 refusal-requires c κs =
-    let start = c.before.before.before.before.before.before in
-    let a = start.args in
-    let long = planned_length a.p a.image.now c.plan-rebuild.result c.plan-rebuild.ensures.is in
-    (start.requires.1.0, omega (arith, long))
+    let q = c.before.before.before.before.before.before.requires in
+    (q.1.0, omega (arith, planned_length _ _ _ _ _ c.plan-rebuild.ensures))
 
 returns : tie.Need-returns
 returns c =

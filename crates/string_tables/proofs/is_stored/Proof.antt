@@ -11,14 +11,14 @@ returns : tie.Need-returns
 returns c =
     let at-size-of = c.before.before.before in
     let start = at-size-of.before.before in
-    leaves_storage _ _ (as_place start.args.place) _ start.requires.0 at-size-of.size-of.ensures.0 c.if1.true
+    leaves_storage _ _ (as_place start.args.place) _ start.requires.0 at-size-of.type_size.ensures.0 c.if1.true
 
 returns-2 : tie.Need-returns-2
 returns-2 c =
     let at-size-of = c.before.before.before.before in
     let start = at-size-of.before.before in
     wide_stored _ _ (as_place start.args.place) _
-    (record { placed = start.requires.0; size = at-size-of.size-of.ensures.0; ends = c.before.if1.false }) c.if2.true
+    (record { placed = start.requires.0; size = at-size-of.type_size.ensures.0; ends = c.before.if1.false }) c.if2.true
 
 add-are-narrow : tie.Need-overflow-add-are-narrow
 add-are-narrow c =
@@ -39,7 +39,7 @@ returns-3 c =
     let at-size-of = at-if1.before.before.before in
     let start = at-size-of.before.before in
     narrow_stored _ _ (as_place start.args.place) _
-    (record { placed = start.requires.0; size = at-size-of.size-of.ensures.0; ends = at-if1.if1.false }) at-if2.if2.false _
+    (record { placed = start.requires.0; size = at-size-of.type_size.ensures.0; ends = at-if1.if1.false }) at-if2.if2.false _
     c.are-narrow.ensures
 
 pub is-stored-spec : {M : Type 1} → statement M
