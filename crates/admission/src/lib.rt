@@ -8,7 +8,7 @@ use format::Layout;
 use sections::Places;
 
 // The record of places of an image, or the number of the refusal.
-#[derive(Drop)]
+#[derive(Clone, Copy)]
 pub enum Admission {
     Laid(Places),
     Refused(u8),

@@ -10,7 +10,7 @@ ghost use Rattle.bits.specs.Fields.{field_of, with_field};
 ghost use Rattle.bits.specs.Words.{whole, InOneWord};
 
 // A number of up to 128 bits.
-#[derive(Drop)]
+#[derive(Clone, Copy)]
 pub struct Words {
     pub low: u64,
     pub high: u64,
@@ -18,7 +18,7 @@ pub struct Words {
 
 // What a function that writes to a lent buffer answers: the length of what it wrote, or a refusal's
 // number.
-#[derive(Drop)]
+#[derive(Clone, Copy)]
 pub enum Answer {
     Length(usize),
     Refused(u8),

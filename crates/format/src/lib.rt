@@ -7,7 +7,7 @@ ghost use Rattle.format.specs.Number.{number_from, bytes_for};
 ghost use Rattle.format.specs.Entry.{entry};
 
 // The layout of an image, as its caller states it.
-#[derive(Drop)]
+#[derive(Clone, Copy)]
 pub enum Layout {
     Modern,
     Legacy {
@@ -18,7 +18,7 @@ pub enum Layout {
 
 // How a rebuild packs strings, as its caller chooses: each where the one before it ends, or a wide one
 // at the next even place.
-#[derive(Drop)]
+#[derive(Clone, Copy)]
 pub enum Mode {
     Plain,
     Even,
@@ -26,7 +26,7 @@ pub enum Mode {
 
 // Where a field stands, how wide it is, and how much further it stands in a legacy image with big
 // integers and in one with function sources.
-#[derive(Drop)]
+#[derive(Clone, Copy)]
 pub struct Field {
     pub at: usize,
     pub width: usize,

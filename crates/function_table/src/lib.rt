@@ -22,7 +22,7 @@ use sections::Places;
 
 // A function: whether it has a large header, the pointer to that, its body's start and size, and its
 // info place; 0 where there is none.
-#[derive(Drop)]
+#[derive(Clone, Copy)]
 pub struct Function {
     pub large: bool,
     pub ptr: usize,
@@ -32,7 +32,7 @@ pub struct Function {
 }
 
 // The answer of a function's reader.
-#[derive(Drop)]
+#[derive(Clone, Copy)]
 pub enum FunctionRead {
     Found(Function),
     Refused(u8),

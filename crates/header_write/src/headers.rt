@@ -10,7 +10,7 @@ use format::Layout;
 
 // The fields of a legacy header. Big integers and function sources are there only where the version
 // has them; where it has no segment id, 0 stands in its place.
-#[derive(Drop)]
+#[derive(Clone, Copy)]
 pub struct LegacyHeader {
     pub version: u32,
     pub source_hash: [u8; format::SOURCE_HASH_LEN],

@@ -16,26 +16,26 @@ ghost use Rattle.header_write.specs.Slots.{Writes, on_slot, read_legacy, read_mo
 use records::{LegacyFunctionHeader, ModernFunctionHeader, Shifted, Sum};
 
 // The answer of a leaf that writes.
-#[derive(Drop)]
+#[derive(Clone, Copy)]
 pub enum Wrote {
     Done,
     Refused(u8),
 }
 
 // The answer of a pointer's reader.
-#[derive(Drop)]
+#[derive(Clone, Copy)]
 pub enum Pointer {
     At(u32),
     Refused(u8),
 }
 
-#[derive(Drop)]
+#[derive(Clone, Copy)]
 pub enum LegacyRead {
     Record(LegacyFunctionHeader),
     Refused(u8),
 }
 
-#[derive(Drop)]
+#[derive(Clone, Copy)]
 pub enum ModernRead {
     Record(ModernFunctionHeader),
     Refused(u8),

@@ -8,7 +8,7 @@ ghost use Rattle.input_records.specs.Heads.{marked, layout_of, image_head, patch
 use format::Layout;
 
 // What the bytes before an image say: its layout and its length.
-#[derive(Drop)]
+#[derive(Clone, Copy)]
 pub enum ImageHead {
     Image(Layout, usize),
     Refused(u8),
@@ -16,7 +16,7 @@ pub enum ImageHead {
 
 // What the bytes before a patch say: the id of a string or a function, and the length of what is
 // patched in.
-#[derive(Drop)]
+#[derive(Clone, Copy)]
 pub enum PatchHead {
     String(usize, usize),
     Body(usize, usize),

@@ -14,7 +14,7 @@ use libc::{STDERR_FILENO, STDIN_FILENO, STDOUT_FILENO};
 const ROOM: usize = 65536;
 
 // How far the job has come, how many bytes it may still read, and whether a read of this turn was short.
-#[derive(Drop)]
+#[derive(Clone, Copy)]
 struct ReadSoFar {
     progress: Progress,
     left: u64,
@@ -23,7 +23,7 @@ struct ReadSoFar {
 
 // What a read gave: so many bytes, and whether they are fewer than it was asked for. The input ends
 // there then, or it cannot be read.
-#[derive(Drop)]
+#[derive(Clone, Copy)]
 struct Got {
     count: usize,
     short: bool,

@@ -16,7 +16,7 @@ use input_records::{ImageHead, PatchHead};
 
 // How far a job has come: an image of so many bytes is held, and the record at this place is next; or
 // the record at this place was refused with this number.
-#[derive(Drop)]
+#[derive(Clone, Copy)]
 pub enum Progress {
     Under(Layout, usize, u64),
     Refused(u64, u8),

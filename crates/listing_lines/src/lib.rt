@@ -8,7 +8,7 @@ ghost use Rattle.listing_lines.specs.Lines.{letter, refused_line, counts_line, s
 ghost use Rattle.listing_lines.specs.Lines.{function_line, units_shown};
 
 // The last field of a string's line: the hash that is stored for an identifier; a plain string has none.
-#[derive(Drop)]
+#[derive(Clone, Copy)]
 pub enum Slot {
     Hash(u64),
     None,

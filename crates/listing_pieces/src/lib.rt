@@ -20,7 +20,7 @@ use listing_lines::Slot;
 use sections::Places;
 
 // What an input is: one record with an admitted image, or refused.
-#[derive(Drop)]
+#[derive(Clone, Copy)]
 pub enum Opened {
     Listed(Places),
     Refused(u8),
@@ -28,7 +28,7 @@ pub enum Opened {
 
 // A string in its turn: its id, and how many identifiers have a lower one. That is the rank of an
 // identifier, which an index does not hold.
-#[derive(Drop)]
+#[derive(Clone, Copy)]
 pub struct Turn {
     pub id: usize,
     pub before: usize,
@@ -36,7 +36,7 @@ pub struct Turn {
 
 // Where a listing has come to: before line 1, before the line of a string, in that line before a unit,
 // before the line of a function, at the end.
-#[derive(Drop)]
+#[derive(Clone, Copy)]
 pub enum Point {
     Counts,
     Strings(Turn),
@@ -46,7 +46,7 @@ pub enum Point {
 }
 
 // Where a piece ends in the buffer, and where the listing goes on.
-#[derive(Drop)]
+#[derive(Clone, Copy)]
 pub struct Piece {
     pub end: usize,
     pub next: Point,

@@ -7,7 +7,7 @@ ghost use Rattle.po_lines.specs.Kinds.{mark_of, is_quoted, is_outside, begins, m
 ghost use Rattle.po_lines.specs.Taken.{FirstLow, IsLine, EndsAt, TakenAs};
 
 // What a line is.
-#[derive(Drop)]
+#[derive(Clone, Copy)]
 pub enum Kind {
     Blank,
     Msgid,
@@ -17,7 +17,7 @@ pub enum Kind {
 }
 
 // Where quoted text stands.
-#[derive(Drop)]
+#[derive(Clone, Copy)]
 pub enum Quote {
     Open,
     Escape,
@@ -84,7 +84,7 @@ fn is_closed(quote: Quote) -> bool
 
 // After one byte of quoted text: the place behind what is stored of its value, and where the text
 // stands.
-#[derive(Drop)]
+#[derive(Clone, Copy)]
 pub struct Step {
     pub to: usize,
     pub quote: Quote,
@@ -135,7 +135,7 @@ fn take_byte(out: &mut [u8], at: usize, quote: Quote, b: u8) -> Step
 }
 
 // A value that was stored: the place behind it, and whether its text was closed at the end.
-#[derive(Drop)]
+#[derive(Clone, Copy)]
 pub struct Put {
     pub to: usize,
     pub closed: bool,
@@ -291,7 +291,7 @@ fn first_low(file: &[u8], at: usize) -> usize
 
 // Where a line ends: the place of its line feed. Broken: another byte below 32 stands in it, or no
 // line feed behind it.
-#[derive(Drop)]
+#[derive(Clone, Copy)]
 pub enum Ending {
     Feed(usize),
     Broken,
@@ -313,14 +313,14 @@ fn line_end(file: &[u8], at: usize) -> Ending
 }
 
 // A line that was read: what it is, the place behind its stored value, and that of the next line.
-#[derive(Drop)]
+#[derive(Clone, Copy)]
 pub struct Took {
     pub kind: Kind,
     pub to: usize,
     pub next: usize,
 }
 
-#[derive(Drop)]
+#[derive(Clone, Copy)]
 pub enum Taken {
     Sound(Took),
     Fault,

@@ -13,7 +13,7 @@ use po_lines::{Kind, Taken};
 
 // Where the lines of a file stand: between two pairs, in a msgid or a msgstr that lines may continue,
 // or outside the subset.
-#[derive(Drop)]
+#[derive(Clone, Copy)]
 pub enum Stand {
     Between,
     InId,
@@ -79,7 +79,7 @@ fn is_astray(stand: Stand) -> bool
 
 // How far a file is read: where its lines stand, how many values they opened, where the last of these
 // ends in the text, and where the next line starts.
-#[derive(Drop)]
+#[derive(Clone, Copy)]
 pub struct Reached {
     pub stand: Stand,
     pub values: usize,
@@ -149,7 +149,7 @@ fn take_turn(text: &mut [u8], ends: &mut [u32], file: &[u8], p: Reached) -> Reac
 }
 
 // How many values were read.
-#[derive(Drop)]
+#[derive(Clone, Copy)]
 pub enum Values {
     Held(usize),
     Faulty,
@@ -244,7 +244,7 @@ fn enter_all(text: &[u8], ends: &[u32], work: &mut [u32], m: usize, pairs: usize
 }
 
 // How many pairs were read, or that the file is outside the subset.
-#[derive(Drop)]
+#[derive(Clone, Copy)]
 pub enum Pairs {
     Read(usize),
     Outside,

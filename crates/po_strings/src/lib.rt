@@ -13,7 +13,7 @@ ghost use Rattle.po_strings.specs.Texts.{is_held, text_of, Inside, units_in, uni
 use string_walk::StringRecord;
 
 // Where the units of a string stand.
-#[derive(Drop)]
+#[derive(Clone, Copy)]
 pub struct Text {
     pub start: usize,
     pub wide: bool,
@@ -32,7 +32,7 @@ pub fn text_of(string: StringRecord) -> Text
 }
 
 // A code point of a text, or `NO_POINT` for a surrogate that stands alone, and the unit behind it.
-#[derive(Drop)]
+#[derive(Clone, Copy)]
 struct Point {
     value: u64,
     next: usize,

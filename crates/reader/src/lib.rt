@@ -15,7 +15,7 @@ use sections::Places;
 use string_walk::{Counts, Location, StringRecord};
 
 // A string that was read by its id: its record, and how many table entries were visited to find it.
-#[derive(Drop)]
+#[derive(Clone, Copy)]
 pub enum StringRead {
     Found(StringRecord, Counts),
     Refused(u8),

@@ -16,21 +16,21 @@ use bits::Words;
 pub const WORD_BITS: usize = 32;
 
 // A sum, where its place can hold it: it is not below 0 and has no more bits.
-#[derive(Drop)]
+#[derive(Clone, Copy)]
 pub enum Sum {
     Fits(u64),
     Beyond,
 }
 
 // A record after a shift; none where a sum does not fit.
-#[derive(Drop)]
+#[derive(Clone, Copy)]
 pub enum Shifted {
     To(Words),
     Beyond,
 }
 
 // The fields of a legacy record.
-#[derive(Drop)]
+#[derive(Clone, Copy)]
 pub struct LegacyFunctionHeader {
     pub offset: u32,
     pub param_count: u32,
@@ -45,7 +45,7 @@ pub struct LegacyFunctionHeader {
 }
 
 // The fields of a modern record that the port reads.
-#[derive(Drop)]
+#[derive(Clone, Copy)]
 pub struct ModernFunctionHeader {
     pub offset: u32,
     pub bytecode_size: u32,

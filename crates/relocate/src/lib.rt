@@ -22,14 +22,14 @@ use format::Layout;
 use function_table::Function;
 
 // Which patch moves the places: a rebuild of the strings, or that of a body to another size.
-#[derive(Drop)]
+#[derive(Clone, Copy)]
 pub enum Cause {
     Strings,
     Body { id: usize, size: usize },
 }
 
 // What stood at `from` goes to `to`, and all behind it with it.
-#[derive(Drop)]
+#[derive(Clone, Copy)]
 pub struct Move {
     pub from: usize,
     pub to: usize,

@@ -10,7 +10,7 @@ ghost use Rattle.sections.specs.Places.{places_of};
 use format::Layout;
 
 // The counts of the header, and the start of each section. The records start where the table says.
-#[derive(Drop)]
+#[derive(Clone, Copy)]
 pub struct Places {
     pub layout: Layout,
     pub functions: usize,

@@ -107,7 +107,7 @@ fn word(ring: [u32; 16], block: &[u8], t: usize) -> u32
 }
 
 // What goes from round to round: the working variables a to e, and the ring.
-#[derive(Drop)]
+#[derive(Clone, Copy)]
 struct Work {
     v: [u32; 5],
     ring: [u32; 16],

@@ -9,14 +9,14 @@ ghost use Rattle.string_edits.specs.declared.Form.TheVariants.{Ids, Marks};
 
 // How words tell what strings get: by a list of ids, number j being that of edit j; or by a mark for
 // each string, one more than the number of its edit, 0 for none.
-#[derive(Drop)]
+#[derive(Clone, Copy)]
 pub enum Form {
     Ids,
     Marks,
 }
 
 // The edit that comes next: its number, and the id of its string, or NONE where none is left.
-#[derive(Drop)]
+#[derive(Clone, Copy)]
 pub struct Next {
     pub edit: usize,
     pub id: usize,

@@ -17,7 +17,7 @@ use string_walk::{Cursor, StringRecord};
 
 // What an index holds of a string. The length is as the table counts it, in bytes for a narrow string
 // and in 16-bit units for a wide one; the flags are bit 0 for a wide string, bit 1 for an identifier.
-#[derive(Drop)]
+#[derive(Clone, Copy)]
 pub struct Entry {
     pub offset: u32,
     pub length: u32,
@@ -25,21 +25,21 @@ pub struct Entry {
 }
 
 // An entry that was looked up, or the number of the refusal.
-#[derive(Drop)]
+#[derive(Clone, Copy)]
 pub enum Lookup {
     Found(Entry),
     Refused(u8),
 }
 
 // How many strings there are in the index that was filled, or the number of the refusal.
-#[derive(Drop)]
+#[derive(Clone, Copy)]
 pub enum Filled {
     Strings(usize),
     Refused(u8),
 }
 
 // What an index tells of a string of the image that it was filled from.
-#[derive(Drop)]
+#[derive(Clone, Copy)]
 pub struct HeldString {
     pub place: Place,
     pub identifier: bool,

@@ -25,7 +25,7 @@ use string_walk::{Cursor, StringRecord};
 
 // What is known of a string without its bytes. The count is of bytes for a narrow string, of 16-bit
 // units for a wide one.
-#[derive(Drop)]
+#[derive(Clone, Copy)]
 pub struct Shape {
     pub wide: bool,
     pub count: usize,
@@ -33,7 +33,7 @@ pub struct Shape {
 
 // How far the strings are packed: the cursor behind those that are, how many of them go to the
 // overflow table, and how many bytes they take.
-#[derive(Drop)]
+#[derive(Clone, Copy)]
 pub struct Packer {
     pub old: Cursor,
     pub over: usize,
@@ -42,7 +42,7 @@ pub struct Packer {
 
 // A string in its turn: as it stands in the image, where it goes, and how far the strings are packed with
 // it.
-#[derive(Drop)]
+#[derive(Clone, Copy)]
 pub struct Turn {
     pub old: StringRecord,
     pub new: Place,
@@ -51,7 +51,7 @@ pub struct Turn {
 
 // Strings in a row, up to `end`, of which one at most gets a value: the edit that comes next, and the
 // shape of its value.
-#[derive(Drop)]
+#[derive(Clone, Copy)]
 pub struct Stretch {
     pub next: Next,
     pub new: Shape,
@@ -59,7 +59,7 @@ pub struct Stretch {
 }
 
 // The bytes of all strings, and how many of them go to the overflow table.
-#[derive(Drop)]
+#[derive(Clone, Copy)]
 pub struct Sizes {
     pub storage: usize,
     pub overflows: usize,

@@ -19,7 +19,7 @@ use string_packing::{Packer, Shape, Sizes};
 use string_tables::Place;
 
 // Where the new tables and the new storage start.
-#[derive(Drop)]
+#[derive(Clone, Copy)]
 pub struct RegionPlaces {
     pub small_at: usize,
     pub over_at: usize,

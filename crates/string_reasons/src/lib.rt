@@ -16,7 +16,7 @@ use string_edits::Form;
 
 // The first of these that holds, in this order: the number of a refusal; in place; the entry is wide; the value is not
 // ASCII; the lengths of entry and value, in bytes, which differ; the lowest other string whose entry overlaps.
-#[derive(Drop)]
+#[derive(Clone, Copy)]
 pub enum Reason {
     Refused(u8),
     InPlace,

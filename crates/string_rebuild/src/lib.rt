@@ -20,7 +20,7 @@ use string_walk::Cursor;
 
 // What is known of a rebuild before its first byte is written: the sizes of the strings, where the tail
 // goes, and how long the image gets.
-#[derive(Drop)]
+#[derive(Clone, Copy)]
 pub struct Plan {
     pub sizes: Sizes,
     pub tail: usize,

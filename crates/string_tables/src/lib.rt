@@ -14,7 +14,7 @@ use sections::Places;
 
 // Where a string stands in storage. The count is of bytes for a narrow string, of 16-bit units for a
 // wide one.
-#[derive(Drop)]
+#[derive(Clone, Copy)]
 pub struct Place {
     pub wide: bool,
     pub at: usize,
@@ -22,14 +22,14 @@ pub struct Place {
 }
 
 // A place that was read, and how many overflow pairs are read up to then.
-#[derive(Drop)]
+#[derive(Clone, Copy)]
 pub struct PlaceRead {
     pub place: Place,
     pub over: usize,
 }
 
 // The ids that kinds cover, and the identifiers among them.
-#[derive(Drop)]
+#[derive(Clone, Copy)]
 pub struct Covered {
     pub strings: u64,
     pub identifiers: u64,

@@ -18,7 +18,7 @@ use sections::Places;
 use string_tables::Place;
 
 // The rank of a string among the identifiers: how many of them have a lower id. A plain string has none.
-#[derive(Drop)]
+#[derive(Clone, Copy)]
 pub enum Rank {
     At(usize),
     Plain,
@@ -26,7 +26,7 @@ pub enum Rank {
 
 // A string of an image, as all who find it hand it round: where its bytes start, its place in storage as
 // its entries give it, and its rank.
-#[derive(Drop)]
+#[derive(Clone, Copy)]
 pub struct StringRecord {
     pub start: usize,
     pub place: Place,
@@ -35,7 +35,7 @@ pub struct StringRecord {
 
 // Where a pass over the strings has come to: the next string, the overflow entries before it, and the
 // run of kinds that the pass has reached.
-#[derive(Drop)]
+#[derive(Clone, Copy)]
 pub struct Cursor {
     pub id: usize,
     pub over: usize,
@@ -44,21 +44,21 @@ pub struct Cursor {
 
 // How many entries of the two tables a walk has visited. It reads both from their starts on, so these
 // are also the numbers of its next small entry and of its next overflow pair.
-#[derive(Drop)]
+#[derive(Clone, Copy)]
 pub struct Counts {
     pub small: usize,
     pub over: usize,
 }
 
 // The place of a string that a walk has come to, and what is visited then.
-#[derive(Drop)]
+#[derive(Clone, Copy)]
 pub struct Step {
     pub place: Place,
     pub counts: Counts,
 }
 
 // One string of a pass, and where the pass goes on.
-#[derive(Drop)]
+#[derive(Clone, Copy)]
 pub struct Visited {
     pub string: StringRecord,
     pub next: Cursor,
@@ -66,7 +66,7 @@ pub struct Visited {
 
 // A string that was looked for: its id, its record, and what was visited on the way to it; or the number of
 // the refusal.
-#[derive(Drop)]
+#[derive(Clone, Copy)]
 pub enum Location {
     At(usize, StringRecord, Counts),
     Refused(u8),
@@ -139,7 +139,7 @@ pub fn unit_at(image: &[u8], start: usize, wide: bool, i: usize) -> u64
 
 // A run of kinds: how many there are up to it, where the ids end that it covers, whether they are
 // identifiers, and how many identifiers there are up to that end.
-#[derive(Drop)]
+#[derive(Clone, Copy)]
 pub struct Run {
     pub count: usize,
     pub end: usize,

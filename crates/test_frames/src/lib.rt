@@ -22,7 +22,7 @@ const ANSWER: usize = 44;
 // The most words that a list within a buffer may have.
 pub const LIST: usize = 1024;
 
-#[derive(Drop)]
+#[derive(Clone, Copy)]
 pub enum Status {
     Done,
     Refused(u8),
@@ -31,7 +31,7 @@ pub enum Status {
 }
 
 // An answer, but for the buffer as the call left it. Results that a call does not give are 0.
-#[derive(Drop)]
+#[derive(Clone, Copy)]
 pub struct Answer {
     pub status: Status,
     pub results: [u32; RESULTS],
@@ -51,7 +51,7 @@ pub fn buffer_length(head: &[u8; HEAD]) -> usize {
 }
 
 // A call's buffer that was read in two parts, or not: their lengths.
-#[derive(Drop)]
+#[derive(Clone, Copy)]
 pub struct Parts {
     pub is_read: bool,
     pub first: usize,

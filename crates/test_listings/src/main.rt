@@ -12,7 +12,7 @@ use libc::STDIN_FILENO;
 const ROOM: usize = 65544;
 
 // What stands where an input is expected.
-#[derive(Drop)]
+#[derive(Clone, Copy)]
 enum Head {
     Input(usize, usize),
     End,

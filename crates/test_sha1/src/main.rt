@@ -12,7 +12,7 @@ const ROOM: usize = 1048576;
 const REPEATED: u64 = 2147483648;
 
 // What stands where a length is expected.
-#[derive(Drop)]
+#[derive(Clone, Copy)]
 enum Head {
     Message(u64),
     End,

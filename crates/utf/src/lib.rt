@@ -11,7 +11,7 @@ ghost use Rattle.utf.specs.Utf8.{further as Utf8·further, wrong as Utf8·wrong,
 use bits::word32::{add, xor};
 
 // Where a reader stands.
-#[derive(Drop)]
+#[derive(Clone, Copy)]
 pub struct Reading {
     pub ok: bool,
     pub need: u32,
@@ -21,7 +21,7 @@ pub struct Reading {
 }
 
 // The units that a byte completes.
-#[derive(Drop)]
+#[derive(Clone, Copy)]
 pub enum Units {
     None,
     One(u32),

@@ -1,0 +1,59 @@
+-- By the layout: the words of the header, each within the width that the caller has shown to be there.
+use mathlib.Core.Path.{refl}
+use native.Mathlib.Omega.{arith}
+use Rattle.function_table.proofs.ReadLaws.{header_modern, header_legacy}
+use borrow.Author.Rules.{rules}
+use Rattle.function_table.proofs.large_function.Goals as goal
+
+pub large_word-requires : goal.large_word-requires
+large_word-requires c =
+    record {
+      k_lt_row_count = (omega arith, refl);
+      k_in_bounds = omega (arith, rw c.in-Modern.is at c.requires.0);
+    }
+
+pub large_word-requires-in-Modern : goal.large_word-requires-in-Modern
+large_word-requires-in-Modern c =
+    record {
+      k_lt_row_count = (omega arith, refl);
+      k_in_bounds = omega (arith, rw c.in-Modern.is at c.requires.0);
+    }
+
+pub large_word-requires-in-Legacy : goal.large_word-requires-in-Legacy
+large_word-requires-in-Legacy c =
+    record {
+      k_lt_row_count = (omega arith, refl);
+      k_in_bounds = omega (arith, rw c.in-Legacy.is at c.requires.0);
+    }
+
+pub large_word-requires-in-Legacy-2 : goal.large_word-requires-in-Legacy-2
+large_word-requires-in-Legacy-2 c =
+    record {
+      k_lt_row_count = (omega arith, refl);
+      k_in_bounds = omega (arith, rw c.in-Legacy.is at c.requires.0);
+    }
+
+pub large_word-requires-in-Legacy-3 : goal.large_word-requires-in-Legacy-3
+large_word-requires-in-Legacy-3 c =
+    record {
+      k_lt_row_count = (omega arith, refl);
+      k_in_bounds = omega (arith, rw c.in-Legacy.is at c.requires.0);
+    }
+
+pub returns-in-Modern : goal.returns-in-Modern
+returns-in-Modern c =
+    (
+  header_modern _ _ _ c.in-Modern.is _ _ c.large_word.ensures.0 c.large_word-in-Modern.ensures.0,
+  search rules,
+
+pub returns-in-Legacy : goal.returns-in-Legacy
+returns-in-Legacy c =
+    (
+      header_legacy _ _ _ _ _ c.in-Legacy.is _ _ _
+          (record {
+            begin = c.large_word-in-Legacy.ensures.0;
+            size = c.large_word-in-Legacy-2.ensures.0;
+            info = c.large_word-in-Legacy-3.ensures.0;
+          }),
+      search rules,
+    )

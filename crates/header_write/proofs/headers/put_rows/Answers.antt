@@ -1,0 +1,53 @@
+use Prim.Native.Nat.{◌-◌}
+use mathlib.Core.Path.{◌≡◌, refl, ◌∙◌}
+use mathlib.Core.Bool.{true}
+use native.Mathlib.Nat.{add-zero}
+use native.Mathlib.Omega.{arith}
+use lib.ListN.{length}
+use Rattle.header_write.specs.Headers.{run, is_header_word}
+use Rattle.header_write.proofs.HeaderLaws.{row_at, word_width, word_fits, place_le, run-next, run_end}
+use Rattle.header_write.proofs.headers.put_rows.Goals as goal
+
+-- the row of this turn is a header word
+word : (c : goal.After-get) → is_header_word c.get.result ≡ true
+word c = row_at c.get.result c.args.first (length c.args.values.now) c.loop-i.i c.get.ensures
+    c.requires.values_bound.1 (omega arith)
+
+pub loop-i-init : goal.loop-i-init
+loop-i-init c = (omega arith, refl, rw (add-zero c.args.first))
+
+pub place-at-requires : goal.place-at-requires
+place-at-requires c = omega (arith, word_fits c.get.result (word (goal.at.place-at-requires c).After-get))
+
+pub overflow_cast-values : goal.overflow_cast-values
+overflow_cast-values c = omega (arith, c.type_inv.values c.loop-i.i)
+
+pub put_word-requires : goal.put_word-requires
+put_word-requires c =
+    let f = c.get.result in
+    omega (arith, c.place-at.ensures, place_le c.args.layout f, word_fits f (word ((goal.at.put_word-requires c).After-get)))
+
+pub loop-i-preserved : goal.loop-i-preserved
+loop-i-preserved c =
+    let l = c.loop-i in
+    let s = c.args in (
+      omega arith,
+      c.put_word.auto.0
+          ∙ l.invariant.1,
+      run-next s.layout s.first l.i s.values.now l.buf _ l.invariant.2 c.get.result _
+          (record {
+            more = omega arith;
+            row = c.get.ensures;
+            word = word_width c.get.result (word (goal.at.loop-i-preserved c).After-get);
+            stored = rw (← c.place-at.ensures) c.put_word.ensures;
+          }),
+    )
+
+pub shape_of-buf : goal.shape_of-buf
+shape_of-buf c = c.loop-i.invariant.1
+
+pub returns : goal.returns
+returns c =
+    let l = c.loop-i in
+    let s = c.args in
+    run_end s.layout s.first l.i s.values.now l.buf _ l.invariant.2 (omega arith)

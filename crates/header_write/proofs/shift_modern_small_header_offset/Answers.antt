@@ -1,0 +1,27 @@
+-- A slot that is too short is left, and so is one whose sum does not fit; else the moved record is what is stored.
+use native.Mathlib.Omega.{arith}
+use mathlib.Core.Path.{◌≡◌, ap, sym, ◌∙◌}
+use Rattle.format.specs.declared.Layout.TheVariants.{Modern}
+use mir.Facts.{to_z-of_z}
+use Rattle.bits.specs.Bytes.{number_at}
+use Rattle.format.specs.Table.{modern_record}
+use Rattle.records.specs.Records.{as_edited, shift_small}
+use Rattle.header_write.proofs.SlotLaws.{slot_short, slot_beyond, slot_done}
+use Rattle.header_write.proofs.shift_modern_small_header_offset.Goals as goal
+
+-- the record that the code made
+moved-is : (c : goal.After-shift_modern_offset-moved) → let a = c.args in
+    as_edited c.shift_modern_offset-moved.result ≡ shift_small Modern a.delta (number_at a.slot.now 0 modern_record.width)
+moved-is c = c.shift_modern_offset-moved.ensures ∙ rw (c.load12.ensures, to_z-of_z c.ranges.delta)
+
+pub returns-then-slot-width : goal.returns-then-slot-width
+returns-then-slot-width c = slot_short modern_record.width _ _ (omega arith)
+
+pub returns-in_default : goal.returns-in_default
+returns-in_default c =
+    slot_beyond modern_record.width _ _ (omega arith) (sym (ap as_edited c.in_default.is) ∙ moved-is (goal.at.returns-in_default c).After-shift_modern_offset-moved)
+
+pub returns : goal.returns
+returns c =
+    slot_done modern_record.width _ _ _ _ (omega arith) c.store12.ensures
+    (sym (ap as_edited c.in-To.is) ∙ moved-is (goal.at.returns c).After-shift_modern_offset-moved)

@@ -1,0 +1,23 @@
+-- 15 where the image is cut short, then the image's own number.
+use Rattle.std.proofs.Common.{arith}
+use Rattle.job_records.proofs.RecordLaws.{cut_image, image_refused, image_laid}
+use Rattle.job_records.proofs.begin_image.Goals as goal
+
+pub returns-then-image-stated : goal.returns-then-image-stated
+returns-then-image-stated c =
+    cut_image c.args.layout c.args.stated c.args.image.now
+    c.if-image-stated.true
+
+pub returns-in_default : goal.returns-in_default
+returns-in_default c =
+    let a = c.args in
+    image_refused a.layout a.stated a.image.now _
+    (record { whole = omega (arith, c.if-image-stated.false); judged = c.admit-judged.ensures }) _ _
+    c.in_default.is c.number_of.ensures
+
+pub returns : goal.returns
+returns c =
+    let a = c.args in
+    image_laid a.layout a.stated a.image.now _
+    (record { whole = omega (arith, c.if-image-stated.false); judged = c.admit-judged.ensures }) _
+    c.in-Laid.is

@@ -1,0 +1,49 @@
+-- A refusal leaves both buffers; an accepted patch is made in one and copied to the other.
+use Rattle.std.proofs.Common.{arith}
+use Rattle.job_records.proofs.RecordLaws.{stepped_refused, stepped_made, new_fits, part_fits}
+use Rattle.job_records.proofs.step.Goals as goal
+
+pub slice_bounds-put_bytes-end : goal.slice_bounds-put_bytes-end
+slice_bounds-put_bytes-end c =
+    let a = c.args in
+    omega (
+      arith,
+      new_fits a.progress _ _ _ _ a.image.now a.head.now a.bytes.now a.out.now _ _ _
+          (record {
+            turn = record {
+              under = c.in-Under.is;
+              part = c.least-held.ensures.0;
+              answers = c.apply-answer.ensures;
+            };
+            long = c.in-Length.is;
+            room = c.requires;
+          }),
+      c.apply-answer.auto,
+    )
+
+pub put_bytes-requires : goal.put_bytes-requires
+put_bytes-requires c =
+    let a = c.args in
+    part_fits a.progress _ _ _ _ a.image.now a.head.now a.bytes.now a.out.now _ _ _
+    (record {
+      turn = record { under = c.in-Under.is; part = c.least-held.ensures.0; answers = c.apply-answer.ensures };
+      long = c.in-Length.is;
+      room = c.requires;
+    }) (omega (arith, c.apply-answer.auto))
+
+pub returns-in-Refused : goal.returns-in-Refused
+returns-in-Refused c =
+    let a = c.args in
+    stepped_refused a.progress _ _ _ _ a.image.now a.head.now a.bytes.now a.out.now _ _
+    (record { under = c.in-Under.is; part = c.least-held.ensures.0; answers = c.apply-answer.ensures }) _
+    c.in-Refused.is
+
+pub returns-in-Length : goal.returns-in-Length
+returns-in-Length c =
+    let a = c.args in
+    stepped_made a.progress _ _ _ _ a.image.now a.head.now a.bytes.now a.out.now _ _ _
+    (record {
+      turn = record { under = c.in-Under.is; part = c.least-held.ensures.0; answers = c.apply-answer.ensures };
+      long = c.in-Length.is;
+      room = c.requires;
+    }) _ _ c.wrapping_add_u64.ensures c.put_bytes.ensures

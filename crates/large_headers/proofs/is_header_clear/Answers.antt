@@ -1,0 +1,67 @@
+use Prim.Native.Nat.{◌-◌}
+use mathlib.Core.Bool.{true}
+use native.Mathlib.Omega.{arith}
+use Rattle.bits.proofs.PassLaws.{pass_none, pass_next}
+use Rattle.function_table.specs.Functions.{as_func}
+use Rattle.large_headers.specs.Clear.{clear_at}
+use Rattle.large_headers.proofs.ClearLaws.{WithHeader, ClearTurn, no_header, clear_at_lem, header-not_clear, header_clear}
+use Rattle.large_headers.proofs.is_header_clear.Goals as goal
+
+-- function j has a large header
+headed : (c : goal.Else-not-g) → let a = c.args in
+    WithHeader a.layout a.image.now a.j a.n (as_func c.function_at-g.result)
+headed c = record {
+      is = c.function_at-g.ensures.0;
+      large = c.if-not-g.false;
+      count = c.requires.n_value.0;
+    }
+
+-- function i is tested against it
+turn : (c : goal.After-is_clear_of) → let a = c.args in
+    ClearTurn a.layout a.image.now a.j a.n c.loop-i.i c.large_width-width.result
+    (as_func c.function_at-g.result) (as_func c.function_at-f.result) c.are_two.result
+    c.is_clear_of.result
+turn c = record {
+      headed = headed c;
+      width = c.large_width-width.ensures.0;
+      is = c.function_at-f.ensures.0;
+      two = c.are_two.ensures;
+      test = c.is_clear_of.ensures;
+    }
+
+pub function_at-g-requires : goal.function_at-g-requires
+function_at-g-requires c =
+    record {
+      readable = c.requires.readable;
+      i_bound = omega arith;
+    }
+
+pub returns-then-not-g : goal.returns-then-not-g
+returns-then-not-g c = no_header _ _ _ _ c.function_at-g.ensures.0 c.if-not-g.true
+
+pub loop-i-init : goal.loop-i-init
+loop-i-init c = (omega arith, pass_none _)
+
+pub function_at-f-requires : goal.function_at-f-requires
+function_at-f-requires c =
+    record {
+      readable = c.requires.readable;
+      i_bound = omega arith;
+    }
+
+pub is_clear_of-requires : goal.is_clear_of-requires
+is_clear_of-requires c = (c.function_at-g.ensures.1, c.function_at-f.ensures.1, omega arith)
+
+pub returns-then-not-is_clear_of : goal.returns-then-not-is_clear_of
+returns-then-not-is_clear_of c =
+    header-not_clear (turn (goal.at.returns-then-not-is_clear_of c).After-is_clear_of) (omega arith) c.if-not-is_clear_of.true
+
+pub loop-i-preserved : goal.loop-i-preserved
+loop-i-preserved c =
+    let l = c.loop-i in
+    (omega arith, pass_next _ l.i _ (clear_at_lem (turn (goal.at.loop-i-preserved c).After-is_clear_of)) c.if-not-is_clear_of.false l.invariant.1)
+
+pub returns : goal.returns
+returns c =
+    let l = c.loop-i in
+    header_clear (headed (goal.at.returns c).Else-not-g) l.i (omega arith) l.invariant.1

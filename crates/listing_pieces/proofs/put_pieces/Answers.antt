@@ -1,0 +1,33 @@
+use Prim.Native.Nat.{◌-◌}
+use native.Mathlib.Omega.{arith}
+use Rattle.listing_pieces.proofs.PointLaws.{going_first, going_next, going_last}
+use Rattle.listing_pieces.proofs.put_pieces.Goals as goal
+
+pub loop-i-init : goal.loop-i-init
+loop-i-init c = let h = c.requires in going_first _ _ _ _ h.1.1 h.1.0
+
+pub put_piece-piece-requires : goal.put_piece-piece-requires
+put_piece-piece-requires c =
+    let g = c.loop-i.invariant in
+    (c.requires.ready, (g.good, omega (arith, g.room, c.loop-i-test.true)))
+
+pub overflow_add-i : goal.overflow_add-i
+overflow_add-i c = omega (arith, c.loop-i-test.true)
+
+pub loop-i-smaller : goal.loop-i-smaller
+loop-i-smaller c = omega (arith, c.loop-i-test.true)
+
+pub loop-i-preserved : goal.loop-i-preserved
+loop-i-preserved c =
+    let l = c.loop-i in
+    let w = c.put_piece-piece in
+    going_next c.args.p c.args.image.now _ _ l.out l.point l.at l.i l.invariant
+    c.loop-i-test.true w.new.1.1.1.1.0 w.result w.ensures
+
+pub shape_of-out : goal.shape_of-out
+shape_of-out c = c.loop-i.invariant.same
+
+pub returns : goal.returns
+returns c =
+    let l = c.loop-i in
+    going_last c.args.p c.args.image.now _ _ l.out l.point l.at l.i l.invariant c.loop-i-test.false

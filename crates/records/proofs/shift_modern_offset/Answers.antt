@@ -1,0 +1,29 @@
+-- The sum is the definition's; where it fits, the field holds it.
+use mathlib.Core.Path.{◌≡◌, sym, ◌∙◌}
+use mir.Facts.{to_z-of_z}
+use borrow.Author.Rules.{rules}
+use Rattle.bits.specs.Words.{whole}
+use Rattle.format.specs.Table.{modern_offset}
+use Rattle.records.specs.Records.{field_sum, shift_small}
+use Rattle.records.proofs.SumLaws.{sum_lt}
+use Rattle.records.proofs.shift_modern_offset.Goals as goal
+
+sum_is : (c : goal.After-field_sum-sum) → let a = c.args in
+    c.field_sum-sum.result ≡ field_sum modern_offset a.delta (whole a.w)
+sum_is c = c.field_sum-sum.ensures ∙ rw (to_z-of_z c.ranges.delta)
+
+pub returns-in_default : goal.returns-in_default
+unfolding shift_small
+returns-in_default c = rw (← sum_is (goal.at.returns-in_default c).After-field_sum-sum, c.in_default.is)
+
+pub with_exact-requires : goal.with_exact-requires
+with_exact-requires c =
+    let a = c.args in
+    record {
+      k_value = search rules;
+      v_bound = sum_lt modern_offset.width a.delta _ _ (sym (sum_is (goal.at.with_exact-requires c).After-field_sum-sum) ∙ c.in-Fits.is);
+    }
+
+pub returns : goal.returns
+unfolding shift_small
+returns c = rw (← sum_is (goal.at.returns c).After-field_sum-sum, c.in-Fits.is, c.with_exact.ensures.0)

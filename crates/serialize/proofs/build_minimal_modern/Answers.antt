@@ -1,0 +1,51 @@
+-- Refusals as `measure` judged them, then 13; what is left has the room that `put_image` asks for.
+use native.Mathlib.Omega.{arith}
+use Rattle.serialize.proofs.BuilderLaws.{goes_out, fine, no_room, room_made, written_out}
+use Rattle.serialize.proofs.build_minimal_modern.Goals as goal
+
+pub returns-in_default : goal.returns-in_default
+returns-in_default c =
+    let a = c.args in
+    goes_out a.version a.text.now a.ends.now a.body.now a.out.now _ c.measure-measured.ensures _
+    c.in_default.is
+
+pub returns-then-out-length : goal.returns-then-out-length
+returns-then-out-length c =
+    let a = c.args in
+    no_room a.version a.text.now a.ends.now a.body.now a.out.now _
+    (fine a.version a.text.now a.ends.now a.body.now _ _ c.measure-measured.ensures
+    c.in-Length.is)
+    c.if-out-length.true
+
+pub slice_bounds-put_image-end-2 : goal.slice_bounds-put_image-end-2
+slice_bounds-put_image-end-2 c =
+    let a = c.args in
+    omega (
+      arith,
+      c.start_of-size.ensures.0,
+      (fine a.version a.text.now a.ends.now a.body.now _ _ c.measure-measured.ensures
+          c.in-Length.is).last,
+    )
+
+pub put_image-requires : goal.put_image-requires
+put_image-requires c =
+    let a = c.args in
+    room_made a.version a.text.now a.ends.now a.body.now a.out.now _ _
+    (record {
+      accepted = fine a.version a.text.now a.ends.now a.body.now _ _ c.measure-measured.ensures
+          c.in-Length.is;
+      last = c.start_of-size.ensures.0;
+      room = c.if-out-length.false;
+    })
+
+pub returns : goal.returns
+returns c =
+    let a = c.args in
+    written_out a.version a.text.now a.ends.now a.body.now a.out.now _ _
+    (record {
+      accepted = fine a.version a.text.now a.ends.now a.body.now _ _ c.measure-measured.ensures
+          c.in-Length.is;
+      last = c.start_of-size.ensures.0;
+      room = c.if-out-length.false;
+    })
+    _ _ c.put_image.ensures

@@ -1,0 +1,6 @@
+-- Each turn of the ring begins where the one before it ended.
+use Rattle.sha1_hash.proofs.RingLaws.{variables}
+use Rattle.sha1_hash.proofs.all_rounds.Goals as goal
+
+pub returns : goal.returns
+returns c = variables _ _ _ _ _ c.rounds_from_64-s80.ensures

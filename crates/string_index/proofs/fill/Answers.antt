@@ -1,0 +1,53 @@
+use mathlib.Core.Path.{refl, ◌∙◌}
+use Prim.Native.Nat.{◌-◌}
+use native.Mathlib.Omega.{arith}
+use Rattle.string_index.specs.Index.{entry_of}
+use Rattle.string_index.proofs.RunLaws.{put-none, put_next}
+use Rattle.string_index.proofs.IndexLaws.{all_filled}
+use Rattle.string_index.proofs.fill.Goals as goal
+
+pub first_string-c-requires : goal.first_string-c-requires
+first_string-c-requires c = tt
+
+pub loop-c-init : goal.loop-c-init
+loop-c-init c =
+    let a = c.args in
+    let f = c.first_string-c.ensures in (
+      omega (arith, f.1),
+      refl,
+      f.0 a.p a.image.now c.requires.0.placed,
+      rw f.1 (put-none a.p.strings (entry_of a.p.layout a.image.now) a.index.now),
+    )
+
+pub put_string-c-requires : goal.put_string-c-requires
+put_string-c-requires c =
+    let h = c.requires in
+    let v = c.loop-c.invariant in
+    record {
+      laid = (h.0, omega (arith, h.1, v.1));
+      cursor_of = (v.2, c.loop-c-test.true);
+    }
+
+pub loop-c-smaller : goal.loop-c-smaller
+loop-c-smaller c = omega (arith, c.put_string-c.ensures.cursor_of_2.1)
+
+pub loop-c-preserved : goal.loop-c-preserved
+loop-c-preserved c =
+    let a = c.args in
+    let l = c.loop-c in
+    let r = c.put_string-c in (
+      omega (arith, r.ensures.0.1),
+      r.auto.0 ∙ l.invariant.1,
+      r.ensures.0.0,
+      rw r.ensures.0.1
+          (put_next a.p.strings (entry_of a.p.layout a.image.now) a.index.now l.c.id _ _ l.invariant.3 r.ensures.1),
+    )
+
+pub shape_of-index : goal.shape_of-index
+shape_of-index c = c.loop-c.invariant.1
+
+pub returns : goal.returns
+returns c =
+    let a = c.args in
+    let l = c.loop-c in
+    all_filled a.p a.image.now c.requires.0.placed a.index.now _ l.c.id (omega arith) l.invariant.3

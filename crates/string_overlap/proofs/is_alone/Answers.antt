@@ -1,0 +1,57 @@
+use mathlib.Core.Bool.{true}
+use Prim.Native.Nat.{◌-◌}
+use native.Mathlib.Omega.{arith}
+use Rattle.bits.proofs.PassLaws.{pass_none}
+use Rattle.string_overlap.specs.Overlap.{is_apart}
+use Rattle.string_overlap.proofs.OverlapLaws.{lies_low, alone_next, not_alone, alone}
+use Rattle.string_overlap.proofs.is_alone.Goals as goal
+
+pub loop-c-init : goal.loop-c-init
+loop-c-init c =
+    let e = c.first_string-c.ensures in
+    let q = c.requires in
+    (omega (arith, e.1), e.0 _ _ q.0.placed, rw e.1 (pass_none _))
+
+pub string_at-step-requires : goal.string_at-step-requires
+string_at-step-requires c =
+    record {
+      laid = c.requires.laid;
+      cursor_of = (c.loop-c.invariant.1, c.loop-c-test.true);
+    }
+
+pub is_apart-requires : goal.is_apart-requires
+is_apart-requires c =
+    let q = c.requires in
+    let x = lies_low _ _ q.0.placed _ _ q.1.place in
+    let y = lies_low _ _ q.0.placed _ _ c.string_at-step.ensures.string.place in
+    (x, y)
+
+pub returns-then-not-is_apart : goal.returns-then-not-is_apart
+returns-then-not-is_apart c =
+    let q = c.requires in
+    not_alone _ _ _ _ _ _ _
+    (record {
+      placed = q.0.placed;
+      this = q.1.place;
+      that = c.string_at-step.ensures.string.place;
+      tested = c.is_apart.ensures;
+    }) c.if-not-is_apart.true c.loop-c-test.true
+
+pub loop-c-smaller : goal.loop-c-smaller
+loop-c-smaller c = omega (arith, c.string_at-step.ensures.id, c.loop-c-test.true)
+
+pub loop-c-preserved : goal.loop-c-preserved
+loop-c-preserved c =
+    let q = c.requires in
+    let e = c.string_at-step.ensures in
+    let next
+    =
+    alone_next _ _ _ _ _ _ _
+    (record { placed = q.0.placed; this = q.1.place; that = e.string.place; tested = c.is_apart.ensures })
+    c.if-not-is_apart.false c.loop-c.invariant.2 in
+    (omega (arith, e.id, c.loop-c-test.true), e.next, rw e.id next)
+
+pub returns : goal.returns
+returns c =
+    let q = c.requires in
+    alone _ _ q.0.placed _ _ (omega (arith, c.loop-c.invariant.0, c.loop-c-test.false)) c.loop-c.invariant.2

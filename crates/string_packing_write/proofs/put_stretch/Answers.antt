@@ -1,0 +1,85 @@
+use mathlib.Core.Path.{refl, ◌∙◌, subst⁻¹}
+use mathlib.Core.List.{List}
+use Prim.Native.Nat.{ℕ, ◌-◌}
+use native.Mathlib.Omega.{arith}
+use lib.ListN.{length}
+use Rattle.sections.proofs.SectionLaws.{Sectioned, sectioned}
+use Rattle.string_edits.specs.Told.{told, values_in}
+use Rattle.string_packing.specs.Pass.{StretchOf}
+use Rattle.string_packing_write.proofs.StretchLaws.{Writing, held_fits, held_reached, held_laid}
+use Rattle.string_packing_write.proofs.put_stretch.Goals as goal
+
+-- what is known of the strings at the start
+writing : (c : goal.After-value_of-value) → let a = c.args in
+    Writing a.mode a.p a.image.now (values_in (told a.form a.words.now) a.text.now a.ends.now)
+    c.value_of-value.result.now c.next_stretch-s.result a.from a.to (length a.out.now)
+writing c = let a = c.args in
+    let q = c.requires in
+    record {
+      placed = q.0.0.laid.placed;
+      stretch = subst⁻¹ (λ (x : List ℕ). StretchOf (values_in (told a.form a.words.now) a.text.now a.ends.now) x
+          a.from.old.id a.p.strings c.next_stretch-s.result)
+          c.value_of-value.ensures.0 c.next_stretch-s.ensures.stretch_of;
+      reached = q.1;
+      roomy = q.0.0.roomy;
+    }
+
+pub next_stretch-s-requires : goal.next_stretch-s-requires
+next_stretch-s-requires c =
+    let q = c.requires in
+    let z : Sectioned c.args.p c.args.image.now = sectioned _ _ q.0.0.laid.placed in
+    record {
+      listed = q.0.0.listed;
+      from_lt_strings = (q.0.1, omega arith);
+    }
+
+pub value_of-value-requires : goal.value_of-value-requires
+value_of-value-requires c = c.next_stretch-s.ensures.within
+
+pub loop-c-init : goal.loop-c-init
+loop-c-init c = (omega arith, omega (arith, c.next_stretch-s.ensures.stretch_of.more), refl, λ v w. (w.reached, λ out h. h))
+
+pub put_string-c-requires : goal.put_string-c-requires
+put_string-c-requires c =
+    let l = c.loop-c in
+    let w = writing (goal.at.put_string-c-requires c).After-value_of-value in
+    let r = (l.invariant.3 _ w).0 in
+    record {
+      in_turn = (
+        record {
+          laid = c.requires.writable.0.laid;
+          known = omega (arith, c.loop-c-test.true, w.stretch.most);
+          going = r.going;
+          small = w.stretch.small;
+        },
+        w.stretch.shaped,
+      );
+      string_fits = rw l.invariant.2 (held_fits _ _ _ _ _ _ _ _ _ w l.c l.invariant.0 c.loop-c-test.true r);
+    }
+
+pub loop-c-smaller : goal.loop-c-smaller
+loop-c-smaller c = omega (arith, c.put_string-c.ensures.behind.string, c.loop-c-test.true)
+
+pub loop-c-preserved : goal.loop-c-preserved
+loop-c-preserved c =
+    let l = c.loop-c in
+    let e = c.put_string-c.ensures in (
+      omega (arith, e.0.string, l.invariant.0),
+      omega (arith, e.0.string, c.loop-c-test.true),
+      c.put_string-c.auto.0 ∙ l.invariant.2,
+      λ v w.
+          let (r, on) = l.invariant.3 v w in (
+            held_reached _ _ _ v _ _ _ _ _ w l.c l.invariant.0 c.loop-c-test.true r _ e.0,
+            held_laid _ _ _ v _ _ _ _ _ w l.c l.invariant.0 c.loop-c-test.true r _ e.0 _ _ _ on e.1,
+          ),
+    )
+
+pub shape_of-out : goal.shape_of-out
+shape_of-out c = c.loop-c.invariant.2
+
+pub returns : goal.returns
+returns c =
+    let w = writing (goal.at.returns c).After-value_of-value in
+    let v = c.loop-c.invariant in
+    let (r, on) = v.3 _ w in
+    (r, ((omega (arith, v.1, c.loop-c-test.false, w.stretch.more), omega (arith, v.1, w.stretch.most)), on))

@@ -1,0 +1,44 @@
+-- In place no number is met; else the rebuild's decides.
+use mathlib.Core.Logic.{inl, inr, ◌≢◌}
+use native.Mathlib.Omega.{arith}
+use Rattle.sections.proofs.SectionLaws.{Sectioned, sectioned}
+use Rattle.string_reasons.specs.declared.Reason.TheVariants.{InPlace}
+use Rattle.string_reasons.proofs.AnswerLaws.{path_moves, judged_none, judged_some, judged_in_place}
+use Rattle.string_reasons.proofs.judged.Goals as goal
+
+-- the path is not in place
+moves : (c : goal.In_default) → c.args.path ≢ InPlace
+moves c g = elim (rw g at c.in_default.keys2) [
+  | inl k ↦ omega arith
+  | inr (inl k) ↦ omega arith
+  | inr (inr (inl k)) ↦ omega arith
+  | inr (inr (inr (inl k))) ↦ omega arith
+  | inr (inr (inr (inr k))) ↦ omega arith
+]
+
+pub rebuild_refusal-number-requires : goal.rebuild_refusal-number-requires
+rebuild_refusal-number-requires c =
+    let a = c.args in
+    record {
+      laid = c.requires.laid;
+      value_value = path_moves a.p.layout a.image.now a.id a.value.now _ c.requires.path_value (moves (goal.at.rebuild_refusal-number-requires c).In_default);
+    }
+
+pub returns-then-number-eq0 : goal.returns-then-number-eq0
+returns-then-number-eq0 c =
+    let a = c.args in
+    judged_none a.p.layout a.image.now a.id a.value.now _ c.requires.path_value a.mode _ c.rebuild_refusal-number.ensures
+    c.if-number-eq0.true
+
+pub returns-in_default : goal.returns-in_default
+returns-in_default c =
+    let a = c.args in
+    judged_some a.p.layout a.image.now a.id a.value.now _ c.requires.path_value a.mode _ c.rebuild_refusal-number.ensures
+    c.if-number-eq0.false
+
+pub returns : goal.returns
+returns c =
+    let a = c.args in
+    let z : Sectioned a.p a.image.now = sectioned _ _ c.requires.laid.0.placed in
+    judged_in_place a.p.layout a.image.now a.id a.value.now _ c.requires.path_value a.mode c.in-InPlace.is
+    (omega (arith, c.requires.laid.1, z.strings)) z.most

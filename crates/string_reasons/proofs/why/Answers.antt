@@ -1,0 +1,84 @@
+-- Refusals in 02's order, each by its law; then the path, which the index tells.
+use mathlib.Core.Path.{◌≡◌}
+use mathlib.Core.List.{List}
+use Prim.Native.Nat.{ℕ, ◌<◌}
+use native.Mathlib.Omega.{arith}
+use lib.ListN.{get_or}
+use Rattle.sections.specs.Places.{Laid}
+use Rattle.sections.proofs.SectionLaws.{Sectioned, sectioned}
+use Rattle.string_index.specs.Index.{index_after}
+use Rattle.string_index.specs.Filling.{Indexed}
+use Rattle.string_index.proofs.IndexLaws.{laid_there, index_there}
+use Rattle.string_reasons.proofs.AnswerLaws.{why_refused, why_absent, why_value, why_long, why_judged}
+use Rattle.string_reasons.proofs.why.Goals as goal
+
+-- the image is admitted, and the index is filled from it
+laid : (c : goal.In-Laid-2) → Laid c.in-Laid.p
+    c.args.image.now
+laid c = let b : (i : ℕ) → get_or c.args.image.now i 0 < 256
+    = λ i. (c.type_inv.image i).fits in
+    laid_there _ _ c.args.index.now _ c.admit_indexed-admitted.ensures.0 _ c.in-Laid.is b
+
+held : (c : goal.In-Laid-2) → let a = c.args in
+    (y : List ℕ) → y ≡ index_after a.layout a.image.now a.index.now → Indexed c.in-Laid.p a.image.now y
+held c y g = let b : (i : ℕ) → get_or c.args.image.now i 0 < 256
+    = λ i. (c.type_inv.image i).fits in
+    index_there _ _ c.args.index.now _ c.admit_indexed-admitted.ensures.0 _ c.in-Laid.is b y g
+
+pub returns-in_default : goal.returns-in_default
+returns-in_default c =
+    let a = c.args in
+    let e = c.admit_indexed-admitted.ensures in (
+      why_refused a.mode a.layout a.image.now a.id a.value.now a.index.now _ e.0 _ _ c.in_default.is
+          c.number_of.ensures,
+      e.1,
+    )
+
+pub returns-then-p-id : goal.returns-then-p-id
+returns-then-p-id c =
+    let a = c.args in
+    let e = c.admit_indexed-admitted.ensures in (
+      why_absent a.mode a.layout a.image.now a.id a.value.now a.index.now _ e.0 _ c.in-Laid.is
+          c.if-p-id.true,
+      e.1,
+    )
+
+pub returns-then-not-is_utf8 : goal.returns-then-not-is_utf8
+returns-then-not-is_utf8 c =
+    let a = c.args in
+    let e = c.admit_indexed-admitted.ensures in (
+      why_value a.mode a.layout a.image.now a.id a.value.now a.index.now _ e.0 _ c.in-Laid.is
+          c.if-p-id.false _ c.is_utf8.ensures c.if-not-is_utf8.true,
+      e.1,
+    )
+
+pub returns-then-value-gt-LONGEST : goal.returns-then-value-gt-LONGEST
+returns-then-value-gt-LONGEST c =
+    let a = c.args in
+    let e = c.admit_indexed-admitted.ensures in (
+      why_long a.mode a.layout a.image.now a.id a.value.now a.index.now _ e.0 _ c.in-Laid.is
+          c.if-p-id.false _ c.is_utf8.ensures c.if-not-is_utf8.false (laid (goal.at.returns-then-value-gt-LONGEST c).In-Laid-2) c.if-value-gt-LONGEST.true,
+      e.1,
+    )
+
+pub path_of-requires : goal.path_of-requires
+path_of-requires c =
+    let z : Sectioned c.in-Laid.p _ = sectioned _ _ (laid (goal.at.path_of-requires c).In-Laid-1).placed in
+    (((held (goal.at.path_of-requires c).In-Laid-1 _ c.admit_indexed-admitted.ensures.1).long, c.if-p-id.false, omega (arith, z)), c.if-value-gt-LONGEST.false)
+
+pub judged-requires : goal.judged-requires
+judged-requires c =
+    let index = held (goal.at.judged-requires c).In-Laid-1 _ c.admit_indexed-admitted.ensures.1 in
+    record {
+      laid = (laid (goal.at.judged-requires c).In-Laid-1, c.if-p-id.false, c.if-value-gt-LONGEST.false);
+      path_value = c.path_of.ensures _ (laid (goal.at.judged-requires c).In-Laid-1) index;
+    }
+
+pub returns : goal.returns
+returns c =
+    let a = c.args in
+    let e = c.admit_indexed-admitted.ensures in (
+      why_judged a.mode a.layout a.image.now a.id a.value.now a.index.now _ e.0 _ c.in-Laid.is
+          c.if-p-id.false _ c.is_utf8.ensures c.if-not-is_utf8.false _ c.judged.ensures,
+      e.1,
+    )

@@ -1,9 +1,0 @@
-use borrow.Author.Rules.{rules}
-use Rattle.string_tables.proofs.is_full.Statement.{statement}
-use Rattle.string_tables.proofs.is_full.Tie as tie
-
-returns : tie.Need-returns
-returns c = rw c.value.ensures.0
-
-pub is-full-spec : {M : Type 1} → statement M
-is-full-spec = tie.close (tie.spec (λ c κs. search rules) returns)

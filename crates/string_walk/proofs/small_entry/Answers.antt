@@ -1,0 +1,16 @@
+-- The word lies in its section, and the section in the image.
+use mathlib.Core.Path.{refl}
+use native.Mathlib.Omega.{arith}
+use Rattle.sections.proofs.SectionLaws.{sectioned}
+use Rattle.string_tables.proofs.StringLaws.{small_word}
+use Rattle.string_walk.proofs.small_entry.Goals as goal
+
+pub word_at-requires : goal.word_at-requires
+word_at-requires c =
+    let z = sectioned _ _ c.requires.placed in
+    (omega arith, omega arith, omega arith)
+
+pub returns : goal.returns
+returns c =
+    let h = c.requires in
+    (small_word _ _ h.0 _ _ _ c.word_at.ensures.0 refl, c.word_at.ensures.1)
