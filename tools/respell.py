@@ -126,6 +126,10 @@ def main():
     for w in declared:
         if "-" in w and w.strip("-") and not any(not p for p in w.split("-")) and w not in library:
             new[joined(w)].append(w)
+    given = set(camel.values())
+    for n in [n for n in new if n in given]:
+        # the definition's name, that the lemma is about
+        new[n + "_lem"] += new.pop(n)
     for n, ws in new.items():
         if len(ws) > 1 or n in tokens and n != ws[0]:
             print(f"falls together: {ws} -> {n}")

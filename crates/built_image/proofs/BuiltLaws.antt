@@ -35,7 +35,7 @@ use Rattle.header_write.proofs.ReadLaws.{Headed, header_below, header_read}
 use Rattle.serialize.specs.Parts as builder
 use Rattle.serialize.specs.Parts.{start_of, place_of, storage_of, storage_at, large_header, header_of, record_of, small_table, tail_of, minimal}
 use Rattle.serialize.specs.Builder.{all_small, built}
-use Rattle.serialize.proofs.PartLaws.{length-large_header, large_offset, large_size, large_below}
+use Rattle.serialize.proofs.PartLaws.{length-large_header, large_offset_lem, large_size, large_below}
 use Rattle.serialize.proofs.BuilderLaws.{BuildAccepted, accepted, ascends-at}
 use Rattle.image.specs.Sections.{functions_in, strings_in, debug_in, tail_at}
 use Rattle.image.specs.Kinds.{covered, identified, flag_of, is_identifier_run}
@@ -49,7 +49,7 @@ use Rattle.edits.proofs.RegionLaws.{Bears, read-string, read-place}
 use Rattle.edits.proofs.KeepLaws.{PlacedIn, placed_as}
 use Rattle.image_parts.specs.Parts.{Parts, front, sections, laid, joined, PartsFit}
 use Rattle.image_parts.proofs.PartLaws.{length_front, length-sections, length-laid, length-joined, joined-sealed, header-number}
-use Rattle.image_parts.proofs.PartLaws.{functions_is, strings_is, debug-is, kinds-at, small_at_lem, storage-at, tail-at, record_is}
+use Rattle.image_parts.proofs.PartLaws.{functions_is, strings_is, debug-is, kinds-at, small_at_lem, storage_at_lem, tail_at_lem, record_is}
 use Rattle.image_parts.proofs.PartLaws.{Matches, flag_is, tail_is, bears, joined_admitted}
 use Rattle.built_image.specs.Built.{given, body_at, function, parts_of, Built}
 
@@ -308,7 +308,7 @@ module _ (v : ℕ) (text ends code : List ℕ) where
     func_head = rw (record_back, pointer-flag Modern far bare, bare_large, pointer_back Modern far bare far_lt)
 
     tail_in : tail_at Modern s ≡ begin
-    tail_in = tail-at Modern p fits ∙ begin_is
+    tail_in = tail_at_lem Modern p fits ∙ begin_is
 
     tail_byte : Lies s begin (tail_of begin code)
     tail_byte = rw tail_in at (tail_is Modern p fits)
@@ -333,22 +333,22 @@ module _ (v : ℕ) (text ends code : List ℕ) where
     unfolding large.header
     func_is =
         let a : number_from far table.large_offset s ≡ begin =
-        large_number table.large_offset (omega arith) ∙ large_offset begin (length code) (omega (arith, far_lt)) in
+        large_number table.large_offset (omega arith) ∙ large_offset_lem begin (length code) (omega (arith, far_lt)) in
         let b : number_from far table.modern_large_size s ≡ length code =
         large_number table.modern_large_size (omega arith) ∙ large_size begin (length code) (omega (arith, far_lt)) in
         func_head ∙ (λ i. record { large = true; ptr = far; begin = a i; size = b i; info = 0 })
 
-    functions_in : functions_in s ≡ 1
-    functions_in = functions_is Modern p fits ∙ headed.functions
+    functions_in_lem : functions_in s ≡ 1
+    functions_in_lem = functions_is Modern p fits ∙ headed.functions
 
-    debug_in : debug_in Modern s ≡ 0
-    debug_in = debug-is Modern p fits ∙ headed.debug
+    debug_in_lem : debug_in Modern s ≡ 0
+    debug_in_lem = debug-is Modern p fits ∙ headed.debug
 
     length_in : length s ≡ far + (table.modern_large_whole).width + footer_length
     length_in = length-joined Modern p fits ∙ rw long-is
 
     placed_in : PlacedIn Modern s
-    placed_in = rw (functions_in, tail_in, debug_in)
+    placed_in = rw (functions_in_lem, tail_in, debug_in_lem)
         (placed_as Modern 1 begin (length s) 0 (λ i. function text ends code) (func_of Modern s) only
         (record {
           header = λ i h t. (omega arith, omega (arith, length_in));
@@ -396,8 +396,8 @@ module _ (v : ℕ) (text ends code : List ℕ) where
         ∙ get_or-append (code ++ z) (large_header begin (length code)) 0 j (simp length-append (omega arith))
         ∙ get_or-append code z 0 j h)
 
-    strings_in : strings_in s ≡ n
-    strings_in = strings_is Modern p fits
+    strings_in_lem : strings_in s ≡ n
+    strings_in_lem = strings_is Modern p fits
 
     joined-built : Built v text ends code s
     joined-built =
@@ -405,21 +405,21 @@ module _ (v : ℕ) (text ends code : List ℕ) where
         let o : overs (place_of ends) n ≡ 0 = overs-zero (place_of ends) n small in
         record {
           admitted = joined_admitted Modern p fits (given text ends) matches placed_in;
-          strings = strings_in;
-          string = λ i h. read-string Modern (given text ends) p.strings s b i (rw strings_in h);
-          place = λ i h. read-place Modern (given text ends) p.strings s b i (rw strings_in h);
+          strings = strings_in_lem;
+          string = λ i h. read-string Modern (given text ends) p.strings s b i (rw strings_in_lem h);
+          place = λ i h. read-place Modern (given text ends) p.strings s b i (rw strings_in_lem h);
           plain = λ i h. flag_is Modern p fits words i ∙ plain i;
-          functions = functions_in;
+          functions = functions_in_lem;
           func = func_is;
           body = body_in;
           kinds = kinds-at Modern p fits ∙ rw (length_head, length-bytes_of 12 (record_of far)) refl;
           small = small_at_lem Modern p fits ∙ front-is;
-          storage = storage-at Modern p fits ∙ rw (front-is, o) (omega arith);
+          storage = storage_at_lem Modern p fits ∙ rw (front-is, o) (omega arith);
           tail = tail_in;
           long = length_in;
           joins = refl;
           version = header-number Modern p fits 8 4 (omega arith) (λ q. absurd (omega arith)) ∙ headed.version;
-          debug = debug_in;
+          debug = debug_in_lem;
           sealed = joined-sealed Modern p fits;
         }
 

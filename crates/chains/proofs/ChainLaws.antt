@@ -27,8 +27,8 @@ module _ (on : ℕ → Bool) (bucket : ℕ → ℕ) where
   own_is : (b j : ℕ) → own b j ≡ true → Own b j
   own_is b j e = (both_0 (on j) (eqb (bucket j) b) e, eqb-true (bucket j) b (both_1 (on j) (eqb (bucket j) b) e))
 
-  is_own : (b j : ℕ) → Own b j → own b j ≡ true
-  is_own b j e = both_of (on j) (eqb (bucket j) b) e.0 (eq-eqb (bucket j) b e.1)
+  is_own_lem : (b j : ℕ) → Own b j → own b j ≡ true
+  is_own_lem b j e = both_of (on j) (eqb (bucket j) b) e.0 (eq-eqb (bucket j) b e.1)
 
   -- ---- heads
 
@@ -55,7 +55,7 @@ module _ (on : ℕ → Bool) (bucket : ℕ → ℕ) where
       elim (which (own b k)) [
         | inl e ↦ omega (arith, rw e at l)
         | inr e ↦ elim (below j k h) [
-          | inl q ↦ let x : own b k ≡ true = rw q at (is_own b j g) in let z : ◌≡◌ {A = ℕ} 0 1 = cc in omega arith
+          | inl q ↦ let x : own b k ≡ true = rw q at (is_own_lem b j g) in let z : ◌≡◌ {A = ℕ} 0 1 = cc in omega arith
           | inr m ↦ head_gap b k j m (rw e at l) g
         ]
       ]

@@ -158,9 +158,9 @@ module _ (l : Layout) (s : List ℕ) (c : Change) (pt : Parted l s c) where
         | inr f ↦ omega (arith, (inside p 0 at.side (at.tail (eqb-false p 0 f))).1)
       ]
 
-  pub header_in : (j : ℕ) → j < functions_in s → (fs j).large ≡ true → (c.tail ≤ (fs j).ptr)
+  pub header_in_lem : (j : ℕ) → j < functions_in s → (fs j).large ≡ true → (c.tail ≤ (fs j).ptr)
       × ((fs j).ptr + (table.large_row l).width + footer_length ≤ long)
-  header_in j h t =
+  header_in_lem j h t =
       rw (like j h).1 (inside (func_of l s j).ptr (table.large_row l).width (pt.header j h (was j h t)) (ad.header j h (was j h t)))
 
   pub body_in : (j : ℕ) → j < functions_in s → (c.tail ≤ (fs j).begin) × ((fs j).begin + (fs j).size + footer_length ≤ long)
@@ -181,16 +181,16 @@ module _ (l : Layout) (s : List ℕ) (c : Change) (pt : Parted l s c) where
       subst (λ (p : ℕ). p ≢ 0 → (c.tail ≤ p) × (p + 0 + footer_length ≤ long)) (sym (like j h).2)
       (place_in (func_of l s j).info (beside_info j h))
 
-  pub headers_apart : HeadersApart l (functions_in s) fs
-  headers_apart i j h k d t u g =
+  pub headers_apart_lem : HeadersApart l (functions_in s) fs
+  headers_apart_lem i j h k d t u g =
       let e = (like i h).1 in
       let f = (like j k).1 in
       rw (e, f)
       (moved_apart a b (length new) (func_of l s i).ptr (table.large_row l).width (func_of l s j).ptr (table.large_row l).width
       (pt.header i h (was i h t)) (pt.header j k (was j k u)) (ad.apart i j h k d (was i h t) (was j k u)) (rw (e, f) at g))
 
-  pub body_apart : HeadersClear l (functions_in s) fs
-  body_apart i j h k z t =
+  pub body_apart_lem : HeadersClear l (functions_in s) fs
+  body_apart_lem i j h k z t =
       let e = (like j k).1 in
       let d = pt.header j k (was j k t) in
       elim (pt.body i h) [
@@ -218,8 +218,8 @@ module _ (l : Layout) (s : List ℕ) (c : Change) (pt : Parted l s c) where
         rw (like j h).1
         (moved_from a b (length new) (func_of l s j).ptr (table.large_row l).width c.floor (pt.header j h (was j h t)) pt.under
         (omega (arith, pt.low, (ad.header j h (was j h t)).0)));
-    within = λ j h t. rw len (omega (arith, (header_in j h t).1));
-    apart = headers_apart;
+    within = λ j h t. rw len (omega (arith, (header_in_lem j h t).1));
+    apart = headers_apart_lem;
   }
 
   pub length_out : length out ≡ long
@@ -298,7 +298,7 @@ module _ (l : Layout) (s : List ℕ) (c : Change) (pt : Parted l s c) where
       as_large = λ t.
           record {
             words = record {
-              ptr = omega (arith, (header_in j h t).1, hd.limit);
+              ptr = omega (arith, (header_in_lem j h t).1, hd.limit);
               begin = omega (arith, (body_in j h).1, hd.limit);
               size = omega (arith, (body_in j h).1, hd.limit);
               info = omega (arith, (like j h).2, place_most (func_of l s j).info (beside_info j h), hd.limit);

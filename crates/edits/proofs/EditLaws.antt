@@ -25,7 +25,7 @@ use Rattle.edits.specs.Edit.{splice, Write, write_all, groups, put_record, put_h
 use Rattle.edits.proofs.WriteLaws.{Outside, Bytes, length_writes, writes_off, writes_below, groups_off, groups-at}
 use Rattle.edits.proofs.WriteLaws.{groups_below, splice-low, splice_below}
 use Rattle.edits.proofs.SlotLaws.{SmallFits, func_eq, record_lt, record_flag, record_pointer, record_small}
-use Rattle.image.proofs.PlaceLaws.{records_at, ordered, record_in}
+use Rattle.image.proofs.PlaceLaws.{records_at, ordered, record_in_lem}
 
 -- ---- records stand one behind the other
 
@@ -230,7 +230,7 @@ module _ (l : Layout) (c : Change) (s : List ℕ) (ok : Sound l c s) where
   edit_frame p h o =
       groups_off (header_group l fs) recorded p (functions_in s) (λ j k. header_off l fs j p (o j k))
       ∙ groups_off (record_group l c.whole s fs) worded p (functions_in s)
-      (λ j k. record_off l c.whole s fs j p (λ q. omega (arith, record_in l s j k)))
+      (λ j k. record_off l c.whole s fs j p (λ q. omega (arith, record_in_lem l s j k)))
       ∙ writes_off c.words (spliced c s) p (ok.front p (omega (arith, records_at l, (ordered l s).kinds)))
 
   -- a byte between the records and the floor stays
@@ -252,7 +252,7 @@ module _ (l : Layout) (c : Change) (s : List ℕ) (ok : Sound l c s) where
       → get_or out (record_at l i + k) 0 ≡ get_or (bytes_of (table.record_row l).width (put_record l c.whole (fs i) (record_in l s i))) k 0
   unfolding edit record_group write_all
   record_byte i k h g =
-      let e : record_at l i + (table.record_row l).width ≤ kinds_at l s = record_in l s i h in
+      let e : record_at l i + (table.record_row l).width ≤ kinds_at l s = record_in_lem l s i h in
       groups_off (header_group l fs) recorded (record_at l i + k) (functions_in s)
       (λ j q. header_off l fs j (record_at l i + k) (λ t u. omega (arith, ok.past j q t, ok.records)))
       ∙ groups-at (record_group l c.whole s fs) worded (record_at l i + k) (functions_in s) i h

@@ -23,7 +23,7 @@ use Rattle.image.specs.Sections.{functions_in, strings_in, debug_in, record_at, 
 use Rattle.image.specs.Strings.{Str}
 use Rattle.image.specs.Functions.{Func, record_in, func_of}
 use Rattle.image.specs.Admitted.{Admitted}
-use Rattle.image.proofs.PlaceLaws.{debug-at, ordered, record_in}
+use Rattle.image.proofs.PlaceLaws.{debug-at, ordered, record_in_lem}
 use Rattle.edits.specs.Edit.{splice, Write, write_all, groups, put_record, put_header, record_group, header_group, edit}
 use Rattle.edits.specs.Edit.{move_func}
 use Rattle.edits.specs.Packing.{Packed}
@@ -407,7 +407,7 @@ module _ (l : Layout) (q : Packed) (s : List ℕ) (ad : Admitted l s) where
       (λ z. omega (arith, o.kinds, o.hashes, o.small, debug-at l)))
       (outside_both (record_writes l q s) (header_writes l q s) (to + j)
       (outside_groups (record_group l true s (new_func l q s)) (to + j) (functions_in s)
-      (λ i k. record_off l true s (new_func l q s) i (to + j) (λ z. omega (arith, record_in l s i k, o.hashes, o.small))))
+      (λ i k. record_off l true s (new_func l q s) i (to + j) (λ z. omega (arith, record_in_lem l s i k, o.hashes, o.small))))
       (outside_groups (header_group l (new_func l q s)) (to + j) (functions_in s)
       (λ i k. group_shift l (func_of l s) (new_func l q s) i (tail_at l s + j) (to + j) refl
       (λ e. omega (arith, moved-high (tail_at l s) to (func_of l s i).ptr (ad.header i k e).0, (ad.header i k e).0)) (u i k)))))

@@ -21,7 +21,7 @@ use Rattle.image.specs.Strings.{place_at, size_of, string_of}
 use Rattle.image.specs.Kinds.{is_identifier, rank_of, hash_in}
 use Rattle.image.specs.Functions.{Func, func_of, body_of}
 use Rattle.image.specs.Admitted.{Disjoint, Admitted}
-use Rattle.image.proofs.PlaceLaws.{debug-at, ordered, hash_in}
+use Rattle.image.proofs.PlaceLaws.{debug-at, ordered, hash_in_lem}
 use Rattle.edits.proofs.ReadLaws.{Agree, bytes_agree, number_agree, hashes_at-same, identifier_same, rank_same, counts_of}
 use Rattle.edits.proofs.ReadLaws.{storage_at-same, SameEntries, place_same, string-same}
 use Rattle.edits.proofs.KeepLaws.{Same, funcs_same, same_admitted}
@@ -188,7 +188,7 @@ module _ (l : Layout) (s : List ℕ) (ad : Admitted l s) where
   hash_in_place r x h =
       let o = ordered l s in
       let n = length-bytes_of 4 x in
-      let e = hash_in l s r h in
+      let e = hash_in_lem l s r h in
       record {
         admitted = ad;
         fits = omega (arith, e, o.over, o.storage, o.tail, ad.room, n);

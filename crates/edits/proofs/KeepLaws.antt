@@ -29,8 +29,8 @@ use Rattle.edits.proofs.EditLaws.{edit_below, Change, edited, HeadersApart}
 use Rattle.edits.proofs.ReadLaws.{Agree, number_agree, functions_same, identifier_count-same, string_count-same}
 use Rattle.edits.proofs.ReadLaws.{covered_all, identified_all, func_same, counts_of, overflow_count-same, storage_size-same}
 use Rattle.edits.proofs.ReadLaws.{storage_at-same, tail_at-same, small_same, before_same, place_same}
-use Rattle.edits.proofs.BodyLaws.{moved_by, Parted, Holds, HeadersClear, place_in, header_in, body_in, info_in, headers_apart}
-use Rattle.edits.proofs.BodyLaws.{body_apart, length_out, func_out}
+use Rattle.edits.proofs.BodyLaws.{moved_by, Parted, Holds, HeadersClear, place_in, header_in_lem, body_in, info_in, headers_apart_lem}
+use Rattle.edits.proofs.BodyLaws.{body_apart_lem, length_out, func_out}
 use Rattle.edits.proofs.TableLaws.{smalls_below, pairs_below}
 use Rattle.edits.proofs.RebuildLaws.{beside, new_region, Rebuilds, rebuilding, parted, holds, length_rebuilt, rebuilt_front}
 use Rattle.edits.proofs.RebuildLaws.{counts_kept, kinds_kept}
@@ -91,12 +91,12 @@ edit-placed l s c pt hd he =
     (func_of l (edited l c s))
     (λ j h. sym (func_out l s c pt hd j h))
     (record {
-      header = header_in l s c pt;
+      header = header_in_lem l s c pt;
       body = body_in l s c pt;
       info = info_in l s c pt;
       debug = place_in l s c pt (debug_in l s) (record { side = he.beside; tail = pt.admitted.debug });
-      apart = headers_apart l s c pt;
-      clear = body_apart l s c pt;
+      apart = headers_apart_lem l s c pt;
+      clear = body_apart_lem l s c pt;
     }))
 
 -- ---- kinds and strings

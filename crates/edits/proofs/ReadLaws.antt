@@ -19,7 +19,7 @@ use Rattle.image.specs.Strings.{over_before, small_in, over_in, place_at, size_o
 use Rattle.image.specs.Kinds.{kind_in, run_of, identifier_run, covered, identified, flag_of, is_identifier, rank_of, hash_in}
 use Rattle.image.specs.Functions.{small, header, record_in, func_of}
 use Rattle.edits.proofs.SlotLaws.{func_flag, func_pointer}
-use Rattle.image.proofs.PlaceLaws.{ordered, record_in, kind_in, hash_in, small_in, pair_in}
+use Rattle.image.proofs.PlaceLaws.{ordered, record_in_lem, kind_in_lem, hash_in_lem, small_in_lem, pair_in_lem}
 use Rattle.edits.proofs.EditLaws.{header_ext}
 use Rattle.edits.proofs.TableLaws.{over_ext, locate_ext}
 
@@ -86,7 +86,7 @@ module _ (l : Layout) (s t : List ℕ) (counts : Agree s t (table.function_count
   pub hash_same : Agree s t (hashes_at l s) (small_at l s) → (r : ℕ) → r < identifiers_in s → hash_in l t r ≡ hash_in l s r
   unfolding hash_in
   hash_same hashes r h =
-      rw hashes_at-same (number_agree s t (hashes_at l s) (small_at l s) hashes (hashes_at l s + r * 4) 4 (omega arith) (hash_in l s r h))
+      rw hashes_at-same (number_agree s t (hashes_at l s) (small_at l s) hashes (hashes_at l s + r * 4) 4 (omega arith) (hash_in_lem l s r h))
 
   -- ---- kinds
 
@@ -94,7 +94,7 @@ module _ (l : Layout) (s t : List ℕ) (counts : Agree s t (table.function_count
     kind_same : (k : ℕ) → k < kinds_in s → kind_in l t k ≡ kind_in l s k
     unfolding kind_in
     kind_same k h =
-        rw kinds_at-same (number_agree s t (kinds_at l s) (hashes_at l s) kinds (kinds_at l s + k * 4) 4 (omega arith) (kind_in l s k h))
+        rw kinds_at-same (number_agree s t (kinds_at l s) (hashes_at l s) kinds (kinds_at l s + k * 4) 4 (omega arith) (kind_in_lem l s k h))
 
     pub covered_all : covered (kind_in l t) (kinds_in t) ≡ covered (kind_in l s) (kinds_in s)
     covered_all = rw kind_count-same (covered_ext (kind_in l t) (kind_in l s) (kinds_in s) kind_same)
@@ -122,7 +122,7 @@ module _ (l : Layout) (s t : List ℕ) (sm : SameRecords l s t) where
   unfolding record_in
   record_same i h =
       number_agree s t (table.record_row l).at (kinds_at l s) sm.records (record_at l i) (table.record_row l).width (omega arith)
-      (record_in l s i h)
+      (record_in_lem l s i h)
 
   pub func_same : (i : ℕ) → i < functions_in s
       → ((func_of l s i).large ≡ true → Agree s t (func_of l s i).ptr ((func_of l s i).ptr + (table.large_row l).width))
@@ -168,14 +168,14 @@ module _ (l : Layout) (s t : List ℕ)
     small_same i h =
         rw (small_at-same l s t counts_of)
         (number_agree s t (small_at l s) (storage_at l s) tables (small_at l s + i * 4) 4 (omega arith)
-        (omega (arith, small_in l s i h, (ordered l s).storage)))
+        (omega (arith, small_in_lem l s i h, (ordered l s).storage)))
 
     pair_same : (k : ℕ) → k < overflows_in s → over_in l t k ≡ over_in l s k
     unfolding over_in
     pair_same k h =
         let word : (p : ℕ) → p + 4 ≤ 8 → word_at t (over_at l s + k * 8 + p) ≡ word_at s (over_at l s + k * 8 + p) =
         λ p g. number_agree s t (small_at l s) (storage_at l s) tables (over_at l s + k * 8 + p) 4 (omega (arith, (ordered l s).over))
-        (omega (arith, pair_in l s k h)) in
+        (omega (arith, pair_in_lem l s k h)) in
         rw (over_at-same l s t counts_of)
         (λ x. record { at = word (table.overflow_offset).at (omega arith) x; count = word (table.overflow_length).at (omega arith) x })
 

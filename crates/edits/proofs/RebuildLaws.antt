@@ -32,7 +32,7 @@ use Rattle.edits.specs.Packing.{count_of, Packed, Carries}
 use Rattle.edits.specs.Rebuild.{overs, region, padded, new_tail, rebuild}
 use Rattle.edits.proofs.WriteLaws.{Outside}
 use Rattle.edits.proofs.SlotLaws.{small-fits}
-use Rattle.image.proofs.PlaceLaws.{records_at, debug-at, debug_past, ordered}
+use Rattle.image.proofs.PlaceLaws.{records_at, debug-at, debug_past_lem, ordered}
 use Rattle.edits.proofs.EditLaws.{Change, record_back}
 use Rattle.edits.proofs.ReadLaws.{Agree, identifier_same, rank_same, hash_same}
 use Rattle.edits.proofs.BodyLaws.{Keeps, Parted, Holds, sound, length_out, front_agree, floor_agree, func_out, tail_byte}
@@ -144,7 +144,7 @@ module _ (l : Layout) (ps : Packed) (s : List ℕ) (ad : Admitted l s) where
   unfolding rebuild
   rebuilt_front from to h =
       front_agree l s (rebuilding l ps s) parted from to (omega arith)
-      (λ p f k. words_off p (λ q. omega arith) (λ q. omega (arith, debug_past l)))
+      (λ p f k. words_off p (λ q. omega arith) (λ q. omega (arith, debug_past_lem l)))
 
   pub rebuilt_middle : Agree s (rebuild l ps s) (kinds_at l s) (small_at l s)
   unfolding rebuild

@@ -29,7 +29,7 @@ use Rattle.edits.specs.Edit.{splice, put_in, write_all, move_func}
 use Rattle.edits.specs.Rebuild.{resized, resize}
 use Rattle.edits.proofs.WriteLaws.{Outside}
 use Rattle.edits.proofs.SlotLaws.{small-fits}
-use Rattle.image.proofs.PlaceLaws.{records_at, debug-fits, debug-at, debug_past, ordered}
+use Rattle.image.proofs.PlaceLaws.{records_at, debug-fits, debug-at, debug_past_lem, ordered}
 use Rattle.edits.proofs.EditLaws.{edit_below, Change}
 use Rattle.edits.proofs.ReadLaws.{Agree, number_agree, functions_same, hash_same, identifier_same, rank_same, counts_of}
 use Rattle.edits.proofs.ReadLaws.{tail_at-same, SameEntries, place_same, string-same}
@@ -220,7 +220,7 @@ module _ (l : Layout) (i : ℕ) (body : List ℕ) (s : List ℕ) (al : Alone l i
   resized-front : (from to : ℕ) → to ≤ 64 → Agree s out from to
   unfolding resize
   resized-front from to h =
-      front_agree l s c parted from to (omega arith) (λ p f k. words_off p (λ q. omega (arith, debug_past l)))
+      front_agree l s c parted from to (omega arith) (λ p f k. words_off p (λ q. omega (arith, debug_past_lem l)))
 
   pub resized_middle : Agree s out (kinds_at l s) (tail_at l s)
   unfolding resize
@@ -244,8 +244,8 @@ module _ (l : Layout) (i : ℕ) (body : List ℕ) (s : List ℕ) (al : Alone l i
   same_entries : SameEntries l s out
   same_entries = record { words = resized-words; tables = resized_tables; counted = ad.overflows }
 
-  pub resized_place : (j : ℕ) → j < strings_in s → place_at l out j ≡ place_at l s j
-  resized_place = place_same l s out same_entries
+  pub resized_place_lem : (j : ℕ) → j < strings_in s → place_at l out j ≡ place_at l s j
+  resized_place_lem = place_same l s out same_entries
 
   pub resized-string : (j : ℕ) → j < strings_in s → string_of l out j ≡ string_of l s j
   resized-string j h = string-same l s out same_entries j h (λ p f k. resized-stored j p h f k)

@@ -23,7 +23,7 @@ use Rattle.image.specs.Admitted.{Admitted}
 use Rattle.edits.specs.Edit.{splice, write_all}
 use Rattle.edits.specs.Packing.{Packed, gap_of, store_of, start_of, packed, Zeros, start_in, end_in, Spaced}
 use Rattle.edits.specs.Rebuild.{overs, region, padded, new_tail, rebuild}
-use Rattle.image.proofs.PlaceLaws.{debug-fits, debug-at, debug_past}
+use Rattle.image.proofs.PlaceLaws.{debug-fits, debug-at, debug_past_lem}
 use Rattle.edits.proofs.PackLaws.{start_is, size_next, size_room, start_none, gap-zero}
 use Rattle.edits.proofs.ReadLaws.{string_count-same, small_at-same}
 use Rattle.edits.proofs.BodyLaws.{front-number, front_long, new_byte, place_most}
@@ -106,16 +106,16 @@ module _ (l : Layout) (ps : Packed) (s : List ℕ) (ad : Admitted l s) (f : ℕ 
   overflows_is : overflows_in out ≡ ov
   unfolding write_all
   overflows_is =
-      let u = debug_past l in
+      let u = debug_past_lem l in
       header-number 56 4 (omega arith)
       ∙ number_at_off base₂ debug_at wide (rebuilt_place l ps s (debug_in l s)) 56 4 (omega arith)
       ∙ number_at_off base₁ 60 4 (length ps.store) 56 4 (omega arith)
       ∙ number_at_back base 56 4 (ov) (omega (arith, long)) (omega (arith, few))
 
-  storage-size : storage_in out ≡ length ps.store
+  storage_size_lem : storage_in out ≡ length ps.store
   unfolding write_all
-  storage-size =
-      let u = debug_past l in
+  storage_size_lem =
+      let u = debug_past_lem l in
       header-number 60 4 (omega arith)
       ∙ number_at_off base₂ debug_at wide (rebuilt_place l ps s (debug_in l s)) 60 4 (omega arith)
       ∙ number_at_back base₁ 60 4 (length ps.store) (simp length-sets (omega (arith, long))) store_fits
@@ -148,7 +148,7 @@ module _ (l : Layout) (ps : Packed) (s : List ℕ) (ad : Admitted l s) (f : ℕ 
   pub bears : Bears l f ps out
   bears = record {
     overflows = rw count_same overflows_is;
-    storage = storage-size;
+    storage = storage_size_lem;
     bytes = rw (count_same, small_at-same l s out (counts_kept l ps s ad)) own_byte;
     limit = rw count_same region-fits;
     carries = rw count_same ok.carries;
@@ -165,7 +165,7 @@ module _ (l : Layout) (ps : Packed) (s : List ℕ) (ad : Admitted l s) (f : ℕ 
 
   pub tail_is : tail_at l out ≡ new_tail l ps s
   unfolding tail_at padded
-  tail_is = rw (storage_is, storage-size) (simp (length-append, length-replicate) (omega (arith, length-region n ps)))
+  tail_is = rw (storage_is, storage_size_lem) (simp (length-append, length-replicate) (omega (arith, length-region n ps)))
 
   -- zeros fill up to the tail
   pub rebuilt_padding : Zeros out (storage_at l out + storage_in out) (tail_at l out)
@@ -175,7 +175,7 @@ module _ (l : Layout) (ps : Packed) (s : List ℕ) (ad : Admitted l s) (f : ℕ 
       let len : length (region n ps) ≡ n * 4 + (ov * 8 + length ps.store) = length-region n ps in
       let m : length (new_region l ps s) ≡ length (region n ps) + z = simp (length-append, length-replicate) in
       let q : ℕ = p - small_at l s - length (region n ps) in
-      let x : small_at l s + length (region n ps) ≤ p = omega (arith, storage_is, storage-size) in
+      let x : small_at l s + length (region n ps) ≤ p = omega (arith, storage_is, storage_size_lem) in
       let e : p ≡ small_at l s + (length (region n ps) + q) = omega arith in
       ap (λ (r : ℕ). get_or out r 0) e
       ∙ region_byte (length (region n ps) + q) (omega (arith, tail_is))
@@ -247,5 +247,5 @@ module _ (m : Mode) (l : Layout) (f : ℕ → Str) (s : List ℕ) (ad : Admitted
         gap = λ i h. gap_in i (omega (arith, n));
         last = λ i e.
             let k : suc i ≡ strings_in s = e ∙ n in
-            end-in i (omega arith) ∙ rw k (sym (storage-size l qs s ad f ok));
+            end-in i (omega arith) ∙ rw k (sym (storage_size_lem l qs s ad f ok));
       }

@@ -18,7 +18,7 @@ use Rattle.format.specs.Table.{entry_offset, entry_length, small_entry, overflow
 use Rattle.format.specs.Record.{value_of}
 use Rattle.format.specs.Number.{number_held, bytes_for, with_number}
 use Rattle.format.specs.Entry.{Place, bit, entry, far, full, is_over, small_word}
-use Rattle.format.proofs.EntryLaws.{entry_length_lem, entry_offset, entry_wide, not_over}
+use Rattle.format.proofs.EntryLaws.{entry_length_lem, entry_offset_lem, entry_wide_lem, not_over}
 use Rattle.format.proofs.NumberLaws.{number_put, number_kept, number_below}
 use Rattle.image.specs.Strings.{Pair, is_full, is_wide, over_before, place_of, locate}
 use Rattle.edits.specs.Rebuild.{smalls, pair_of, pair_if_over, pairs, overs}
@@ -44,12 +44,12 @@ full_word k p = go (is_over p) refl
 -- and then has the overflow index in its offset
 pub full_offset : (k : ℕ) (p : Place) → is_over p ≡ true → k < far → value_of entry_offset (small_word k p) ≡ k
 unfolding small_word
-full_offset k p o h = rw o (entry_offset p.wide k full h)
+full_offset k p o h = rw o (entry_offset_lem p.wide k full h)
 
 decode_over : (v : ℕ → Pair) (k : ℕ) (p : Place) → is_over p ≡ true → (v k).at ≡ p.at → (v k).count ≡ p.count
     → place_of v k (small_word k p) ≡ p
 unfolding place_of small_word
-decode_over v k p o e f = rw (o, entry_length_lem p.wide k full (omega arith), entry_wide p.wide k full, bit_back p.wide, e, f)
+decode_over v k p o e f = rw (o, entry_length_lem p.wide k full (omega arith), entry_wide_lem p.wide k full, bit_back p.wide, e, f)
 
 decode_small : (v : ℕ → Pair) (k : ℕ) (p : Place) → is_over p ≡ false → place_of v k (small_word k p) ≡ p
 unfolding place_of small_word
@@ -60,8 +60,8 @@ decode_small v k p o =
       o,
       entry_length_lem p.wide p.at p.count (omega arith),
       n,
-      entry_offset p.wide p.at p.count a,
-      entry_wide p.wide p.at p.count,
+      entry_offset_lem p.wide p.at p.count a,
+      entry_wide_lem p.wide p.at p.count,
       bit_back p.wide,
     )
 

@@ -28,15 +28,15 @@ module _ (wide : Bool) (offset len : ℕ) where
   unfolding entry
   entry_length_lem h = value-put entry_length len (with_value entry_offset offset (with_value entry_wide (bit wide) 0)) ∙ mod-eq_of_lt h
 
-  pub entry_offset : offset < far → value_of entry_offset (entry wide offset len) ≡ offset
+  pub entry_offset_lem : offset < far → value_of entry_offset (entry wide offset len) ≡ offset
   unfolding entry
-  entry_offset h =
+  entry_offset_lem h =
       value_kept entry_length entry_offset len (with_value entry_offset offset (with_value entry_wide (bit wide) 0)) (omega arith)
       ∙ value-put entry_offset offset (with_value entry_wide (bit wide) 0) ∙ mod-eq_of_lt h
 
-  pub entry_wide : value_of entry_wide (entry wide offset len) ≡ bit wide
+  pub entry_wide_lem : value_of entry_wide (entry wide offset len) ≡ bit wide
   unfolding entry
-  entry_wide =
+  entry_wide_lem =
       value_kept entry_length entry_wide len (with_value entry_offset offset (with_value entry_wide (bit wide) 0)) (omega arith)
       ∙ value_kept entry_offset entry_wide offset (with_value entry_wide (bit wide) 0) (omega arith)
       ∙ value-put entry_wide (bit wide) 0 ∙ bit_mod wide

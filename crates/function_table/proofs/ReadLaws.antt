@@ -17,7 +17,7 @@ use Rattle.format.specs.Number.{number_from}
 use Rattle.image.specs.Sections.{functions_in, record_at}
 use Rattle.image.specs.Functions.{Func, small, header, record_in, func_of}
 use Rattle.image.specs.Admission.{headers_in}
-use Rattle.image.proofs.CheckLaws.{headers_in}
+use Rattle.image.proofs.CheckLaws.{headers_in_lem}
 use Rattle.sections.specs.Places.{Fits}
 use Rattle.sections.proofs.SectionLaws.{records_fit, record_size}
 
@@ -53,10 +53,10 @@ module _ {l : Layout} {s : List ℕ} {i at : ℕ} {f : Field} (z : SlotRead l s 
       rw (slot_count, length-take-le (table.record_row l).width (drop at s) (rw length-drop (omega (arith, slot_fits))))
       (omega arith)
 
-  pub slot_record : (n : ℕ) → n ≡ number_at (take (at + f.width - at) (drop at s)) 0 (table.record_row l).width
+  pub slot_record_lem : (n : ℕ) → n ≡ number_at (take (at + f.width - at) (drop at s)) 0 (table.record_row l).width
       → n ≡ record_in l s i
   unfolding record_in
-  slot_record n d = d ∙ rw (slot_count, z.place) (slot_number s (record_at l i) (table.record_row l).width slot_fits)
+  slot_record_lem n d = d ∙ rw (slot_count, z.place) (slot_number s (record_at l i) (table.record_row l).width slot_fits)
 
 -- ---- by layout
 
@@ -145,12 +145,12 @@ module _ {l : Layout} {s : List ℕ} {i n p : ℕ} (z : LargeRead l s i n p) whe
   pub header_is : (f : Func) → f ≡ header l p s → f ≡ func_of l s i
   header_is f h = h ∙ large_is
 
-  pub is-large : (func_of l s i).large ≡ true
-  is-large = ap (λ (f : Func). f.large) (sym large_is) ∙ header_large l p s
+  pub is_large_lem : (func_of l s i).large ≡ true
+  is_large_lem = ap (λ (f : Func). f.large) (sym large_is) ∙ header_large l p s
 
   pub points_to : (func_of l s i).ptr ≡ p
   points_to = ap (λ (f : Func). f.ptr) (sym large_is) ∙ header_ptr l p s
 
   -- where every large header stands in the tail, this one may be read
   pub header-fits : headers_in l s ≡ true → i < functions_in s → p + (table.large_row l).width ≤ length s
-  header-fits h k = omega (arith, (headers_in l s).holds h i k is-large, points_to)
+  header-fits h k = omega (arith, (headers_in_lem l s).holds h i k is_large_lem, points_to)

@@ -29,7 +29,7 @@ use Rattle.function_table.specs.declared.FunctionRead.{FunctionRead}
 use Rattle.function_table.specs.declared.FunctionRead.TheVariants.{Found, Refused}
 use Rattle.function_table.specs.Functions.{as_func, as_function, WordSized, FoundSized, pointer_judged, header_in, function_read}
 use Rattle.function_table.specs.Functions.{within, function_in, functions_in_tail}
-use Rattle.function_table.proofs.ReadLaws.{SmallRead, LargeRead, small_is, header_is, is-large, points_to, is-small}
+use Rattle.function_table.proofs.ReadLaws.{SmallRead, LargeRead, small_is, header_is, is_large_lem, points_to, is-small}
 
 -- ---- bytes and places in the tail
 
@@ -137,17 +137,17 @@ module _ {l : Layout} {s : List ℕ} {i n : ℕ} {j : Pointer} (z : PointerRead 
   large : (ptr : ℕ) → ptr ≡ pointer l n → LargeRead l s i n ptr
   large ptr q = record { number = z.number; flag = z.flag; place = q }
 
-  header_in : (ptr : ℕ) → ptr ≡ pointer l n → header_in l s (func_of l s i) ≡ in_tail l s (pointer l n) (table.large_row l).width
-  header_in ptr q = rw (is-large (large ptr q), points_to (large ptr q), q)
+  header_in_lem : (ptr : ℕ) → ptr ≡ pointer l n → header_in l s (func_of l s i) ≡ in_tail l s (pointer l n) (table.large_row l).width
+  header_in_lem ptr q = rw (is_large_lem (large ptr q), points_to (large ptr q), q)
 
   pub pointer_refused : (k : ℕ) → j ≡ answer.Refused k → Refused 6 ≡ function_read l s i
-  pointer_refused k f = not_found l s i (header_in (pointer l n) refl ∙ judged_out l s n j z.pointer k f)
+  pointer_refused k f = not_found l s i (header_in_lem (pointer l n) refl ∙ judged_out l s n j z.pointer k f)
 
   module _ (ptr : ℕ) (q : j ≡ answer.At ptr) where
     pub header_found : (f : Function) → as_func f ≡ header l ptr s → Found f ≡ function_read l s i
     header_found f h =
         let (t, e) = judged_in l s n j z.pointer ptr q in
-        found l s i f (header_is (large ptr e) (as_func f) h) (header_in ptr e ∙ t)
+        found l s i f (header_is (large ptr e) (as_func f) h) (header_in_lem ptr e ∙ t)
 
     pub header_there : ptr + (table.large_row l).width ≤ length s
     header_there =
@@ -214,7 +214,7 @@ module _ (l : Layout) (s : List ℕ) where
 
 -- ---- the debug place
 
-pub debug_in : (p : Places) (s : List ℕ) → Placed p s → (x : ℕ) (r : Bool) → x ≡ debug_in p.layout s
+pub debug_in_lem : (p : Places) (s : List ℕ) → Placed p s → (x : ℕ) (r : Bool) → x ≡ debug_in p.layout s
     → r ≡ implies (not (eqb x 0)) (within p.tail (length s) x 0) → r ≡ debug_in_tail p.layout s
 unfolding debug_in_tail
-debug_in p s h x r e k = rw (k, e, (sectioned p s h).tail_from)
+debug_in_lem p s h x r e k = rw (k, e, (sectioned p s h).tail_from)

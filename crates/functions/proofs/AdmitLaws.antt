@@ -10,7 +10,7 @@ use Rattle.image.specs.Sections.{functions_in}
 use Rattle.image.specs.Functions.{Func, func_of}
 use Rattle.image.specs.Admitted.{Admitted}
 use Rattle.image.proofs.PlaceLaws.{ordered}
-use Rattle.image.proofs.CheckLaws.{headers_in}
+use Rattle.image.proofs.CheckLaws.{headers_in_lem}
 use Rattle.sections.specs.declared.Places.{Places}
 use Rattle.sections.specs.Places.{places_of, Fits}
 use Rattle.function_table.specs.declared.Function.{Function}
@@ -24,10 +24,10 @@ module _ (l : Layout) (s : List ℕ) where
 
     -- what reading a function asks for
     pub readable : Readable l s
-    readable = (fits, (headers_in l s).passed ok.header)
+    readable = (fits, (headers_in_lem l s).passed ok.header)
 
-    pub least_length : 128 + footer_length ≤ length s
-    least_length = let o = ordered l s in omega (arith, ok.room, o.kinds, o.hashes, o.small, o.over, o.storage, o.tail)
+    pub least_length_lem : 128 + footer_length ≤ length s
+    least_length_lem = let o = ordered l s in omega (arith, ok.room, o.kinds, o.hashes, o.small, o.over, o.storage, o.tail)
 
     pub body_ends : (id : ℕ) → id < functions_in s → (func_of l s id).begin + (func_of l s id).size + footer_length ≤ length s
     body_ends id h = (ok.body id h).1

@@ -132,8 +132,8 @@ module _ (l : Layout) (s : List ℕ) (id : ℕ) (body : List ℕ) where
       (pick (ltb size_limit len) 11 (pick (not (size_fits l s id body)) 12 (pick (not (fields_fit l s (moved_past_body l s id body))) 12 0))))
 
 module _ {l : Layout} {s : List ℕ} {id : ℕ} {f : Function} (body : List ℕ) (z : Chosen l s id f) where
-  new_length : length s - f.size + length body ≡ len l s id body
-  new_length =
+  new_length_lem : length s - f.size + length body ≡ len l s id body
+  new_length_lem =
       let e : f.size ≡ (func_of l s id).size = ap (λ (x : Func). x.size) z.is.is in
       rw e (sym (length_moved l s id body (omega (arith, body_ends l s z.admitted id z.known))))
 
@@ -144,8 +144,8 @@ module _ {l : Layout} {s : List ℕ} {id : ℕ} {f : Function} (body : List ℕ)
         ap (λ (n : ℕ). answer_for n (len l s id body))
         (sym (two_no (body_alone l s id) (infos_outside l s id) (later l s id body) (sym e ∙ not-true a h)))
 
-    pub is-alone : not a ≡ false → LeftAlone l s id body f
-    is-alone h = record { chosen = z; alone = sym e ∙ not-false a h }
+    pub is_alone_lem : not a ≡ false → LeftAlone l s id body f
+    is_alone_lem h = record { chosen = z; alone = sym e ∙ not-false a h }
 
 module _ {l : Layout} {s : List ℕ} {id : ℕ} {body : List ℕ} {f : Function} where
   after : LeftAlone l s id body f → judged l s id body ≡ answer_for (later l s id body) (len l s id body)
@@ -179,7 +179,7 @@ module _ {l : Layout} {s : List ℕ} {id : ℕ} {body : List ℕ} {f : Function}
 
   module _ (z : Grounded l s id body f) (d : Bool) (e : d ≡ ltb size_limit (length s - f.size + length body)) where
     long-is : ltb size_limit (len l s id body) ≡ d
-    long-is = sym (e ∙ ap (λ (n : ℕ). ltb size_limit n) (new_length body z.clear.alone.chosen))
+    long-is = sym (e ∙ ap (λ (n : ℕ). ltb size_limit n) (new_length_lem body z.clear.alone.chosen))
 
     pub too_long : d ≡ true → answer.Refused 11 ≡ judged l s id body
     too_long h = sym (after z.clear.alone ∙ rw (z.clear.debug, z.some, long-is, h))
@@ -190,7 +190,7 @@ module _ {l : Layout} {s : List ℕ} {id : ℕ} {body : List ℕ} {f : Function}
   pub short_enough : Short l s id body f → length s - f.size + length body ≤ size_limit
   short_enough z =
       omega
-      (arith, new_length body z.grounded.clear.alone.chosen, ltb-false size_limit (len l s id body) z.limit)
+      (arith, new_length_lem body z.grounded.clear.alone.chosen, ltb-false size_limit (len l s id body) z.limit)
 
   module _ (z : Short l s id body f) (x : Bool) (e : x ≡ either f.large (not (beyond (size_row l) (length body)))) where
     size_is : size_fits l s id body ≡ x
@@ -224,7 +224,7 @@ module _ {l : Layout} {s : List ℕ} {id : ℕ} {body : List ℕ} {f : Function}
     fields_beyond h = sym (last ∙ rw (not-true y h))
 
     pub all_fit : not y ≡ false → answer.Length (length s - f.size + length body) ≡ judged l s id body
-    all_fit h = ap answer.Length (new_length body chosen_of) ∙ sym (last ∙ rw (not-false y h))
+    all_fit h = ap answer.Length (new_length_lem body chosen_of) ∙ sym (last ∙ rw (not-false y h))
 
 -- ---- all refusals
 
@@ -267,9 +267,9 @@ module _ (l : Layout) (s : List ℕ) (id : ℕ) (body : List ℕ) where
       own : body_refusal l s id body ≡ judge (check 7 (leb (functions_in s) id) ∷ body_checks l s id body)
       own = in_order ∙ rw (eq-eqb (refusal l s) 0 passed)
 
-      pub no_function : p.functions ≤ id → answer.Refused 7 ≡ answered (patch_body l s id body)
+      pub no_function_lem : p.functions ≤ id → answer.Refused 7 ≡ answered (patch_body l s id body)
       unfolding judge
-      no_function k = sym (answer_is ∙ rw (own, le-leb (functions_in s) id (omega (arith, functions_are l s p places_are))))
+      no_function_lem k = sym (answer_is ∙ rw (own, le-leb (functions_in s) id (omega (arith, functions_are l s p places_are))))
 
       pub is_known : id < p.functions → id < functions_in s
       is_known k = omega (arith, functions_are l s p places_are)

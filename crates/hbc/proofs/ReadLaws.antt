@@ -49,10 +49,10 @@ module _ (s old : List ℕ) (start size : ℕ) where
 
 module _ (l : Layout) (s : List ℕ) (id room : ℕ) (old : List ℕ) where
   module _ (r : StringRead) (e : r ≡ string_read l s id) where
-    pub no_string : (k : ℕ) → r ≡ string-is.Refused k → (n : ℕ) → n ≡ string_number r
+    pub no_string_lem : (k : ℕ) → r ≡ string-is.Refused k → (n : ℕ) → n ≡ string_number r
         → Answers (roomed room (string_reading l s id)) (Refused n) old old
     unfolding string_reading
-    no_string k f n g =
+    no_string_lem k f n g =
         let (h, x) = string_out l s id r e k f in
         refused_read (id_refusal l s (strings_in s) id) n (string_of l s id).bytes (h, x ∙ sym (g ∙ ap string_number f)) old room
 

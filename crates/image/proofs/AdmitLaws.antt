@@ -19,8 +19,8 @@ use Rattle.image.specs.Kinds.{kind_in, covered, identified}
 use Rattle.image.specs.Admission.{overflows_counted, overflows_numbered, strings_stored, strings_narrow, headers_in, bodies_in}
 use Rattle.image.specs.Admission.{infos_in, debug_in_tail, headers_apart, bodies_apart, checks, refusal}
 use Rattle.image.specs.Admitted.{Admitted}
-use Rattle.image.proofs.CheckLaws.{overflows_counted, overflows_numbered, strings_stored, strings_narrow, headers_in}
-use Rattle.image.proofs.CheckLaws.{bodies_in, infos_in, debug_in, headers_apart, bodies_apart}
+use Rattle.image.proofs.CheckLaws.{overflows_counted_lem, overflows_numbered_lem, strings_stored_lem, strings_narrow_lem, headers_in_lem}
+use Rattle.image.proofs.CheckLaws.{bodies_in_lem, infos_in_lem, debug_in_lem, headers_apart_lem, bodies_apart_lem}
 
 -- every test of admission is passed
 pub record Passed (l : Layout) (s : List ℕ) : Type 0 where
@@ -91,16 +91,16 @@ module _ (l : Layout) (s : List ℕ) where
         room = ltb-false (length s) (tail_at l s + footer_length) t.room;
         covers = eqb-true (covered (kind_in l s) (kinds_in s)) (strings_in s) t.kinds;
         identifiers = eqb-true (identified (kind_in l s) (kinds_in s)) (identifiers_in s) t.identifiers;
-        overflows = (overflows_counted l s).holds t.counted;
-        numbered = (overflows_numbered l s).holds t.numbered;
-        stored = (strings_stored l s).holds t.stored;
-        narrow = λ i h w j k. omega (arith, (strings_narrow l s).holds t.narrow i h w j k);
-        header = (headers_in l s).holds t.headers;
-        body = (bodies_in l s).holds t.bodies;
-        info = (infos_in l s).holds t.infos;
-        debug = (debug_in l s).holds t.debug;
-        apart = λ i j h k. (headers_apart l s).holds t.apart i h j k;
-        clear = λ i j h k. (bodies_apart l s).holds t.clear i h j k;
+        overflows = (overflows_counted_lem l s).holds t.counted;
+        numbered = (overflows_numbered_lem l s).holds t.numbered;
+        stored = (strings_stored_lem l s).holds t.stored;
+        narrow = λ i h w j k. omega (arith, (strings_narrow_lem l s).holds t.narrow i h w j k);
+        header = (headers_in_lem l s).holds t.headers;
+        body = (bodies_in_lem l s).holds t.bodies;
+        info = (infos_in_lem l s).holds t.infos;
+        debug = (debug_in_lem l s).holds t.debug;
+        apart = λ i j h k. (headers_apart_lem l s).holds t.apart i h j k;
+        clear = λ i j h k. (bodies_apart_lem l s).holds t.clear i h j k;
       }
 
   pub not_refused : Admitted l s → refusal l s ≡ 0
@@ -113,14 +113,14 @@ module _ (l : Layout) (s : List ℕ) where
         le-ltb (length s) (tail_at l s + footer_length) a.room,
         eq-eqb (covered (kind_in l s) (kinds_in s)) (strings_in s) a.covers,
         eq-eqb (identified (kind_in l s) (kinds_in s)) (identifiers_in s) a.identifiers,
-        (overflows_counted l s).passed a.overflows,
-        (overflows_numbered l s).passed a.numbered,
-        (strings_stored l s).passed a.stored,
-        (strings_narrow l s).passed (λ i h w j k. omega (arith, a.narrow i h w j k)),
-        (headers_in l s).passed a.header,
-        (bodies_in l s).passed a.body,
-        (infos_in l s).passed a.info,
-        (debug_in l s).passed a.debug,
-        (headers_apart l s).passed (λ i h j k. a.apart i j h k),
-        (bodies_apart l s).passed (λ i h j k. a.clear i j h k),
+        (overflows_counted_lem l s).passed a.overflows,
+        (overflows_numbered_lem l s).passed a.numbered,
+        (strings_stored_lem l s).passed a.stored,
+        (strings_narrow_lem l s).passed (λ i h w j k. omega (arith, a.narrow i h w j k)),
+        (headers_in_lem l s).passed a.header,
+        (bodies_in_lem l s).passed a.body,
+        (infos_in_lem l s).passed a.info,
+        (debug_in_lem l s).passed a.debug,
+        (headers_apart_lem l s).passed (λ i h j k. a.apart i j h k),
+        (bodies_apart_lem l s).passed (λ i h j k. a.clear i j h k),
       )

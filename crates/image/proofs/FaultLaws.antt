@@ -19,8 +19,8 @@ use Rattle.image.specs.Admission.{checks, refusal}
 use Rattle.image.specs.Faults.{ShareByte, Fault}
 use Rattle.image.specs.Faults.Fault.{short, long, magic, sections, kinds, identifiers, overflows, misnumbered, leaves}
 use Rattle.image.specs.Faults.Fault.{exceeds, body, info, debug, header, headers, bodies}
-use Rattle.image.proofs.CheckLaws.{overflows_counted, overflows_numbered, strings_stored, strings_narrow, headers_in}
-use Rattle.image.proofs.CheckLaws.{bodies_in, infos_in, debug_in, headers_apart, bodies_apart}
+use Rattle.image.proofs.CheckLaws.{overflows_counted_lem, overflows_numbered_lem, strings_stored_lem, strings_narrow_lem, headers_in_lem}
+use Rattle.image.proofs.CheckLaws.{bodies_in_lem, infos_in_lem, debug_in_lem, headers_apart_lem, bodies_apart_lem}
 
 -- ---- a byte in common, and two starts that each lie before the other's end
 
@@ -48,18 +48,18 @@ module _ (l : Layout) (s : List ℕ) where
       also (λ t. sections (ltb-true (length s) (tail_at l s + footer_length) t))
       also (λ t. kinds (eqb-false (covered (kind_in l s) (kinds_in s)) (strings_in s) (not-true _ t)))
       also (λ t. identifiers (eqb-false (identified (kind_in l s) (kinds_in s)) (identifiers_in s) (not-true _ t)))
-      also (λ t. overflows ((overflows_counted l s).wrong (not-true _ t)))
-      also (λ t. let (i, h, (f, w)) = (overflows_numbered l s).wrong (not-true _ t) in misnumbered i h f w)
-      also (λ t. let (i, h, w) = (strings_stored l s).wrong (not-true _ t) in leaves i h w)
-      also (λ t. let (i, h, (f, (j, k, w))) = (strings_narrow l s).wrong (not-true _ t) in exceeds i j h f k w)
-      also (λ t. let (i, h, (f, w)) = (headers_in l s).wrong (not-true _ t) in header i h f w)
-      also (λ t. let (i, h, w) = (bodies_in l s).wrong (not-true _ t) in body i h w)
-      also (λ t. let (i, h, (f, w)) = (infos_in l s).wrong (not-true _ t) in info i h f w)
-      also (λ t. let (f, w) = (debug_in l s).wrong (not-true _ t) in debug f w)
+      also (λ t. overflows ((overflows_counted_lem l s).wrong (not-true _ t)))
+      also (λ t. let (i, h, (f, w)) = (overflows_numbered_lem l s).wrong (not-true _ t) in misnumbered i h f w)
+      also (λ t. let (i, h, w) = (strings_stored_lem l s).wrong (not-true _ t) in leaves i h w)
+      also (λ t. let (i, h, (f, (j, k, w))) = (strings_narrow_lem l s).wrong (not-true _ t) in exceeds i j h f k w)
+      also (λ t. let (i, h, (f, w)) = (headers_in_lem l s).wrong (not-true _ t) in header i h f w)
+      also (λ t. let (i, h, w) = (bodies_in_lem l s).wrong (not-true _ t) in body i h w)
+      also (λ t. let (i, h, (f, w)) = (infos_in_lem l s).wrong (not-true _ t) in info i h f w)
+      also (λ t. let (f, w) = (debug_in_lem l s).wrong (not-true _ t) in debug f w)
       also (λ t.
-      let (i, h, (j, k, (d, (f, (g, w))))) = (headers_apart l s).wrong (not-true _ t) in
+      let (i, h, (j, k, (d, (f, (g, w))))) = (headers_apart_lem l s).wrong (not-true _ t) in
       headers i j h k d f g (share _ _ _ _ (some_words l) (some_words l) w))
-      also (λ t. let (i, h, (j, k, (z, (g, w)))) = (bodies_apart l s).wrong (not-true _ t) in bodies j i k h g
+      also (λ t. let (i, h, (j, k, (z, (g, w)))) = (bodies_apart_lem l s).wrong (not-true _ t) in bodies j i k h g
       (share _ _ _ _ (some_words l) z w))
       also nothing
 
@@ -72,18 +72,18 @@ module _ (l : Layout) (s : List ℕ) where
   gives n (sections h) = rw (lt-ltb (length s) (tail_at l s + footer_length) h)
   gives n (kinds h) = rw (ne_eqb _ _ h)
   gives n (identifiers h) = simp (ne_eqb (identified (kind_in l s) (kinds_in s)) (identifiers_in s) h, either_true)
-  gives n (overflows h) = rw ((overflows_counted l s).failed h)
-  gives n (misnumbered i h f w) = simp ((overflows_numbered l s).failed (i, h, (f, w)), either_true)
-  gives n (leaves i h w) = simp ((strings_stored l s).failed (i, h, w), either_true)
-  gives n (exceeds i j h f k w) = simp ((strings_narrow l s).failed (i, h, (f, (j, k, w))), either_true)
-  gives n (body i h w) = simp ((bodies_in l s).failed (i, h, w), either_true)
-  gives n (info i h f w) = simp ((infos_in l s).failed (i, h, (f, w)), either_true)
-  gives n (debug f w) = simp ((debug_in l s).failed (f, w), either_true)
-  gives n (header i h f w) = rw ((headers_in l s).failed (i, h, (f, w)))
+  gives n (overflows h) = rw ((overflows_counted_lem l s).failed h)
+  gives n (misnumbered i h f w) = simp ((overflows_numbered_lem l s).failed (i, h, (f, w)), either_true)
+  gives n (leaves i h w) = simp ((strings_stored_lem l s).failed (i, h, w), either_true)
+  gives n (exceeds i j h f k w) = simp ((strings_narrow_lem l s).failed (i, h, (f, (j, k, w))), either_true)
+  gives n (body i h w) = simp ((bodies_in_lem l s).failed (i, h, w), either_true)
+  gives n (info i h f w) = simp ((infos_in_lem l s).failed (i, h, (f, w)), either_true)
+  gives n (debug f w) = simp ((debug_in_lem l s).failed (f, w), either_true)
+  gives n (header i h f w) = rw ((headers_in_lem l s).failed (i, h, (f, w)))
   gives n (headers i j h k d f g (x, a, b)) =
-      simp ((headers_apart l s).failed (i, h, (j, k, (d, (f, (g, (omega arith, omega arith)))))), either_true)
+      simp ((headers_apart_lem l s).failed (i, h, (j, k, (d, (f, (g, (omega arith, omega arith)))))), either_true)
   gives n (bodies i j h k f (x, a, b)) =
-      simp ((bodies_apart l s).failed (j, k, (i, h, (omega arith, (f, (omega arith, omega arith))))), either_true)
+      simp ((bodies_apart_lem l s).failed (j, k, (i, h, (omega arith, (f, (omega arith, omega arith))))), either_true)
 
   numbers_rise : rising 1 6 (checks l s) ≡ true
   unfolding checks

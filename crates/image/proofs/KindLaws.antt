@@ -68,9 +68,9 @@ module _ (w : ℕ → ℕ) where
   rank_of_runs n (suc k) h = run_ranks n k (run_of (w k)) h (omega arith) (rank_of_runs n k (omega arith))
 
   -- and within it
-  pub rank_in_run : (n k r : ℕ) → k < n → r ≤ run_of (w k)
+  pub rank_in_run_lem : (n k r : ℕ) → k < n → r ≤ run_of (w k)
       → rank_by w n (covered w k + r) ≡ identified w k + pick (is_identifier_run (w k)) r 0
-  rank_in_run n k r h a = run_ranks n k r h a (rank_of_runs n k (omega arith))
+  rank_in_run_lem n k r h a = run_ranks n k r h a (rank_of_runs n k (omega arith))
 
 -- ---- in an image
 

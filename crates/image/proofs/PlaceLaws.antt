@@ -42,12 +42,12 @@ debug-at (Legacy false true) = omega arith
 debug-at (Legacy false false) = omega arith
 
 -- behind the words of the strings
-pub debug_past : (l : Layout) → (table.storage_size).at + (table.storage_size).width ≤ table.place_in l (table.debug_row l)
-debug_past Modern = omega arith
-debug_past (Legacy true true) = omega arith
-debug_past (Legacy true false) = omega arith
-debug_past (Legacy false true) = omega arith
-debug_past (Legacy false false) = omega arith
+pub debug_past_lem : (l : Layout) → (table.storage_size).at + (table.storage_size).width ≤ table.place_in l (table.debug_row l)
+debug_past_lem Modern = omega arith
+debug_past_lem (Legacy true true) = omega arith
+debug_past_lem (Legacy true false) = omega arith
+debug_past_lem (Legacy false true) = omega arith
+debug_past_lem (Legacy false false) = omega arith
 
 -- no section starts before the one that it follows, and storage ends before the tail
 pub record Ordered (l : Layout) (s : List ℕ) : Type 0 where
@@ -77,26 +77,26 @@ module _ (l : Layout) (s : List ℕ) where
 
   -- ---- an entry of a section ends before the next section starts
 
-  pub record_in : (i : ℕ) → i < functions_in s → record_at l i + (table.record_row l).width ≤ kinds_at l s
+  pub record_in_lem : (i : ℕ) → i < functions_in s → record_at l i + (table.record_row l).width ≤ kinds_at l s
   unfolding kinds_at
-  record_in i h = entry_in i (functions_in s) (table.record_row l).at (table.record_row l).width h
+  record_in_lem i h = entry_in i (functions_in s) (table.record_row l).at (table.record_row l).width h
 
-  pub kind_in : (k : ℕ) → k < kinds_in s → kinds_at l s + k * (table.kind_entry).width + (table.kind_entry).width ≤ hashes_at l s
+  pub kind_in_lem : (k : ℕ) → k < kinds_in s → kinds_at l s + k * (table.kind_entry).width + (table.kind_entry).width ≤ hashes_at l s
   unfolding hashes_at
-  kind_in k h = omega arith
+  kind_in_lem k h = omega arith
 
-  pub hash_in : (r : ℕ) → r < identifiers_in s → hashes_at l s + r * (table.hash_entry).width + (table.hash_entry).width ≤ small_at l s
+  pub hash_in_lem : (r : ℕ) → r < identifiers_in s → hashes_at l s + r * (table.hash_entry).width + (table.hash_entry).width ≤ small_at l s
   unfolding small_at
-  hash_in r h = omega arith
+  hash_in_lem r h = omega arith
 
-  pub small_in : (i : ℕ) → i < strings_in s → small_at l s + i * (table.small_entry).width + (table.small_entry).width ≤ over_at l s
+  pub small_in_lem : (i : ℕ) → i < strings_in s → small_at l s + i * (table.small_entry).width + (table.small_entry).width ≤ over_at l s
   unfolding over_at
-  small_in i h = omega arith
+  small_in_lem i h = omega arith
 
-  pub pair_in : (k : ℕ) → k < overflows_in s
+  pub pair_in_lem : (k : ℕ) → k < overflows_in s
       → over_at l s + k * (table.overflow_entry).width + (table.overflow_entry).width ≤ storage_at l s
   unfolding storage_at
-  pair_in k h = omega arith
+  pair_in_lem k h = omega arith
 
 -- ---- overflow entries, counted in id order
 
@@ -123,8 +123,8 @@ pub record Counted (l : Layout) (s : List ℕ) : Type 0 where
   pub storage : storage_in s ≤ length s
 
 module _ {l : Layout} {s : List ℕ} (a : Admitted l s) where
-  pub least_length : table.header_length + footer_length ≤ length s
-  least_length = a.least
+  pub least_length_lem : table.header_length + footer_length ≤ length s
+  least_length_lem = a.least
 
   pub counted : Counted l s
   unfolding kinds_at hashes_at small_at over_at storage_at

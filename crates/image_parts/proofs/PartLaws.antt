@@ -21,7 +21,7 @@ use Rattle.image.specs.Strings.{Str}
 use Rattle.image.specs.Kinds.{kind_in, covered, identified, flag_of, is_identifier}
 use Rattle.image.specs.Functions.{record_in}
 use Rattle.image.specs.Admitted.{Admitted}
-use Rattle.image.proofs.PlaceLaws.{records_at, debug-at, debug_past}
+use Rattle.image.proofs.PlaceLaws.{records_at, debug-at, debug_past_lem}
 use Rattle.edits.specs.Packing.{Carries}
 use Rattle.edits.specs.Rebuild.{smalls, pairs, overs, region, padded}
 use Rattle.edits.proofs.ReadLaws.{covered_ext, identified_ext, flag_ext}
@@ -218,7 +218,7 @@ module _ (l : Layout) (x : Parts) (ok : PartsFit l x) where
   storage_is = header-number 60 4 (omega arith) (λ h. omega arith) ∙ ok.storage
 
   pub debug-is : debug_in l s ≡ debug_in l x.header
-  debug-is = header-number (table.place_in l (table.debug_row l)) (table.debug_row l).width (debug-at l) (λ h. omega (arith, debug_past l))
+  debug-is = header-number (table.place_in l (table.debug_row l)) (table.debug_row l).width (debug-at l) (λ h. omega (arith, debug_past_lem l))
 
   -- ---- the places of the sections
 
@@ -230,13 +230,13 @@ module _ (l : Layout) (x : Parts) (ok : PartsFit l x) where
   unfolding small_at hashes_at
   small_at_lem = rw (kinds-at, kinds-is, identifiers_is) (omega (arith, length_front x))
 
-  pub storage-at : storage_at l s ≡ length (front x) + (x.count * 4 + overs x.strings.place x.count * 8)
+  pub storage_at_lem : storage_at l s ≡ length (front x) + (x.count * 4 + overs x.strings.place x.count * 8)
   unfolding storage_at over_at
-  storage-at = rw (small_at_lem, strings_is, overflows_is) (omega arith)
+  storage_at_lem = rw (small_at_lem, strings_is, overflows_is) (omega arith)
 
-  pub tail-at : tail_at l s ≡ length (sections x)
+  pub tail_at_lem : tail_at l s ≡ length (sections x)
   unfolding tail_at
-  tail-at = rw (storage-at, storage_is) (omega (arith, length-sections x))
+  tail_at_lem = rw (storage_at_lem, storage_is) (omega (arith, length-sections x))
 
   -- ---- records and kinds
 
@@ -276,7 +276,7 @@ module _ (l : Layout) (x : Parts) (ok : PartsFit l x) where
 
   pub tail_is : Lies s (tail_at l s) x.tail
   tail_is =
-      rw tail-at
+      rw tail_at_lem
       (lies_in (length (sections x)) x.tail (omega (arith, long, length-sections x)) (omega (arith, length-laid x)) (tail_lies x))
 
   -- ---- strings
@@ -311,5 +311,5 @@ module _ (l : Layout) (x : Parts) (ok : PartsFit l x) where
           least = omega (arith, length-joined, laid-long, length_front x, ok.long);
           most = omega (arith, length-joined, ok.limit);
           magic = header-number 0 8 (omega arith) (λ q. absurd (omega arith)) ∙ ok.magic;
-          room = omega (arith, length-joined, tail-at, length-laid x);
+          room = omega (arith, length-joined, tail_at_lem, length-laid x);
         }) tabled pl

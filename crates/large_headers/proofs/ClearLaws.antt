@@ -40,8 +40,8 @@ module _ {l : Layout} {s : List ℕ} {j n : ℕ} {g : Func} (z : WithHeader l s 
   unfolding header_clear
   has_header = rw (← z.is, not-false g.large z.large, z.count)
 
-  pub header_clear : (i : ℕ) → i ≡ n → all_below i (clear_at l s j) ≡ true → true ≡ header_clear l s j
-  header_clear i k a = pass_end (clear_at l s j) n i k a ∙ has_header
+  pub header_clear_lem : (i : ℕ) → i ≡ n → all_below i (clear_at l s j) ≡ true → true ≡ header_clear l s j
+  header_clear_lem i k a = pass_end (clear_at l s j) n i k a ∙ has_header
 
 -- f is function i, and r says whether the header of g is clear of it
 pub record ClearTurn (l : Layout) (s : List ℕ) (j n i w : ℕ) (g f : Func) (other r : Bool) : Type 0 where

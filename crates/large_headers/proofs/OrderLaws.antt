@@ -20,7 +20,7 @@ use Rattle.image.specs.Sections.{functions_in}
 use Rattle.image.specs.Functions.{Func, func_of}
 use Rattle.image.specs.Admission.{headers_apart, bodies_apart}
 use Rattle.image.specs.Admitted.{Disjoint}
-use Rattle.image.proofs.CheckLaws.{headers_apart, bodies_apart}
+use Rattle.image.proofs.CheckLaws.{headers_apart_lem, bodies_apart_lem}
 use Rattle.large_headers.specs.Order.{end_with, first_with, bodies_with, headers_end, headers_start, bodies_end, ascends}
 use Rattle.large_headers.specs.Order.{ascends_at, ordered, in_order}
 use Rattle.large_headers.specs.Clear.{all_apart}
@@ -193,7 +193,7 @@ in_order_apart l s o =
     let fs : ℕ → Func = func_of l s in
     let n : ℕ = functions_in s in
     sym (both_of (headers_apart l s) (bodies_apart l s)
-    ((headers_apart l s).passed (λ i h j k two t u. headers_off w fs n o i j
+    ((headers_apart_lem l s).passed (λ i h j k two t u. headers_off w fs n o i j
     (record { first = record { known = h; large = t }; second = record { known = k; large = u }; two = two })))
-    ((bodies_apart l s).passed (λ i h j k z t. bodies_off w fs n o i j (record { known = h; some = z })
+    ((bodies_apart_lem l s).passed (λ i h j k z t. bodies_off w fs n o i j (record { known = h; some = z })
     (record { known = k; large = t }))))

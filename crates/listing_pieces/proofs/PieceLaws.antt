@@ -69,26 +69,26 @@ module _ (l : Layout) (s : List ℕ) where
 
   -- ---- what is left is the next piece, and what is left behind it
 
-  strings_left : (i : ℕ) → (i < strings_in s) ⊎ (strings_in s ≤ i) → left l s (strings i) ≡ piece_at l s (strings i)
+  strings_left_lem : (i : ℕ) → (i < strings_in s) ⊎ (strings_in s ≤ i) → left l s (strings i) ≡ piece_at l s (strings i)
       ++ left l s (next_of l s (strings i))
   unfolding strings_left
-  strings_left i (inl h) =
+  strings_left_lem i (inl h) =
       let us : List ℕ = hexes (units_in l s i) ++ closing (length (units_in l s i)) (slot_of l s i) in
       rw (lt-ltb i (strings_in s) h, lines_next (string_line_in l s) i (strings_in s) h, line-is i)
       (regroup (string_start l s i) us (lines_from (string_line_in l s) (i + 1) (strings_in s - (i + 1)))
       (lines_from (function_line_in l s) 0 (functions_in s)))
-  strings_left i (inr h) =
+  strings_left_lem i (inr h) =
       let e : functions_in s - 0 ≡ functions_in s = omega arith in
       rw (le-ltb i (strings_in s) h, lines_end (string_line_in l s) i (strings_in s) h, e)
 
-  units_left : (i j : ℕ) → (j < length (units_in l s i)) ⊎ (length (units_in l s i) ≤ j)
+  units_left_lem : (i j : ℕ) → (j < length (units_in l s i)) ⊎ (length (units_in l s i) ≤ j)
       → left l s (units i j) ≡ piece_at l s (units i j) ++ left l s (next_of l s (units i j))
-  units_left i j (inl h) =
+  units_left_lem i j (inl h) =
       let us : List ℕ = units_in l s i in
       rw (lt-ltb j (length us) h, hexes-split chunk (drop j us), drop-drop chunk j us)
       (regroup' (hexes (take chunk (drop j us))) (hexes (drop (j + chunk) us)) (closing (length us) (slot_of l s i))
       (strings_left l s (i + 1)))
-  units_left i j (inr h) =
+  units_left_lem i j (inr h) =
       rw (le-ltb j (length (units_in l s i)) h, drop_of_length-le (units_in l s i) h)
       (no_hexes (closing (length (units_in l s i)) (slot_of l s i)) (strings_left l s (i + 1)))
 
@@ -100,8 +100,8 @@ module _ (l : Layout) (s : List ℕ) where
   pub piece_left : (x : Spot) → left l s x ≡ piece_at l s x ++ left l s (next_of l s x)
   unfolding listed strings_left
   piece_left counts = let e : strings_in s - 0 ≡ strings_in s = omega arith in rw e
-  piece_left (strings i) = strings_left i (below_or i (strings_in s))
-  piece_left (units i j) = units_left i j (below_or j (length (units_in l s i)))
+  piece_left (strings i) = strings_left_lem i (below_or i (strings_in s))
+  piece_left (units i j) = units_left_lem i j (below_or j (length (units_in l s i)))
   piece_left (functions i) = functions_left i (below_or i (functions_in s))
   piece_left end = refl
 

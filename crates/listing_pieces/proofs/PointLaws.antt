@@ -113,8 +113,8 @@ pub record StringPut (p : Places) (s old new : List ℕ) (at end : ℕ) (t : Tur
   pub most : end ≤ at + 48
 
 module _ (p : Places) (s : List ℕ) (h : Placed p s) (old new : List ℕ) (at end : ℕ) where
-  pub no_string : (t : Turn) → p.strings ≤ t.id → Gives p s old at (Strings t) (piece at (Functions 0)) old
-  no_string t k =
+  pub no_string_lem : (t : Turn) → p.strings ≤ t.id → Gives p s old at (Strings t) (piece at (Functions 0)) old
+  no_string_lem t k =
       let e : ltb t.id (strings_in s) ≡ false = le-ltb t.id (strings_in s) (omega (arith, (sectioned p s h).strings)) in
       record { wrote = rw e (omega arith, refl); next = rw e; good = tt; most = omega arith }
 
@@ -283,8 +283,8 @@ pub record FunctionPut (p : Places) (s old new : List ℕ) (at end i : ℕ) (f :
   pub most : end ≤ at + 67
 
 module _ (p : Places) (s : List ℕ) (h : Placed p s) (old new : List ℕ) (at end : ℕ) where
-  pub no_function : (i : ℕ) → p.functions ≤ i → Gives p s old at (Functions i) (piece at End) old
-  no_function i k =
+  pub no_function_lem : (i : ℕ) → p.functions ≤ i → Gives p s old at (Functions i) (piece at End) old
+  no_function_lem i k =
       let e : ltb i (functions_in s) ≡ false = le-ltb i (functions_in s) (omega (arith, (sectioned p s h).functions)) in
       record { wrote = rw e (omega arith, refl); next = rw e; good = tt; most = omega arith }
 

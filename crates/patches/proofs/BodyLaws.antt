@@ -23,7 +23,7 @@ use Rattle.image.specs.Admitted.{Disjoint, Admitted}
 use Rattle.edits.specs.Edit.{splice, edit, move_func}
 use Rattle.edits.specs.Rebuild.{resized, resize}
 use Rattle.edits.specs.Fit.{fields_fit}
-use Rattle.image.proofs.PlaceLaws.{ordered, hash_in, string-in}
+use Rattle.image.proofs.PlaceLaws.{ordered, hash_in_lem, string-in}
 use Rattle.edits.proofs.WriteLaws.{length_writes}
 use Rattle.edits.proofs.SlotLaws.{func_eq}
 use Rattle.edits.proofs.ReadLaws.{functions_same, kind_count-same, identifier_count-same, string_count-same, counts_of, tail_at-same}
@@ -152,7 +152,7 @@ module _ (l : Layout) (s : List ℕ) (id : ℕ) (body : List ℕ) (ok : BodyPass
     equal_hash r h =
         let o = ordered l s in
         inplace.put-hash l s f₀.begin body written r
-        (λ q. absurd (omega (arith, hash_in l s r h, o.over, o.storage, o.tail, (ad.body id ok.known).0)))
+        (λ q. absurd (omega (arith, hash_in_lem l s r h, o.over, o.storage, o.tail, (ad.body id ok.known).0)))
 
   -- ---- another length
 
@@ -299,7 +299,7 @@ module _ (l : Layout) (s : List ℕ) (id : ℕ) (body : List ℕ) (ok : BodyPass
           sealed_unmoved (sets s f₀.begin body) (equal_kept e) (inplace.put_place l s f₀.begin body (written e))
       go false t =
           let d : length body ≢ f₀.size = eqb-false (length body) f₀.size t in
-          sealed_unmoved (resize l id body s) (resize_kept d) (resizing.resized_place l id body s (asked d))
+          sealed_unmoved (resize l id body s) (resize_kept d) (resizing.resized_place_lem l id body s (asked d))
 
   pub body_promise : Promise l s (patched_body l s id body) c
   unfolding patched_body

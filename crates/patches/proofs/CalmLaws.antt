@@ -21,7 +21,7 @@ use Rattle.image.specs.Strings.{place_at, size_of, string_of}
 use Rattle.image.specs.Kinds.{is_identifier, rank_of, hash_in}
 use Rattle.image.specs.Functions.{Func, func_of, body_of}
 use Rattle.image.specs.Admitted.{Admitted}
-use Rattle.image.proofs.PlaceLaws.{records_at, debug-at, debug_past, ordered, string-in}
+use Rattle.image.proofs.PlaceLaws.{records_at, debug-at, debug_past_lem, ordered, string-in}
 use Rattle.edits.proofs.ReadLaws.{Agree, bytes_agree, number_agree, functions_same, kind_count-same, identifier_count-same}
 use Rattle.edits.proofs.ReadLaws.{string_count-same, hash_same, identifier_same, rank_same, counts_of, storage_size-same, storage_at-same}
 use Rattle.edits.proofs.ReadLaws.{tail_at-same, SameEntries, place_same, string-same}
@@ -103,7 +103,7 @@ module _ (l : Layout) (s t : List ℕ) (nr : Nearly l s t) where
         debug =
             let d = table.place_in l (table.debug_row l) in
             let w = (table.debug_row l).width in
-            number_agree s t 36 (hashes_at l s) nr.head d w (omega (arith, debug_past l))
+            number_agree s t 36 (hashes_at l s) nr.head d w (omega (arith, debug_past_lem l))
             (omega (arith, debug-at l, o.kinds, o.hashes));
         records = λ p h k. nr.head p (omega (arith, records_at l)) (omega (arith, o.hashes));
         headers = λ i h u p f k.

@@ -44,7 +44,7 @@ use Rattle.patches.proofs.StepLaws.{patch_promise}
 use Rattle.patches.proofs.OrderLaws.{in_turns, InOrder, not-zero, some, judged_in_order}
 use Rattle.patches.proofs.FindLaws.{find_least, find_none}
 use Rattle.patches.proofs.RefusalLaws.{size-wrong, size_failed, fields_wrong, fields_failed, alone_wrong, alone_failed}
-use Rattle.patches.proofs.RefusalLaws.{infos_decide, debug_decide, known_decide, differ_decide, utf8_decide, new_length}
+use Rattle.patches.proofs.RefusalLaws.{infos_decide, debug_decide, known_decide, differ_decide, utf8_decide, new_length_lem}
 use Rattle.patches.proofs.RefusalLaws.{Beyond, patch_wrong, patch_failed}
 
 -- ---- the checks of a step: those of the patch, and the room
@@ -86,7 +86,7 @@ module _ (l : Layout) (s : List ℕ) (room : ℕ) where
   result_shows : (m : Mode) (v : Values) (p : Patch) → target_of l s p ≡ to_values m v
       → Shows (PatchFault l s room p) (string.result_checks m l s v ++ room_check p)
   result_shows m v p e =
-      (λ t. over_limit p (rw (e, ← new_length m l s v) (ltb-true 67_108_864 (string.new_length m l s v) t)))
+      (λ t. over_limit p (rw (e, ← new_length_lem m l s v) (ltb-true 67_108_864 (string.new_length m l s v) t)))
       also (λ t. let (j, h, u, w) = patch_wrong m l s v (not-true (string.patch_fits m l s v) t) in over_field p j h u (rw e w))
       also (λ t. no_room p (ltb-true room _ t))
       also nothing
@@ -140,7 +140,7 @@ module _ (l : Layout) (s : List ℕ) (room : ℕ) where
   -- those of the result, for any patch of strings
   limit-given : (m : Mode) (v : Values) (p : Patch) → 67_108_864 < place_after l s (to_values m v) (length s)
       → given 11 (string.result_checks m l s v ++ room_check p) ≡ true
-  limit-given m v p h = rw (lt-ltb 67_108_864 (string.new_length m l s v) (rw (new_length m l s v) h))
+  limit-given m v p h = rw (lt-ltb 67_108_864 (string.new_length m l s v) (rw (new_length_lem m l s v) h))
 
   field-given : (m : Mode) (v : Values) (p : Patch) → Beyond l s (place_after l s (to_values m v))
       → given 12 (string.result_checks m l s v ++ room_check p) ≡ true

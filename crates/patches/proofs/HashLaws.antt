@@ -22,7 +22,7 @@ use Rattle.format.specs.Hash.{hash_of}
 use Rattle.image.specs.Sections.{functions_in, kinds_in, identifiers_in, strings_in, kinds_at, hashes_at, small_at}
 use Rattle.image.specs.Kinds.{is_identifier, rank_of, hash_in}
 use Rattle.image.specs.Admitted.{Admitted}
-use Rattle.image.proofs.PlaceLaws.{ordered, hash_in}
+use Rattle.image.proofs.PlaceLaws.{ordered, hash_in_lem}
 use Rattle.image.proofs.KindLaws.{rank_lt}
 use Rattle.utf.specs.Utf8.{utf16}
 use Rattle.string_edits.specs.Values.{Values, in_turn}
@@ -85,7 +85,7 @@ module _ (l : Layout) (s : List ℕ) (v : Values) (x : List ℕ) (like : SameSlo
   }
 
   slot_in : (i : ℕ) → i < strings_in s → is_identifier l s i ≡ true → slot_at (rank_of l s i) + 4 ≤ small_at l s
-  slot_in i known named = hash_in l s (rank_of l s i) (rank_lt like.before i known named)
+  slot_in i known named = hash_in_lem l s (rank_of l s i) (rank_lt like.before i known named)
 
   -- one slot more
   module _ (i : ℕ) (value y : List ℕ) (known : i < strings_in s) (near : Nearly l x y) where

@@ -152,9 +152,9 @@ module _ (l : Layout) (s : List ℕ) (v : Values) (all : AllFit l s v) where
     ];
   }
 
-  over_next : (n : ℕ) (value x : List ℕ) → Gets v (strings_in s) n value → Over n x → Over (suc n) (over_old l s n value x)
+  over_next_lem : (n : ℕ) (value x : List ℕ) → Gets v (strings_in s) n value → Over n x → Over (suc n) (over_old l s n value x)
   unfolding over_old
-  over_next n value x g k =
+  over_next_lem n value x g k =
       let fit = fits_each n value g in
       let at : ℕ = spot l s n in
       let low : AllBelow 0x80 value = ascii_below value (plain l s n value fit) in
@@ -191,7 +191,7 @@ module _ (l : Layout) (s : List ℕ) (v : Values) (all : AllFit l s v) where
 
   over_all : Over (strings_in s) x
   unfolding in_place
-  over_all = turn_along v (over_old l s) s Over (strings_in s) over_none over_skip over_next
+  over_all = turn_along v (over_old l s) s Over (strings_in s) over_none over_skip over_next_lem
 
   -- bytes outside storage stay
   pub keeps : (from to : ℕ) → (storage_at l s < to → storage_at l s + storage_in s ≤ from) → Agree s x from to

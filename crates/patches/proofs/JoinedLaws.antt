@@ -18,7 +18,7 @@ use Rattle.format.specs.Hash.{hash_of}
 use Rattle.image.specs.Sections.{strings_in, hashes_at, small_at}
 use Rattle.image.specs.Kinds.{is_identifier, rank_of}
 use Rattle.image.specs.Admitted.{Admitted}
-use Rattle.image.proofs.PlaceLaws.{hash_in}
+use Rattle.image.proofs.PlaceLaws.{hash_in_lem}
 use Rattle.image.proofs.KindLaws.{rank_rises, rank_lt}
 use Rattle.edits.proofs.HitLaws.{sets-both}
 use Rattle.utf.specs.Utf8.{utf16}
@@ -50,7 +50,7 @@ module _ (l : Layout) (s : List ℕ) (id : ℕ) (value : List ℕ) where
     where
       go : (c : Bool) → is_identifier l s id ≡ c → SameByte l s p (pick c (sets a slot hash) a) (pick c (sets b slot hash) b)
       go true n =
-          let fit : slot + 4 ≤ small_at l s = hash_in l s (rank_of l s id) (rank_lt ad id known n) in
+          let fit : slot + 4 ≤ small_at l s = hash_in_lem l s (rank_of l s id) (rank_lt ad id known n) in
           let m : length hash ≡ 4 = length-bytes_of 4 (hash_of (utf16 value)) in
           record {
             left = rw length-sets r.left;

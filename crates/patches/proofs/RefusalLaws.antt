@@ -184,9 +184,9 @@ module _ (m : Mode) (l : Layout) (s : List ℕ) (v : Values) where
   abbrev goes : ℕ → ℕ
   goes = place_after l s (to_values m v)
 
-  pub new_length : new_length m l s v ≡ goes (length s)
+  pub new_length_lem : new_length m l s v ≡ goes (length s)
   unfolding new_length
-  new_length = go (fits_all l s v)
+  new_length_lem = go (fits_all l s v)
     where
       go : (b : Bool) → pick b (length s) (moved (tail_at l s) (new_tail l (strings_with m l s v) s) (length s))
           ≡ moved (tail_at l s) (pick b (tail_at l s) (new_tail l (strings_with m l s v) s)) (length s)

@@ -154,9 +154,9 @@ module _ (l : Layout) (s : List ℕ) (ad : Admitted l s) where
       } in
       (ok, p)
 
-  to_body : (id : ℕ) (body t : List ℕ) → BodyPassed l s id body × (functions.patched_body l s id body ≡ t)
+  to_body_lem : (id : ℕ) (body t : List ℕ) → BodyPassed l s id body × (functions.patched_body l s id body ≡ t)
       → Promise l s t (a_body id body)
-  to_body id body t (ok, p) = subst (λ (x : List ℕ). Promise l s x (a_body id body)) p (body_promise l s id body ok)
+  to_body_lem id body t (ok, p) = subst (λ (x : List ℕ). Promise l s x (a_body id body)) p (body_promise l s id body ok)
 
   -- a patch that is accepted, whatever the room
   pub patch_promise : (p : Patch) (t : List ℕ) → InBytes p → outcome_of l s p ≡ made t → Promise l s t (target_of l s p)
@@ -164,7 +164,7 @@ module _ (l : Layout) (s : List ℕ) (ad : Admitted l s) where
   patch_promise (by_id m id value) t b e = to_strings m (only id value) t (id_passed m id value t b e)
   patch_promise (by_value m old new) t b e = to_strings m (only (find_id l s (utf16 old)) new) t (value_passed m old new t b e)
   patch_promise (in_pass m j k) t b e = to_strings m (values_of j k) t (pass_passed m j k t b e)
-  patch_promise (to_body id body) t b e = to_body id body t (body_passed id body t b e)
+  patch_promise (to_body id body) t b e = to_body_lem id body t (body_passed id body t b e)
 
   -- and in its room
   pub step_promise : (p : Step) (t : List ℕ) → InBytes p.patch → step_of l s p ≡ made t

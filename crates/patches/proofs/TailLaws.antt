@@ -75,9 +75,9 @@ zero_stays l s c st = moved-low (moves_from l s c) (moves_to l s c) 0 (past c st
         let o = ordered l s in
         omega (arith, o.kinds, o.hashes, o.small, o.over, o.storage, o.tail, (st.admitted.body id st.known).0)
 
-header_clear : (l : Layout) (s : List ℕ) (c : Target) → Stepped l s c → (p : ℕ) → TailByte l s c p → (j : ℕ) → Large l s j
+header_clear_lem : (l : Layout) (s : List ℕ) (c : Target) → Stepped l s c → (p : ℕ) → TailByte l s c p → (j : ℕ) → Large l s j
     → Disjoint (place_after l s c (func_of l s j).ptr) (table.large_row l).width (place_after l s c p) 1
-header_clear l s (to_values m v) st p tb j la =
+header_clear_lem l s (to_values m v) st p tb j la =
     let from = tail_at l s in
     let to = moves_to l s (to_values m v) in
     let x : ℕ = (func_of l s j).ptr in
@@ -85,7 +85,7 @@ header_clear l s (to_values m v) st p tb j la =
     let a = moved-high from to x h in
     let b = moved-high from to p tb.tail in
     λ g. rw (a, b) (omega (arith, h, tb.tail, tb.headers j la.known la.large (omega (arith, a, b))))
-header_clear l s (a_body id body) st p tb j la =
+header_clear_lem l s (a_body id body) st p tb j la =
     let f = func_of l s id in
     moved_clear f.begin f.size (length body) (func_of l s j).ptr (table.large_row l).width p
     (λ z. st.admitted.clear id j st.known la.known z la.large) tb.body (tb.headers j la.known la.large)
@@ -95,4 +95,4 @@ pub headers_after : (l : Layout) (s : List ℕ) (t : List ℕ) (c : Target) → 
 headers_after l s t c k st p tb j h g =
     let i : j < functions_in s = rw k.functions at h in
     let e = k.function j i in
-    rw e (header_clear l s c st p tb j (record { known = i; large = rw e at g }))
+    rw e (header_clear_lem l s c st p tb j (record { known = i; large = rw e at g }))

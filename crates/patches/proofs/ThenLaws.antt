@@ -49,7 +49,7 @@ use Rattle.patches.proofs.CalmLaws.{Nearly, calm}
 use Rattle.patches.proofs.InPlaceLaws as in_places
 use Rattle.patches.proofs.InPlaceLaws.{spot, narrow, plain, sized, AllFit, fits_each}
 use Rattle.patches.proofs.StringLaws.{StringsPassed, rebuilds, all_fit, string_promise, string_places}
-use Rattle.patches.proofs.RefusalLaws.{Beyond, new_length, patch_wrong, patch_failed}
+use Rattle.patches.proofs.RefusalLaws.{Beyond, new_length_lem, patch_wrong, patch_failed}
 use Rattle.patches.proofs.JoinedLaws.{SameByte, rehashed_byte, fits-joined, in_place_joined, rehashed-joined}
 use Rattle.patches.proofs.AfterLaws.{final_like, near_byte, changed-fits, changed_away, changed-long, patched_is, changed-hashes}
 use Rattle.patches.proofs.AfterLaws.{changed_restrung, hashed_near, patched_near, patched_restrung, patched_hashes}
@@ -369,8 +369,8 @@ module _ (m : Mode) (l : Layout) (s : List ℕ) (v d : Values) (first : StringsP
   tail_same = omega (
     arith,
     joined_length,
-    new_length m l t d,
-    new_length m l s w,
+    new_length_lem m l t d,
+    new_length_lem m l s w,
     moved-high (tail_at l t) (moves_to l t (to_values m d)) (length t) (omega (arith, bd.room)),
     moved-high (tail_at l s) (moves_to l s (to_values m w)) (length s) (omega (arith, ad.room)),
     frame.long,

@@ -62,11 +62,11 @@ unfolding xor_n
 xor_lt zero a b = omega arith
 xor_lt (suc k) a b = omega (arith, xor_lt k (a / 2) (b / 2))
 
-hash_from : (us : List ℕ) (h : ℕ) → h < 2 ^ 32 → hash_from h us < 2 ^ 32
+hash_from_lem : (us : List ℕ) (h : ℕ) → h < 2 ^ 32 → hash_from h us < 2 ^ 32
 unfolding hash_from hash_step mixed
-hash_from [] h k = k
-hash_from (u ∷ us) h k = hash_from us _ (xor_lt 32 _ _)
+hash_from_lem [] h k = k
+hash_from_lem (u ∷ us) h k = hash_from_lem us _ (xor_lt 32 _ _)
 
 pub hash_lt : (us : List ℕ) → hash_of us < 2 ^ 32
 unfolding hash_of
-hash_lt us = hash_from us 0 (omega arith)
+hash_lt us = hash_from_lem us 0 (omega arith)

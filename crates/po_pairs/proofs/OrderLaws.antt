@@ -44,10 +44,10 @@ never_astray ls h = never (sym (astray_ends Astray ls refl) ∙ h)
 
 -- ---- values grow to those of the definition
 
-last_joined : (vs : List (List ℕ)) (v t : List ℕ) → last_joined (vs ++ (v ∷ [])) t ≡ vs ++ ((v ++ t) ∷ [])
-last_joined [] v t = refl
-last_joined (u ∷ []) v t = refl
-last_joined (u ∷ w ∷ vs) v t = ap (λ (l : List (List ℕ)). u ∷ l) (last_joined (w ∷ vs) v t)
+last_joined_lem : (vs : List (List ℕ)) (v t : List ℕ) → last_joined (vs ++ (v ∷ [])) t ≡ vs ++ ((v ++ t) ∷ [])
+last_joined_lem [] v t = refl
+last_joined_lem (u ∷ []) v t = refl
+last_joined_lem (u ∷ w ∷ vs) v t = ap (λ (l : List (List ℕ)). u ∷ l) (last_joined_lem (w ∷ vs) v t)
 
 -- from a place between pairs all further values are those of the lines; within a value they continue it first
 abbrev Grows : Stand → List Line → Type 0
@@ -76,7 +76,7 @@ module _ (ls : List Line) (t : List ℕ) where
 
   more : ((vs : List (List ℕ)) (v : List ℕ) → grown (vs ++ (v ∷ [])) ls ≡ vs ++ ((v ++ continued ls) ∷ values_of ls))
       → (vs : List (List ℕ)) (v : List ℕ) → next (vs ++ (v ∷ [])) More ≡ vs ++ ((v ++ (t ++ continued ls)) ∷ values_of ls)
-  more p vs v = rw (last_joined vs v t, ← append_assoc v t (continued ls)) (p vs (v ++ t))
+  more p vs v = rw (last_joined_lem vs v t, ← append_assoc v t (continued ls)) (p vs (v ++ t))
 
   blank : ((vs : List (List ℕ)) → grown vs ls ≡ vs ++ values_of ls)
       → (vs : List (List ℕ)) (v : List ℕ) → grown (vs ++ (v ∷ [])) ls ≡ vs ++ ((v ++ []) ∷ values_of ls)

@@ -106,13 +106,13 @@ no_pairs k e = absurd (let z : ◌≡◌ {A = ℕ} 0 1 = cc in omega arith)
 -- ---- what a file says, in the order of the tests
 
 module _ (s : List ℕ) where
-  pub not_utf8 : is_utf8 s ≡ false → read_file s ≡ outside
+  pub not_utf8_lem : is_utf8 s ≡ false → read_file s ≡ outside
   unfolding read_file in_subset
-  not_utf8 h = rw h
+  not_utf8_lem h = rw h
 
-  pub not_ended : is_ended s ≡ false → read_file s ≡ outside
+  pub not_ended_lem : is_ended s ≡ false → read_file s ≡ outside
   unfolding read_file in_subset
-  not_ended h = rw (h, both-none (is_utf8 s))
+  not_ended_lem h = rw (h, both-none (is_utf8 s))
 
   pub unread : Unread s → read_file s ≡ outside
   unfolding read_file in_subset

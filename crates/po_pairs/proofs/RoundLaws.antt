@@ -99,13 +99,13 @@ module _ (v : List ℕ) (h : Plain (escaped v)) where
         escaped_end v (quote_mark ∷ []),
       )
 
-  msgid_line : line_of (msgid_line v) ≡ record { kind = Msgid; text = v }
+  msgid_line_lem : line_of (msgid_line v) ≡ record { kind = Msgid; text = v }
   unfolding line_of unescaped given
-  msgid_line = rw (msgid_kind, escaped_text v (quote_mark ∷ []), append-nil v)
+  msgid_line_lem = rw (msgid_kind, escaped_text v (quote_mark ∷ []), append-nil v)
 
-msgstr_line : line_of msgstr_line ≡ record { kind = Msgstr; text = [] }
+msgstr_line_lem : line_of msgstr_line ≡ record { kind = Msgstr; text = [] }
 unfolding line_of kind_of marked_as begins is_printable all_below quote_end quote_next unescaped given
-msgstr_line = refl
+msgstr_line_lem = refl
 
 empty-line : line_of [] ≡ record { kind = Blank; text = [] }
 unfolding line_of kind_of marked_as is_printable all_below
@@ -124,7 +124,7 @@ entry_read : (v rest : List ℕ) → Plain (escaped v)
     → read_lines (entry_of v ++ rest)
     ≡ record { kind = Msgid; text = v } ∷ record { kind = Msgstr; text = [] } ∷ record { kind = Blank; text = [] } ∷ read_lines rest
 unfolding read_lines
-entry_read v rest h = rw (entry_lines v rest h, msgid_line v h, msgstr_line, empty-line)
+entry_read v rest h = rw (entry_lines v rest h, msgid_line_lem v h, msgstr_line_lem, empty-line)
 
 -- ---- a file of such pairs
 

@@ -107,10 +107,10 @@ each_writable : (uss : List (List ℕ)) → EachValid uss → EachWritable (map 
 each_writable [] v = tt
 each_writable (us ∷ uss) v = (utf16_utf8 us v.0.0 v.0.1, writable_bytes us v.0.2, each_writable uss v.1)
 
-bytes-at : (uss : List (List ℕ)) (i : ℕ) → i < length uss → get_or (map utf8_of uss) i [] ≡ utf8_of (get_or uss i [])
-bytes-at [] i h = absurd (not-suc-le-zero h)
-bytes-at (us ∷ uss) zero h = refl
-bytes-at (us ∷ uss) (suc i) h = bytes-at uss i (omega arith)
+bytes_at_lem : (uss : List (List ℕ)) (i : ℕ) → i < length uss → get_or (map utf8_of uss) i [] ≡ utf8_of (get_or uss i [])
+bytes_at_lem [] i h = absurd (not-suc-le-zero h)
+bytes_at_lem (us ∷ uss) zero h = refl
+bytes_at_lem (us ∷ uss) (suc i) h = bytes_at_lem uss i (omega arith)
 
 bytes_same : (a b : List ℕ) → AllBelow 0x10000 a × (is_utf16 a ≡ true) × (writable a ≡ true)
     → AllBelow 0x10000 b × (is_utf16 b ≡ true) × (writable b ≡ true)
@@ -126,7 +126,7 @@ different_bytes uss v =
     = λ i j h k. bytes_same (get_or uss j []) (get_or uss i []) (valid_at uss j v k) (valid_at uss i v h) in
     rw (length-map uss utf8_of)
     (all_same _ _ (length uss) (λ i h. all_same _ _ i (λ j k.
-    rw (bytes-at uss i h, bytes-at uss j (omega arith), same_at i j h (omega arith)))))
+    rw (bytes_at_lem uss i h, bytes_at_lem uss j (omega arith), same_at i j h (omega arith)))))
 
 pub read_back_units : (uss : List (List ℕ)) → EachValid uss → different uss ≡ true
     → read_file (file_of (map utf8_of uss)) ≡ pairs (map untranslated (map utf8_of uss))

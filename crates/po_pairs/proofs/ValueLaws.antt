@@ -182,9 +182,9 @@ abbrev AllUtf8 : List (List ℕ) → Type 0
 AllUtf8 [] = Unit {0}
 AllUtf8 (v ∷ vs) = (is_utf8 v ≡ true) × AllUtf8 vs
 
-is-utf8 : (v : List ℕ) → utf8_from between v ≡ true → is_utf8 v ≡ true
+is_utf8_lem : (v : List ℕ) → utf8_from between v ≡ true → is_utf8 v ≡ true
 unfolding is_utf8
-is-utf8 v h = h
+is_utf8_lem v h = h
 
 of_utf8 : (v : List ℕ) → is_utf8 v ≡ true → utf8_from between v ≡ true
 unfolding is_utf8
@@ -196,12 +196,12 @@ values_utf8 [] h = tt
 values_utf8 (l ∷ ls) h = go (opens_value l.kind) (values_utf8 ls h.1)
   where
     go : (t : Bool) → AllUtf8 (values_of ls) → AllUtf8 (pick t ((l.text ++ continued ls) ∷ values_of ls) (values_of ls))
-    go true e = (is-utf8 (l.text ++ continued ls) (both_utf8 l.text (continued ls) h.0 (continued_utf8 ls h.1)), e)
+    go true e = (is_utf8_lem (l.text ++ continued ls) (both_utf8 l.text (continued ls) h.0 (continued_utf8 ls h.1)), e)
     go false e = e
 
-values_in : (s : List ℕ) → is_utf8 s ≡ true → AllUtf8 (values_in s)
+values_in_lem : (s : List ℕ) → is_utf8 s ≡ true → AllUtf8 (values_in s)
 unfolding values_in read_lines
-values_in s u = values_utf8 (map line_of (lines_of s)) (texts_utf8 (lines_of s) (lines_utf8 s between (omega arith) (of_utf8 s u)))
+values_in_lem s u = values_utf8 (map line_of (lines_of s)) (texts_utf8 (lines_of s) (lines_utf8 s between (omega arith) (of_utf8 s u)))
 
 -- ---- the pairs
 
@@ -220,7 +220,7 @@ unfolding in_subset
 subset_utf8 s h = both_0 (is_utf8 s) (both (is_ended s) (ends_well (stand_after Between (read_lines s)))) h
 
 -- every msgid and msgstr that is read is UTF-8
-pub all_utf8 : (s : List ℕ) (ps : List Pair) → read_file s ≡ pairs ps → (q : ℕ) → q < length ps → Utf8At ps q
-all_utf8 s ps e q h =
+pub all_utf8_lem : (s : List ℕ) (ps : List Pair) → read_file s ≡ pairs ps → (q : ℕ) → q < length ps → Utf8At ps q
+all_utf8_lem s ps e q h =
     let r = read_is s ps e in
-    rw r.2 (pairs_utf8 (values_in s) (values_in s (subset_utf8 s r.0)) q (rw r.2 at h))
+    rw r.2 (pairs_utf8 (values_in s) (values_in_lem s (subset_utf8 s r.0)) q (rw r.2 at h))

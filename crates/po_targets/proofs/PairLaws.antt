@@ -83,8 +83,8 @@ module _ (r a : Bool) (e : r ≡ a) where
   pub set_aside : (b : Bool) → not r ≡ true → true ≡ implies a b
   set_aside b n = rw (← e, not-true r n)
 
-  pub asked_for : (b : Bool) → not r ≡ false → b ≡ implies a b
-  asked_for b n = rw (← e, not-false r n)
+  pub asked_for_lem : (b : Bool) → not r ≡ false → b ≡ implies a b
+  asked_for_lem b n = rw (← e, not-false r n)
 
   pub fits_not : (b : Bool) → not r ≡ true → false ≡ both a b
   fits_not b n = rw (← e, not-true r n)

@@ -57,9 +57,9 @@ module _ (l : Layout) (s : List ℕ) where
               absurd (none j k (both_of (is_offered l s j) (is_first l s j) offered first) e)
         ]
 
-    pub is-first : is_first l s i ≡ true
+    pub is_first_lem : is_first l s i ≡ true
     unfolding is_first
-    is-first = all_of (is_other (value_of l s i)) i (λ j h. others i j h h)
+    is_first_lem = all_of (is_other (value_of l s i)) i (λ j h. others i j h h)
 
   -- ---- whether a string is written
 

@@ -17,7 +17,7 @@ use Rattle.po_strings.specs.declared.Text.{Text}
 use Rattle.po_strings.specs.Texts.{Inside, units_in}
 use Rattle.po_write.specs.Strings.{value_of, is_first, is_written}
 use Rattle.po_write.specs.Work.{bucket_of, text_at, Kept, Sought}
-use Rattle.po_write.proofs.FirstLaws.{not_first, is-first}
+use Rattle.po_write.proofs.FirstLaws.{not_first, is_first_lem}
 
 module _ (p : Places) (s : List ℕ) (id : ℕ) where
   abbrev SameValue : ℕ → Type 0
@@ -49,7 +49,7 @@ module _ (p : Places) (s : List ℕ) (id : ℕ) where
 
     module _ (c : ℕ) (k : Walks c) where
       pub none_there : c ≤ 0 → true ≡ is_first p.layout s id
-      none_there h = sym (is-first p.layout s id q.held (walk_end _ _ SameValue _ id owned c k h))
+      none_there h = sym (is_first_lem p.layout s id q.held (walk_end _ _ SameValue _ id owned c k h))
 
       module _ (h : 0 < c) where
         abbrev j : ℕ

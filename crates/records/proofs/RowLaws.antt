@@ -26,8 +26,8 @@ pub record RecordRow (k : ℕ) : Type 0 where
 in_low : (at w : ℕ) → pick (ltb at 64) (leb (w + at) 64) true ≡ true → at < 64 → w + at ≤ 64
 in_low at w t h = leb-true (w + at) 64 (rw (lt-ltb at 64 h) at t)
 
-pub record-row : (k : ℕ) → is_record_row k ≡ true → RecordRow k
-record-row k t =
+pub record_row_lem : (k : ℕ) → is_record_row k ≡ true → RecordRow k
+record_row_lem k t =
     let f = row_of k in
     let t₁ = both_1 (ltb k row_count) _ t in
     let t₂ = both_1 (leb f.width 32) _ t₁ in

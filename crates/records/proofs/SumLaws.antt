@@ -38,14 +38,14 @@ unsigned_fits (pos n) h = omega (arith, h.sfits)
 unsigned_fits (negsuc n) h = omega (arith, h.sfits)
 
 module _ (n : ℕ) (delta : ℤ) (b : n < 2 ^ 41) (h : SFits w32 delta) where
-  number_held : to_z w64 n ≡ pos n
-  number_held = to_z-of_z {w = w64} {z = pos n} (record { sfits = omega arith })
+  number_held_lem : to_z w64 n ≡ pos n
+  number_held_lem = to_z-of_z {w = w64} {z = pos n} (record { sfits = omega arith })
 
   delta_held : to_z w64 (of_z w64 (to_z w32 (of_z w32 delta))) ≡ delta
   delta_held = rw (to_z-of_z h) (to_z-of_z (wider delta h))
 
   pub total_is : to_z w64 n +ℤ to_z w64 (of_z w64 (to_z w32 (of_z w32 delta))) ≡ pos n +ℤ delta
-  total_is = rw (number_held, delta_held)
+  total_is = rw (number_held_lem, delta_held)
 
   pub total_held : to_z w64 (of_z w64 (to_z w64 n +ℤ to_z w64 (of_z w64 (to_z w32 (of_z w32 delta))))) ≡ pos n +ℤ delta
   total_held = rw total_is (to_z-of_z (total_fits n delta b h))

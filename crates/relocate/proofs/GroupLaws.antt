@@ -27,9 +27,9 @@ use Rattle.edits.specs.Edit.{Write, write_all, groups, put_small, pointed, put_h
 use Rattle.edits.specs.Fit.{FitsFields, FitsWords, FitsPlaces}
 use Rattle.edits.specs.Rebuild.{resized}
 use Rattle.edits.proofs.WriteLaws.{writes_append}
-use Rattle.image.proofs.PlaceLaws.{ordered, record_in}
-use Rattle.image.proofs.CheckLaws.{headers_in}
-use Rattle.function_table.proofs.ReadLaws.{SmallRead, LargeRead, small_is, is-small, header_is, is-large}
+use Rattle.image.proofs.PlaceLaws.{ordered, record_in_lem}
+use Rattle.image.proofs.CheckLaws.{headers_in_lem}
+use Rattle.function_table.proofs.ReadLaws.{SmallRead, LargeRead, small_is, is-small, header_is, is_large_lem}
 use Rattle.relocate.specs.declared.Cause.{Cause}
 use Rattle.relocate.specs.declared.Cause.TheVariants.{Strings, Body}
 use Rattle.relocate.specs.declared.Move.{Move}
@@ -126,7 +126,7 @@ module _ (l : Layout) (s : List ℕ) (m : Move) (i : ℕ) where
       is-after = got.read.after ∙ ap (func_for (moved_place m) m.cause i) (header_is large_read f₀ got.own)
 
       flag-after : f.large ≡ true
-      flag-after = ap (λ (x : Func). x.large) is-after ∙ after-flag (moved_place m) m.cause i (func_of l s i) ∙ is-large large_read
+      flag-after = ap (λ (x : Func). x.large) is-after ∙ after-flag (moved_place m) m.cause i (func_of l s i) ∙ is_large_lem large_read
 
       pub large_group : (r : ℕ) (all : Bool) (o o₁ o₂ : List ℕ) → LargePut l m i n f r all o o₁ o₂
           → o₂ ≡ write_all (function_group l s m i) o
@@ -144,7 +144,7 @@ module _ (l : Layout) (s : List ℕ) (m : Move) (i : ℕ) where
       header_held room ok c =
           let z : f.ptr ≡ moved_place m (func_of l s i).ptr
           = ap (λ (x : Func). x.ptr) is-after ∙ after-pointer (moved_place m) m.cause i (func_of l s i) in
-          rw z (ok.held i c (is-large large_read))
+          rw z (ok.held i c (is_large_lem large_read))
 
       -- and its words hold it
       pub words_held : (room : ℕ) → Movable l s m room → i < functions_in s → FitsWords f
@@ -223,7 +223,7 @@ moved_past from to p n h k =
 module _ (l : Layout) (s : List ℕ) (m : Move) (room : ℕ) (ok : Movable l s m room) where
   records_before : (j : ℕ) → j < functions_in s → Before (kinds_at l s) (record_group l (writes_all m.cause) s (func_after l s m) j)
   unfolding record_group
-  records_before j h = (rw length-bytes_of (record_in l s j h), tt)
+  records_before j h = (rw length-bytes_of (record_in_lem l s j h), tt)
 
   headers_past : (j : ℕ) → j < functions_in s → Past (kinds_at l s) (header_group l (func_after l s m) j)
   unfolding header_group
@@ -233,7 +233,7 @@ module _ (l : Layout) (s : List ℕ) (m : Move) (room : ℕ) (ok : Movable l s m
       go false e = tt
       go true e =
           let t : (func_of l s j).large ≡ true = sym (after-flag (moved_place m) m.cause j (func_of l s j)) ∙ e in
-          let p : tail_at l s ≤ (func_of l s j).ptr = ((headers_in l s).holds ok.headers j h t).0 in
+          let p : tail_at l s ≤ (func_of l s j).ptr = ((headers_in_lem l s).holds ok.headers j h t).0 in
           let o = ordered l s in
           header_past l (func_after l s m j) (kinds_at l s)
           (rw (after-pointer (moved_place m) m.cause j (func_of l s j))

@@ -18,7 +18,7 @@ use Rattle.image.specs.Sections.{functions_in, debug_in, tail_at}
 use Rattle.image.specs.Functions.{func_of}
 use Rattle.image.specs.Admitted.{Admitted}
 use Rattle.image.proofs.PlaceLaws.{ordered}
-use Rattle.image.proofs.CheckLaws.{headers_in}
+use Rattle.image.proofs.CheckLaws.{headers_in_lem}
 use Rattle.edits.specs.Edit.{move_func}
 use Rattle.edits.specs.Fit.{size_row, fields_fit, FitsPlaces}
 use Rattle.edits.specs.Packing.{Packed}
@@ -122,7 +122,7 @@ module _ (l : Layout) (s : List ℕ) (room : ℕ) where
       let most : m.to ≤ size_limit = omega (arith, ok.limit) in
       record {
         fits = record { most = ok.admitted.most; room = ok.admitted.room };
-        headers = (headers_in l s).passed ok.admitted.header;
+        headers = (headers_in_lem l s).passed ok.admitted.header;
         past = omega (arith, o.hashes, o.small);
         most = most;
         records = omega (arith, o.hashes, o.small);
@@ -144,7 +144,7 @@ module _ (l : Layout) (s : List ℕ) (room : ℕ) where
       let most : m.to ≤ size_limit = omega (arith, ok.limit) in
       record {
         fits = record { most = ok.admitted.most; room = ok.admitted.room };
-        headers = (headers_in l s).passed ok.admitted.header;
+        headers = (headers_in_lem l s).passed ok.admitted.header;
         past = omega (arith, o.hashes, o.small, o.over, o.storage, o.tail, b.0);
         most = most;
         records = omega (arith, o.hashes, o.small, o.over, o.storage, o.tail, b.0);

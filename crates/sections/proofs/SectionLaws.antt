@@ -44,9 +44,9 @@ debug-fits l f e = rw e (go l)
     go Modern = omega arith
     go (Legacy big sources) = omega arith
 
-pub debug_place : (l : Layout) (f : Field) (at : ℕ) → f ≡ table.debug_row l → at ≡ table.place_in l f
+pub debug_place_lem : (l : Layout) (f : Field) (at : ℕ) → f ≡ table.debug_row l → at ≡ table.place_in l f
     → (at ≡ table.place_in l (table.debug_row l)) × (at + 4 ≤ table.header_length)
-debug_place l f at e h = let g = h ∙ ap (table.place_in l) e in (g, omega (arith, g, debug-at l, debug_wide l))
+debug_place_lem l f at e h = let g = h ∙ ap (table.place_in l) e in (g, omega (arith, g, debug-at l, debug_wide l))
 
 pub debug_read : (l : Layout) (s : List ℕ) (at x : ℕ) → at ≡ table.place_in l (table.debug_row l) → x ≡ word_at s at
     → x ≡ debug_in l s

@@ -174,9 +174,9 @@ pub record AsciiStrings (v : ℕ) (text ends : List ℕ) : Type 0 where
   pub current : Current v text ends
   pub plain : ascii (storage_of text ends) ≡ true
 
-ends_within : {text ends : List ℕ} → EndsOrdered text ends → ends_within text ends ≡ true
+ends_within_lem : {text ends : List ℕ} → EndsOrdered text ends → ends_within text ends ≡ true
 unfolding ends_within ends_ascend
-ends_within {text} {ends} o = within_all text ends (length ends) o.ascends o.last
+ends_within_lem {text} {ends} o = within_all text ends (length ends) o.ascends o.last
 
 module _ (v : ℕ) (text ends body : List ℕ) where
   refuses : (n : ℕ) → judge (checks v text ends body) ≡ n → (n ≡ 0 → ⊥) → Refused n ≡ answered (built v text ends body)
@@ -193,20 +193,20 @@ module _ (v : ℕ) (text ends body : List ℕ) where
 
   pub old_version : EndsOrdered text ends → v < least_version → Refused 15 ≡ answered (built v text ends body)
   unfolding checks judge
-  old_version o h = refuses 15 (rw (o.ascends, ends_within o, lt-ltb v least_version h)) (λ e. omega arith)
+  old_version o h = refuses 15 (rw (o.ascends, ends_within_lem o, lt-ltb v least_version h)) (λ e. omega arith)
 
   pub not_ascii : Current v text ends → ascii (storage_of text ends) ≡ false → Refused 8 ≡ answered (built v text ends body)
   unfolding checks judge
   not_ascii d h =
       let o : EndsOrdered text ends = d.ordered in
-      refuses 8 (rw (o.ascends, ends_within o, le-ltb v least_version d.version, h)) (λ e. omega arith)
+      refuses 8 (rw (o.ascends, ends_within_lem o, le-ltb v least_version d.version, h)) (λ e. omega arith)
 
   module _ (f : AsciiStrings v text ends) where
     pub not-small : all_small ends ≡ false → Refused 12 ≡ answered (built v text ends body)
     unfolding checks judge
     not-small h =
         let o : EndsOrdered text ends = f.current.ordered in
-        refuses 12 (rw (o.ascends, ends_within o, le-ltb v least_version f.current.version, f.plain, h)) (λ e. omega arith)
+        refuses 12 (rw (o.ascends, ends_within_lem o, le-ltb v least_version f.current.version, f.plain, h)) (λ e. omega arith)
 
     pub by_length : all_small ends ≡ true
         → length_answer (length_of (length ends) (start_of ends (length ends)) (length body)) ≡ answered (built v text ends body)
@@ -217,7 +217,7 @@ module _ (v : ℕ) (text ends body : List ℕ) where
         let n : ℕ = length_of (length ends) (start_of ends (length ends)) (length body) in
         let m : length (minimal v (storage_of text ends) ends body) ≡ n
         = length-minimal v (storage_of text ends) ends body ∙ rw k in
-        rw (o.ascends, ends_within o, le-ltb v least_version f.current.version, f.plain, h, m)
+        rw (o.ascends, ends_within_lem o, le-ltb v least_version f.current.version, f.plain, h, m)
         (by_limit (ltb size_limit n) _ _ (sym m))
 
 -- ---- what is accepted

@@ -138,8 +138,8 @@ module _ (begin size : ℕ) where
       number_kept table.modern_large_flags g 2 e l ∙ number_kept table.modern_large_frame g 1 d k
       ∙ number_kept table.modern_large_non_ptr_regs g 1 c j
 
-  pub large_offset : begin < 2 ^ 32 → number_held table.large_offset (large_header begin size) ≡ begin
-  large_offset h =
+  pub large_offset_lem : begin < 2 ^ 32 → number_held table.large_offset (large_header begin size) ≡ begin
+  large_offset_lem h =
       behind table.large_offset (omega arith) (omega arith) (omega arith)
       ∙ number_kept table.modern_large_size table.large_offset size b (omega arith)
       ∙ number_kept table.modern_large_params table.large_offset 1 a (omega arith) ∙ number_put table.large_offset begin z (omega arith) h

@@ -29,7 +29,7 @@ use Rattle.string_walk.specs.declared.StringRecord.{StringRecord}
 use Rattle.string_walk.specs.Places.{Stands, Locates}
 use Rattle.string_walk.specs.Units.{unit_at}
 use Rattle.string_walk.specs.Walk.{visits}
-use Rattle.string_walk.proofs.UnitLaws.{units_count, units_at}
+use Rattle.string_walk.proofs.UnitLaws.{units_count, units_at_lem}
 use Rattle.string_walk.proofs.RecordLaws.{record_string, record_count, units_inside}
 use Rattle.string_find.specs.Find.{find_from, find_id, units_at}
 
@@ -76,7 +76,7 @@ string_units s start n wide =
     ext_get_or 0 _ (units_at s start wide 0 n) (units_count s start n wide ∙ sym (length_at s start wide 0 n))
     (λ i h.
     let k : i < n = omega (arith, units_count s start n wide) in
-    units_at s start n wide i k ∙ sym (unit-of s start wide n 0 i k ∙ rw (zero-add i)))
+    units_at_lem s start n wide i k ∙ sym (unit-of s start wide n 0 i k ∙ rw (zero-add i)))
 
 -- ---- what one byte completes
 

@@ -26,7 +26,7 @@ use Rattle.sections.specs.Places.{Laid}
 use Rattle.string_walk.specs.declared.Rank.{Rank}
 use Rattle.string_walk.specs.declared.Rank.TheVariants.{At, Plain}
 use Rattle.string_walk.specs.Records.{rank_in}
-use Rattle.string_walk.proofs.RankLaws.{is_ranked, is_plain, hashes_from, slot_in, rank_slot}
+use Rattle.string_walk.proofs.RankLaws.{is_ranked_lem, is_plain, hashes_from_lem, slot_in, rank_slot}
 use Rattle.string_edits.specs.Values.{Values}
 use Rattle.string_edits.proofs.TurnLaws.{turn_keeps}
 use Rattle.string_in_place.specs.Known.{slotted, SlotFits, Finishable}
@@ -59,8 +59,8 @@ module _ (p : Places) (s : List ℕ) (id : ℕ) (rank : Rank) (n : ℕ) (h : Slo
           → slotted p.hashes_at r (utf16 value) out ≡ pick (is_identifier p.layout s id)
           (sets out (hashes_at p.layout s + rank_of p.layout s id * 4) (bytes_of 4 (hash_of (utf16 value)))) out
       go (At k) e =
-          let (t, g) = is_ranked p.layout s id (At k) e k refl in
-          rw (t, g, hashes_from p s h.laid.placed)
+          let (t, g) = is_ranked_lem p.layout s id (At k) e k refl in
+          rw (t, g, hashes_from_lem p s h.laid.placed)
       go Plain e = rw (is_plain p.layout s id Plain e refl)
 
 length-hashed : (l : Layout) (s : List ℕ) (id : ℕ) (value out : List ℕ) → length (hashed l s id value out) ≡ length out

@@ -269,9 +269,9 @@ module _ (l : Layout) (s x : List ℕ) (r : Admission) (e : r ≡ admitted_as l 
 
 module _ (l : Layout) (s x : List ℕ) (id : ℕ) (h : fill_refusal l s (length x) ≡ 0) (b : id < strings_in s) where
   -- of the index just filled
-  pub looked-up : look_up (index_after l s x) (strings_in s) id ≡ lookup-is.Found (entry_of l s id)
+  pub looked_up_lem : look_up (index_after l s x) (strings_in s) id ≡ lookup-is.Found (entry_of l s id)
   unfolding look_up look_refusal judge index_of
-  looked-up =
+  looked_up_lem =
       let n : List ℕ = runs (strings_in s) (entry_of l s) in
       let room : words_for (strings_in s) ≤ length x = room-is l s x h in
       rw (
@@ -284,4 +284,4 @@ module _ (l : Layout) (s x : List ℕ) (id : ℕ) (h : fill_refusal l s (length 
 
   -- `record_of` is what the walk to string id answers
   pub as_the_walk : look_up (index_after l s x) (strings_in s) id ≡ lookup-is.Found (held_of (record_of l s id))
-  as_the_walk = looked-up ∙ ap lookup-is.Found (sym (held_record l s id))
+  as_the_walk = looked_up_lem ∙ ap lookup-is.Found (sym (held_record l s id))

@@ -30,11 +30,11 @@ module _ (p q : entry.Place) (n m : ℕ) (e : n ≡ size_of q) where
   pub before : p.at < q.at + n → m ≡ size_of p → ltb q.at (p.at + m) ≡ overlap p q
   before h f = rw (← e, lt-ltb p.at (q.at + n) h, f)
 
-pub is_own : (i id : ℕ) (b : Bool) → i ≡ id → true ≡ implies (not (eqb i id)) b
-is_own i id b e = rw (eq-eqb i id e)
+pub is_own_lem : (i id : ℕ) (b : Bool) → i ≡ id → true ≡ implies (not (eqb i id)) b
+is_own_lem i id b e = rw (eq-eqb i id e)
 
-pub is_other : (i id : ℕ) (b c : Bool) → (i ≡ id → ⊥) → c ≡ b → not c ≡ implies (not (eqb i id)) (not b)
-is_other i id b c h e = rw (ne_eqb i id h, e)
+pub is_other_lem : (i id : ℕ) (b c : Bool) → (i ≡ id → ⊥) → c ≡ b → not c ≡ implies (not (eqb i id)) (not b)
+is_other_lem i id b c h e = rw (ne_eqb i id h, e)
 
 -- a place in storage is low
 pub lies_low : (p : Places) (s : List ℕ) → Placed p s → (i : ℕ) (r : Place) → Lies p s i r → Low r

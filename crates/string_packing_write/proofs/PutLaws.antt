@@ -104,8 +104,8 @@ module _ (m : Mode) (p : Places) (s value : List ℕ) (id : ℕ) (x : Shape) (c 
     pub new_at : r.new.at ≡ start
     new_at = ap (λ (q : entry.Place). q.at) new_is
 
-    old-bytes : bytes_at s r.old.start (size_of (as_place r.old.place)) ≡ (string_of p.layout s c.old.id).bytes
-    old-bytes = ap (λ (t : Str). t.bytes) (record_string p s d.turn.laid.placed c.old.id r.old tu.old)
+    old_bytes_lem : bytes_at s r.old.start (size_of (as_place r.old.place)) ≡ (string_of p.layout s c.old.id).bytes
+    old_bytes_lem = ap (λ (t : Str). t.bytes) (record_string p s d.turn.laid.placed c.old.id r.old tu.old)
 
     bytes_is : stored_bytes (eqb c.old.id id) x.wide s value r.old.start (size_of (as_place r.old.place)) ≡ (strings
         c.old.id).bytes
@@ -117,7 +117,7 @@ module _ (m : Mode) (p : Places) (s value : List ℕ) (id : ℕ) (x : Shape) (c 
             (pick n value (bytes_at s r.old.start (size_of (as_place r.old.place))))
             ≡ (new_string (pick n (some value) none) (string_of p.layout s c.old.id)).bytes
         go true = value_bytes value x.wide d.shaped.0
-        go false = old-bytes
+        go false = old_bytes_lem
 
     -- ---- what the calls ask for
 

@@ -277,13 +277,13 @@ module _ (m : Mode) (l : Layout) (s : List ℕ) (words id : ℕ) (value : List �
 
   -- ---- exactly, where the index is long enough
 
-  over_old : (r : Reason) → way_for r ≡ over_old → r ≡ InPlace
-  over_old (Refused n) e = absurd (let z : ◌≡◌ {A = ℕ} 0 1 = cc in omega arith)
-  over_old InPlace e = refl
-  over_old Wide e = absurd (let z : ◌≡◌ {A = ℕ} 0 1 = cc in omega arith)
-  over_old NotAscii e = absurd (let z : ◌≡◌ {A = ℕ} 0 1 = cc in omega arith)
-  over_old (Lengths entry new) e = absurd (let z : ◌≡◌ {A = ℕ} 0 1 = cc in omega arith)
-  over_old (Overlap i) e = absurd (let z : ◌≡◌ {A = ℕ} 0 1 = cc in omega arith)
+  over_old_lem : (r : Reason) → way_for r ≡ over_old → r ≡ InPlace
+  over_old_lem (Refused n) e = absurd (let z : ◌≡◌ {A = ℕ} 0 1 = cc in omega arith)
+  over_old_lem InPlace e = refl
+  over_old_lem Wide e = absurd (let z : ◌≡◌ {A = ℕ} 0 1 = cc in omega arith)
+  over_old_lem NotAscii e = absurd (let z : ◌≡◌ {A = ℕ} 0 1 = cc in omega arith)
+  over_old_lem (Lengths entry new) e = absurd (let z : ◌≡◌ {A = ℕ} 0 1 = cc in omega arith)
+  over_old_lem (Overlap i) e = absurd (let z : ◌≡◌ {A = ℕ} 0 1 = cc in omega arith)
 
   with_number : (r : Reason) (n : ℕ) → made_by m l s id value (way_for r) ≡ refused n → r ≡ Refused n
   with_number (Refused k) n e = ap Refused (let z : k ≡ n = cc in z)
@@ -306,7 +306,7 @@ module _ (m : Mode) (l : Layout) (s : List ℕ) (words id : ℕ) (value : List �
 
     -- it writes over the old bytes exactly for "in place"
     pub in_place_exactly : way_of m l s id value ≡ over_old ↔ reason_of m l s words id value ≡ InPlace
-    in_place_exactly = (λ e. over_old (reason_of m l s words id value) (sym way_told ∙ e), λ e. way_told ∙ ap way_for e)
+    in_place_exactly = (λ e. over_old_lem (reason_of m l s words id value) (sym way_told ∙ e), λ e. way_told ∙ ap way_for e)
 
     -- it packs all strings anew exactly for the four others
     pub anew_exactly : way_of m l s id value ≡ anew ↔ Rebuilds (reason_of m l s words id value)

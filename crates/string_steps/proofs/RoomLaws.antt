@@ -42,16 +42,16 @@ use Rattle.string_steps.specs.Room.{new_size, store_most, tail_most, is_roomy}
 
 -- ---- storage of strings that are no longer than something for each
 
-store_most : (m : Mode) (f : ℕ → Str) (a b : ℕ → ℕ) (n : ℕ) → ((i : ℕ) → i < n → length (f i).bytes ≤ a i + b i)
+store_most_lem : (m : Mode) (f : ℕ → Str) (a b : ℕ → ℕ) (n : ℕ) → ((i : ℕ) → i < n → length (f i).bytes ≤ a i + b i)
     → length (store_of m f n) ≤ sum_below n a + sum_below n b + n
 unfolding store_of sum_below
-store_most m f a b zero h = omega arith
-store_most m f a b (suc n) h =
+store_most_lem m f a b zero h = omega arith
+store_most_lem m f a b (suc n) h =
     let gap : ℕ = gap_of m (f n).wide (length (store_of m f n)) in
     rw (length-append, length-append, length-replicate)
     (omega (
       arith,
-      store_most m f a b n (λ i g. h i (omega arith)),
+      store_most_lem m f a b n (λ i g. h i (omega arith)),
       h n (omega arith),
       gap_most m (f n).wide (length (store_of m f n)),
     ))
@@ -72,9 +72,9 @@ tail_sum at n over store most long e h k = omega arith
 
 module _ (m : Mode) (l : Layout) (s : List ℕ) (v : Values) where
   -- a string with its old value or its new one
-  string_most : (k i : ℕ) → length (string_with l s (up_to k v) i).bytes ≤ length (string_of l s i).bytes + new_size (v i)
+  string_most_lem : (k i : ℕ) → length (string_with l s (up_to k v) i).bytes ≤ length (string_of l s i).bytes + new_size (v i)
   unfolding string_with
-  string_most k i = elim (below_or i k) [
+  string_most_lem k i = elim (below_or i k) [
     | inl g ↦ rw (lt-ltb i k g) (go (v i))
     | inr g ↦ rw (le-ltb i k g) (omega arith)
   ]
@@ -84,15 +84,15 @@ module _ (m : Mode) (l : Layout) (s : List ℕ) (v : Values) where
       go (some value) = omega arith
 
   -- the tail starts no later
-  tail_most : (k : ℕ) → new_tail l (strings_with m l s (up_to k v)) s ≤ tail_most l s v
+  tail_most_lem : (k : ℕ) → new_tail l (strings_with m l s (up_to k v)) s ≤ tail_most l s v
   unfolding padded strings_with tail_most store_most over_at
-  tail_most k =
+  tail_most_lem k =
       let n : ℕ = strings_in s in
       let f : ℕ → Str = string_with l s (up_to k v) in
       rw (length-append, length-replicate)
       (tail_sum (small_at l s) n (overs (placed m f) n) (length (store_of m f n)) _ _ (length-region n (packed m f n))
       (overs_most (placed m f) n)
-      (store_most m f (λ i. length (string_of l s i).bytes) (λ i. new_size (v i)) n (λ i h. string_most k i)))
+      (store_most_lem m f (λ i. length (string_of l s i).bytes) (λ i. new_size (v i)) n (λ i h. string_most_lem k i)))
 
 -- ---- places move no further than the tail
 
@@ -166,13 +166,13 @@ module _ (m : Mode) (l : Layout) (s : List ℕ) (room : ℕ) (v : Values) (so : 
       | inr t ↦
           let e : moved (tail_at l s) to (length s) ≡ length s - tail_at l s + to
           = moved-high (tail_at l s) to (length s) (omega (arith, ad.room)) in
-          rw (t, e) (omega (arith, tail_most m l s v k, enough.output), omega (arith, tail_most m l s v k, enough.limit))
+          rw (t, e) (omega (arith, tail_most_lem m l s v k, enough.output), omega (arith, tail_most_lem m l s v k, enough.limit))
     ]
 
     fits : patch_fits m l s u ≡ true
     unfolding patch_fits
     fits =
-        rw (fields_most l s (tail_at l s) to (tail_most l s v) (tail_most m l s v k) enough.fields) (either_true (fits_all l s u))
+        rw (fields_most l s (tail_at l s) to (tail_most l s v) (tail_most_lem m l s v k) enough.fields) (either_true (fits_all l s u))
 
     ok : StringsPassed m l s u
     ok = record { admitted = ad; bytes = up_bytes m l s room v so k; limit = length_most.1; field = fits }

@@ -125,9 +125,9 @@ module _ (p : Places) (s marks text ends : List ℕ) (mk : Marked p s marks text
   unfolding store_most
   store_is = rw (olds, news, mk.many, sc.strings)
 
-  tail_most : tail_of p most ≡ tail_most p.layout s gets
+  tail_most_lem : tail_of p most ≡ tail_most p.layout s gets
   unfolding tail_most
-  tail_most = rw (store_is, sc.strings, sc.over_from)
+  tail_most_lem = rw (store_is, sc.strings, sc.over_from)
 
   module _ (plan : Plan) (e : plan ≡ plan_of p (length s) most) where
     pub most_tail : plan.tail ≤ plan.length
@@ -136,11 +136,11 @@ module _ (p : Places) (s marks text ends : List ℕ) (mk : Marked p s marks text
 
     plan_tail : plan.tail ≡ tail_most p.layout s gets
     unfolding plan_of
-    plan_tail = ap (λ (x : Plan). x.tail) e ∙ tail_most
+    plan_tail = ap (λ (x : Plan). x.tail) e ∙ tail_most_lem
 
     plan_length : plan.length ≡ length s - tail_at p.layout s + tail_most p.layout s gets
     unfolding plan_of
-    plan_length = ap (λ (x : Plan). x.length) e ∙ rw (tail_most, sc.tail_from)
+    plan_length = ap (λ (x : Plan). x.length) e ∙ rw (tail_most_lem, sc.tail_from)
 
     pub roomy_is : (room : ℕ) → length s ≤ room → (n : ℕ) → n ≡ plan_refusal p s plan room
         → eqb n 0 ≡ is_roomy p.layout s room gets

@@ -59,11 +59,11 @@ after_admitted : (l : Layout) (s : List ℕ) → Admitted l s → (p : Step) →
     → Admitted l t
 after_admitted l s ad p b t q = (step_promise l s ad p t b q).kept.admitted
 
-until_refused : (l : Layout) (ps : List Step) (s : List ℕ) → Admitted l s → AllInBytes ps → (n : ℕ)
+until_refused_lem : (l : Layout) (ps : List Step) (s : List ℕ) → Admitted l s → AllInBytes ps → (n : ℕ)
     → until_refused l ps s ≡ refused n → StopsWith l ps s n
 unfolding until_refused
-until_refused l [] s ad b n e = not_made (sym e)
-until_refused l (p ∷ ps) s ad b n e = go (step_of l s p) refl (λ u a. until_refused l ps u a b.1) e
+until_refused_lem l [] s ad b n e = not_made (sym e)
+until_refused_lem l (p ∷ ps) s ad b n e = go (step_of l s p) refl (λ u a. until_refused_lem l ps u a b.1) e
   where
     go : (o : Outcome) → step_of l s p ≡ o
         → ((u : List ℕ) → Admitted l u → (k : ℕ) → until_refused l ps u ≡ refused k → StopsWith l ps u k)
@@ -84,4 +84,4 @@ stops_until l (p ∷ ps) s ad b n (inr ((t, q), x)) =
 -- the list is refused exactly where one patch is, all before it accepted
 pub refused_until : (l : Layout) (ps : List Step) (s : List ℕ) → Admitted l s → AllInBytes ps → (n : ℕ)
     → until_refused l ps s ≡ refused n ↔ StopsWith l ps s n
-refused_until l ps s ad b n = (until_refused l ps s ad b n, stops_until l ps s ad b n)
+refused_until l ps s ad b n = (until_refused_lem l ps s ad b n, stops_until l ps s ad b n)

@@ -28,9 +28,9 @@ module _ (l : Layout) (s : List ℕ) (id : ℕ) where
       go false = refl
 
   module _ (r : Rank) (e : r ≡ rank_in l s id) where
-    pub is_ranked : (n : ℕ) → r ≡ At n → (is_identifier l s id ≡ true) × (n ≡ rank_of l s id)
+    pub is_ranked_lem : (n : ℕ) → r ≡ At n → (is_identifier l s id ≡ true) × (n ≡ rank_of l s id)
     unfolding rank_in
-    is_ranked n f = go (is_identifier l s id) (sym f ∙ e)
+    is_ranked_lem n f = go (is_identifier l s id) (sym f ∙ e)
       where
         go : (b : Bool) → At n ≡ pick b (At (rank_of l s id)) Plain → (b ≡ true) × (n ≡ rank_of l s id)
         go true h = (refl, cc)
@@ -42,13 +42,13 @@ module _ (l : Layout) (s : List ℕ) (id : ℕ) where
 -- ---- hash slots
 
 module _ (p : Places) (s : List ℕ) (h : Placed p s) where
-  pub hashes_from : p.hashes_at ≡ hashes_at p.layout s
+  pub hashes_from_lem : p.hashes_at ≡ hashes_at p.layout s
   unfolding hashes_at
-  hashes_from = let z : Sectioned p s = sectioned p s h in z.hashes_next ∙ rw (z.kinds_from, z.kinds)
+  hashes_from_lem = let z : Sectioned p s = sectioned p s h in z.hashes_next ∙ rw (z.kinds_from, z.kinds)
 
   pub hash_is : (n x a : ℕ) → x ≡ word_at s a → a ≡ p.hashes_at + n * 4 → x ≡ hash_in p.layout s n
   unfolding hash_in
-  hash_is n x a e f = e ∙ ap (λ (b : ℕ). word_at s b) (f ∙ ap (λ (b : ℕ). b + n * 4) hashes_from)
+  hash_is n x a e f = e ∙ ap (λ (b : ℕ). word_at s b) (f ∙ ap (λ (b : ℕ). b + n * 4) hashes_from_lem)
 
   -- they lie before the small entries
   pub slot_in : (n : ℕ) → n < p.identifiers → p.hashes_at + n * 4 + 4 ≤ p.small_at
@@ -58,6 +58,6 @@ module _ (p : Places) (s : List ℕ) (h : Placed p s) where
 pub rank_slot : (p : Places) (s : List ℕ) → Laid p s → (id : ℕ) → id < p.strings → (r : Rank) → r ≡ rank_in p.layout s id
     → (n : ℕ) → r ≡ At n → n < p.identifiers
 rank_slot p s h id b r e n f =
-    let (t, g) = is_ranked p.layout s id r e n f in
+    let (t, g) = is_ranked_lem p.layout s id r e n f in
     let z : Sectioned p s = sectioned p s h.placed in
     omega (arith, g, rank_lt h.admitted id (omega arith) t)

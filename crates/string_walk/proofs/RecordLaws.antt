@@ -18,7 +18,7 @@ use Rattle.string_walk.specs.declared.StringRecord.{StringRecord}
 use Rattle.string_walk.specs.Records.{rank_in, record_of}
 use Rattle.string_walk.specs.Places.{Stands}
 use Rattle.string_walk.specs.Units.{unit_at}
-use Rattle.string_walk.proofs.UnitLaws.{units_count, units_at}
+use Rattle.string_walk.proofs.UnitLaws.{units_count, units_at_lem}
 
 -- the bytes that a record points at
 abbrev pub standing : List ℕ → StringRecord → Str
@@ -66,7 +66,7 @@ module _ (p : Places) (s : List ℕ) (h : Placed p s) (i : ℕ) (r : StringRecor
   module _ (j : ℕ) (b : j < r.place.count) where
     pub record_unit : unit_at s r.start r.place.wide j ≡ get_or (units_of (string_of p.layout s i)) j 0
     record_unit =
-        sym (units_at s r.start r.place.count r.place.wide j b) ∙ ap (λ (t : Str). get_or (units_of t) j 0) record_string
+        sym (units_at_lem s r.start r.place.count r.place.wide j b) ∙ ap (λ (t : Str). get_or (units_of t) j 0) record_string
 
   -- as many as it has lie in the image
   pub units_inside : (n : ℕ) → n ≤ r.place.count → r.start + n * unit_size r.place.wide ≤ length s

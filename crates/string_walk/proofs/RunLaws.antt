@@ -13,7 +13,7 @@ use Rattle.bits.proofs.TestLaws.{below_or, sum_le}
 use Rattle.format.specs.Table.{if_set}
 use Rattle.image.specs.Sections.{kinds_in}
 use Rattle.image.specs.Kinds.{kind_in, run_of, is_identifier_run, identifier_run, covered, identified, is_identifier, rank_of}
-use Rattle.image.proofs.KindLaws.{covered_next, identified_next, flag_in_run, rank_in_run}
+use Rattle.image.proofs.KindLaws.{covered_next, identified_next, flag_in_run, rank_in_run_lem}
 use Rattle.sections.specs.declared.Places.{Places}
 use Rattle.sections.specs.Places.{Placed, Laid}
 use Rattle.sections.proofs.SectionLaws.{Sectioned, sectioned}
@@ -32,8 +32,8 @@ module _ (r : Run) (id : ℕ) where
   pub plain_run : not r.identifier ≡ true → Plain ≡ rank_in_run r id
   plain_run h = rw (not-true r.identifier h)
 
-  pub identifier-run : not r.identifier ≡ false → At (r.identifiers - (r.end - id)) ≡ rank_in_run r id
-  identifier-run h = rw (not-false r.identifier h)
+  pub identifier_run_lem : not r.identifier ≡ false → At (r.identifiers - (r.end - id)) ≡ rank_in_run r id
+  identifier_run_lem h = rw (not-false r.identifier h)
 
 -- ---- a run among kind words
 
@@ -88,7 +88,7 @@ module _ (p : Places) (s : List ℕ) (h : Placed p s) where
       let e : covered words c + (id - covered words c) ≡ id = omega arith in
       let ends : covered words (suc c) ≡ covered words c + run_of (words c) = covered_next words c in
       let rank : rank_of p.layout s id ≡ identified words c + pick (is_identifier_run (words c)) (id - covered words c) 0
-      = rw e at (rank_in_run words (kinds_in s) c (id - covered words c) m (omega (arith, ends))) in (
+      = rw e at (rank_in_run_lem words (kinds_in s) c (id - covered words c) m (omega (arith, ends))) in (
         sym (flag_in_run words (kinds_in s) c id m b (omega (arith, ends))),
         λ t.
             let more : identified words (suc c) ≡ identified words c + run_of (words c) = identified_next words c ∙ rw t in

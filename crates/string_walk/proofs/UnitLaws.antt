@@ -55,12 +55,12 @@ module _ (s : List ℕ) (start n : ℕ) where
   units_count true = length_pairs (bytes_at s start (n * 2)) ∙ rw (length-bytes_at s start (n * 2)) (omega arith)
   units_count false = length-bytes_at s start (n * 1) ∙ omega arith
 
-  pub units_at : (wide : Bool) (i : ℕ) → i < n → get_or (units_of (string wide)) i 0 ≡ unit_at s start wide i
+  pub units_at_lem : (wide : Bool) (i : ℕ) → i < n → get_or (units_of (string wide)) i 0 ≡ unit_at s start wide i
   unfolding units_of
-  units_at true i h =
+  units_at_lem true i h =
       let l : length (bytes_at s start (n * 2)) ≡ n * 2 = length-bytes_at s start (n * 2) in
       let e : start + (i * 2 + 1) ≡ start + i * 2 + 1 = omega arith in
       pair_at (bytes_at s start (n * 2)) i (omega arith)
       ∙ rw (get_d_bytes_at s (n * 2) start (i * 2) (omega arith), get_d_bytes_at s (n * 2) start (i * 2 + 1) (omega arith), e)
       (wide_unit s start i (start + i * 2) refl)
-  units_at false i h = get_d_bytes_at s (n * 1) start i (omega arith) ∙ narrow_unit s start i
+  units_at_lem false i h = get_d_bytes_at s (n * 1) start i (omega arith) ∙ narrow_unit s start i

@@ -30,10 +30,10 @@ use Rattle.string_walk.proofs.VisitLaws.{over_most, walked_over, over_walked, wa
 
 -- ---- the count of pairs, one entry further
 
-pub over_next : (w : ℕ → ℕ) (i k x r : ℕ) → k ≡ over_before w i → x ≡ w i → r ≡ k + entry.bit (is_full x)
+pub over_next_lem : (w : ℕ → ℕ) (i k x r : ℕ) → k ≡ over_before w i → x ≡ w i → r ≡ k + entry.bit (is_full x)
     → r ≡ over_before w (i + 1)
 unfolding over_before
-over_next w i k x r e f g = g ∙ rw (add-one, e, f)
+over_next_lem w i k x r e f g = g ∙ rw (add-one, e, f)
 
 pub count_in : (q : entry.Place) → q.count ≤ size_of q
 count_in q = go q.wide q.count
@@ -58,13 +58,13 @@ module _ (p : Places) (s : List ℕ) (c : Counts) (x : ℕ) (h : EntryAt p s c x
   over : c.over ≡ over_before w c.small
   over = walked_over p.layout s c h.walked
 
-  id_in : c.small < strings_in s
-  id_in = omega (arith, h.known, (sectioned p s h.laid.placed).strings)
+  id_in_lem : c.small < strings_in s
+  id_in_lem = omega (arith, h.known, (sectioned p s h.laid.placed).strings)
 
   pub pair_there : is_full x ≡ true → p.over_at + c.over * 8 + 8 ≤ length s
   pair_there t =
       let z : Sectioned p s = sectioned p s h.laid.placed in
-      omega (arith, over, overflow_in h.laid.admitted c.small id_in (ap is_full (sym h.entry) ∙ t))
+      omega (arith, over, overflow_in h.laid.admitted c.small id_in_lem (ap is_full (sym h.entry) ∙ t))
 
   pub pairs_few : (p.over_at < 1099511627776) × (c.over < 4294967296)
   pairs_few =
@@ -80,12 +80,12 @@ module _ (p : Places) (s : List ℕ) (c : Counts) (x : ℕ) (h : EntryAt p s c x
       let z : Sectioned p s = sectioned p s h.laid.placed in
       let q : as_place r ≡ place_at p.layout s c.small = g ∙ image_place p s h.laid.placed c.over x ∙ located in
       let m : r.at + size_of (as_place r) ≤ storage_in s
-      = subst⁻¹ (λ (y : entry.Place). y.at + size_of y ≤ storage_in s) q (h.laid.admitted.stored c.small id_in) in
+      = subst⁻¹ (λ (y : entry.Place). y.at + size_of y ≤ storage_in s) q (h.laid.admitted.stored c.small id_in_lem) in
       record { is = q; count = count_in (as_place r); stored = omega arith; before = omega arith }
 
   pub walked_next : (n : Counts) → n.small ≡ c.small + 1 → n.over ≡ c.over + entry.bit (is_full x) → Walked p.layout s n
   walked_next n e f =
-      over_walked p.layout s n (over_next w c.small c.over x n.over over h.entry f ∙ ap (over_before w) (sym e))
+      over_walked p.layout s n (over_next_lem w c.small c.over x n.over over h.entry f ∙ ap (over_before w) (sym e))
 
 -- behind a string of a pass, what is visited is what locating that string visits
 pub pass_visits : (p : Places) (s : List ℕ) (c : Cursor) (r : Visited) → VisitedOf p s c r → (n : Counts) → n ≡ counts_of r.next

@@ -176,12 +176,12 @@ module _ (m : Mode) (l : Layout) (s : List ℕ) (r : Admission) (p : Places) (ol
       id-is : id ≡ at
       id-is = (located_at p s _ refusals.absent loc h.location id q n v).0 ∙ found_here
 
-      id_in : id < p.strings
-      id_in = (located_self p s _ refusals.absent loc h.location id q n v).0
+      id_in_lem : id < p.strings
+      id_in_lem = (located_self p s _ refusals.absent loc h.location id q n v).0
 
       found_is : patch_by_value m l s old new ≡ patch_known m l s (only id new)
       unfolding patch_known judge
-      found_is = sought ∙ rw (← id-is, ← strings_is l s r p admits, lt-leb p.strings id id_in)
+      found_is = sought ∙ rw (← id-is, ← strings_is l s r p admits, lt-leb p.strings id id_in_lem)
 
       pub value_known : (a : Answer) (o : List ℕ) → Answers (roomed (length out) (patch_known m p.layout s (only id new))) a out o
           → Answers (roomed (length out) (patch_by_value m l s old new)) a out o

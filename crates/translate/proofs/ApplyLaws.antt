@@ -25,7 +25,7 @@ use Rattle.po_pairs.specs.declared.Pairs.TheVariants.{Read as ReadPairs, Outside
 use Rattle.po_pairs.specs.Pairs.{Pair, msgid_of, msgstr_of, Read, outside, pairs, read_file}
 use Rattle.po_pairs.specs.Held.{HeldPairs, ChainedPairs, ReadAs}
 use Rattle.po_pairs.proofs.PairLaws.{no_pairs}
-use Rattle.po_pairs.proofs.ValueLaws.{all_utf8}
+use Rattle.po_pairs.proofs.ValueLaws.{all_utf8_lem}
 use Rattle.po_pairs.proofs.TellLaws.{one_pair_units}
 use Rattle.po_targets.specs.Targets.{target_of, all_found}
 use Rattle.po_targets.specs.Marks.{id_in, str_in, Different, Entered, mark_of}
@@ -144,7 +144,7 @@ module _ (p : Places) (s file text ends w : List ℕ) (k : ℕ) (mo : MarkedOf p
     many = many ∙ sym strings;
     valid = λ id j t.
         let (q, h, e) = told_pair p.layout s text ends ps marks marked_by id j t in
-        rw (e, mo.read.held.msgstrs q h) (all_utf8 file ps mo.read.is q h).1;
+        rw (e, mo.read.held.msgstrs q h) (all_utf8_lem file ps mo.read.is q h).1;
   }
 
   -- ---- what is answered

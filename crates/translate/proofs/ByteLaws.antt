@@ -26,7 +26,7 @@ use Rattle.patches.specs.Lists.{InBytes, AllInBytes}
 use Rattle.patches.specs.Orders.{id_step}
 use Rattle.string_steps.specs.Steps.{steps_of}
 use Rattle.po_pairs.specs.Pairs.{Pair, msgid_of, msgstr_of, pairs, read_file}
-use Rattle.po_pairs.proofs.ValueLaws.{all_utf8}
+use Rattle.po_pairs.proofs.ValueLaws.{all_utf8_lem}
 use Rattle.po_targets.specs.Targets.{target_of}
 use Rattle.translate.specs.Translate.{given_by, file_values}
 use Rattle.translate.proofs.MarkLaws.{target_most}
@@ -97,7 +97,7 @@ given_bytes : (ps : List Pair) (file : List ℕ) → read_file file ≡ pairs ps
 given_bytes ps file e zero h value q = absurd (none-some value q)
 given_bytes ps file e (suc k) h value q =
     let z : msgstr_of ps k ≡ value = cc in
-    rw (← z) (utf8_bytes (msgstr_of ps k) (all_utf8 file ps e k (omega arith)).1)
+    rw (← z) (utf8_bytes (msgstr_of ps k) (all_utf8_lem file ps e k (omega arith)).1)
 
 pub patches_bytes : (m : Mode) (l : Layout) (s : List ℕ) (room : ℕ) (file : List ℕ) (ps : List Pair) → read_file file ≡ pairs ps
     → AllInBytes (steps_of m room (file_values l s ps) (strings_in s))

@@ -60,9 +60,9 @@ hash_append h [] vs = refl
 hash_append h (u ∷ us) vs = hash_append (hash_step h u) us vs
 
 -- the code's step of the hash: a shifted word is cut to 32 bits before it is added
-pub hash-step : (h u a b : ℕ) → a ≡ add32 h u → b ≡ add32 a (a * 1024 % 2 ^ 32) → xor32 b (b / 64) ≡ hash_step h u
+pub hash_step_lem : (h u a b : ℕ) → a ≡ add32 h u → b ≡ add32 a (a * 1024 % 2 ^ 32) → xor32 b (b / 64) ≡ hash_step h u
 unfolding hash_step mixed add32
-hash-step h u a b p q =
+hash_step_lem h u a b p q =
     let e : b ≡ (a + a * 1024) % 2 ^ 32 = q ∙ add-mod-mod a (a * 1024) (2 ^ 32) in
     rw (e, p)
 

@@ -58,8 +58,8 @@ record First (bs : List ℕ) : Type 0 where
   valid : utf8_from (further 0 point) rest ≡ true
 
 -- a second byte has a range of its own behind some first bytes
-least_of : (b k a x : ℕ) → 0x80 ≤ a → pick (eqb b k) a 0x80 ≤ x → (0x80 ≤ x) × (b ≡ k → a ≤ x)
-least_of b k a x h = go (eqb b k) refl
+least_of_lem : (b k a x : ℕ) → 0x80 ≤ a → pick (eqb b k) a 0x80 ≤ x → (0x80 ≤ x) × (b ≡ k → a ≤ x)
+least_of_lem b k a x h = go (eqb b k) refl
   where
     go : (t : Bool) → eqb b k ≡ t → pick t a 0x80 ≤ x → (0x80 ≤ x) × (b ≡ k → a ≤ x)
     go true e l = (omega arith, λ q. l)
@@ -107,7 +107,7 @@ module _ (b : ℕ) (bs : List ℕ) where
       let u = further_byte (further 1 ((b - 0xE0) * 64 + (x - 0x80))) t.rest refl (omega arith) t.valid in
       let y = u.byte in
       let c = ((b - 0xE0) * 64 + (x - 0x80)) * 64 + (y - 0x80) in
-      let from = least_of b 0xE0 0xA0 x (omega arith) t.least in
+      let from = least_of_lem b 0xE0 0xA0 x (omega arith) t.least in
       let to = most_of b 0xED 0x9F x (omega arith) t.most in
       let l : 0x80 ≤ y = u.least in
       let m : y ≤ 0xBF = u.most in
@@ -145,7 +145,7 @@ module _ (b : ℕ) (bs : List ℕ) where
       let w = further_byte (further 1 (((b - 0xF0) * 64 + (x - 0x80)) * 64 + (y - 0x80))) u.rest refl (omega arith) u.valid in
       let z = w.byte in
       let c = (((b - 0xF0) * 64 + (x - 0x80)) * 64 + (y - 0x80)) * 64 + (z - 0x80) in
-      let from = least_of b 0xF0 0x90 x (omega arith) t.least in
+      let from = least_of_lem b 0xF0 0x90 x (omega arith) t.least in
       let to = most_of b 0xF4 0x8F x (omega arith) t.most in
       let l : 0x80 ≤ y = u.least in
       let m : y ≤ 0xBF = u.most in

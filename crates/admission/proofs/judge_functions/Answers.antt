@@ -7,11 +7,11 @@ use Rattle.admission.proofs.StageLaws.{InTail, functions_are_in, is-in-tail}
 use Rattle.admission.proofs.StageLaws.{not_in_tail, headers_are_in, bad_debug, not-apart, good_functions}
 use Rattle.admission.proofs.judge_functions.Goals as goal
 
-functions_in : (c : goal.Else-not-are_functions_in_tail) → let a = c.args in functions_in_tail a.p.layout a.image.now ≡ true
-functions_in c = functions_are_in c.args.p _ _ c.are_functions_in_tail.ensures c.if-not-are_functions_in_tail.false
+functions_in_lem : (c : goal.Else-not-are_functions_in_tail) → let a = c.args in functions_in_tail a.p.layout a.image.now ≡ true
+functions_in_lem c = functions_are_in c.args.p _ _ c.are_functions_in_tail.ensures c.if-not-are_functions_in_tail.false
 
 in_tail : (c : goal.Else-not-is_debug_in_tail) → let a = c.args in InTail a.p.layout a.image.now
-in_tail c = is-in-tail c.args.p _ (functions_in c) _
+in_tail c = is-in-tail c.args.p _ (functions_in_lem c) _
     c.is_debug_in_tail.ensures c.if-not-is_debug_in_tail.false
 
 pub returns-then-not-are_functions_in_tail : goal.returns-then-not-are_functions_in_tail
@@ -19,13 +19,13 @@ returns-then-not-are_functions_in_tail c = not_in_tail _ _ _ c.are_functions_in_
 
 pub returns-then-not-is_debug_in_tail : goal.returns-then-not-is_debug_in_tail
 returns-then-not-is_debug_in_tail c =
-    bad_debug _ _ (functions_in (goal.at.returns-then-not-is_debug_in_tail c).Else-not-are_functions_in_tail) _ c.is_debug_in_tail.ensures c.if-not-is_debug_in_tail.true
+    bad_debug _ _ (functions_in_lem (goal.at.returns-then-not-is_debug_in_tail c).Else-not-are_functions_in_tail) _ c.is_debug_in_tail.ensures c.if-not-is_debug_in_tail.true
 
 pub are_headers_apart-requires : goal.are_headers_apart-requires
 are_headers_apart-requires c =
     let p = c.requires in
     record {
-      readable = (p.fits, headers_are_in c.args.p _ (functions_in (goal.at.are_headers_apart-requires c).Else-not-are_functions_in_tail));
+      readable = (p.fits, headers_are_in c.args.p _ (functions_in_lem (goal.at.are_headers_apart-requires c).Else-not-are_functions_in_tail));
       n_value = (sectioned c.args.p _ p).functions;
     }
 

@@ -2,7 +2,7 @@ use Prim.Native.Nat.{◌-◌}
 use mathlib.Core.Bool.{true}
 use native.Mathlib.Omega.{arith}
 use Rattle.bits.proofs.PassLaws.{pass_none, pass_next}
-use Rattle.image.proofs.CheckLaws.{headers_in}
+use Rattle.image.proofs.CheckLaws.{headers_in_lem}
 use Rattle.sections.proofs.SectionLaws.{sectioned}
 use Rattle.function_checks.proofs.AloneLaws.{alone_is, alone_stop, alone_end}
 use Rattle.function_checks.proofs.stands_alone.Goals as goal
@@ -13,7 +13,7 @@ loop-j-init c = (omega arith, pass_none _)
 pub function_at-g-requires : goal.function_at-g-requires
 function_at-g-requires c =
     record {
-      readable = (c.requires.laid.placed.fits, (headers_in _ _).passed c.requires.laid.admitted.header);
+      readable = (c.requires.laid.placed.fits, (headers_in_lem _ _).passed c.requires.laid.admitted.header);
       i_bound = omega
           (arith, (sectioned c.args.p c.args.image.now c.requires.laid.placed).functions);
     }

@@ -1,7 +1,7 @@
 -- The record's place lies before the tail, so that its part of the image is as long as the record.
 use native.Mathlib.Omega.{arith}
 use Rattle.sections.proofs.SectionLaws.{records_few}
-use Rattle.function_table.proofs.ReadLaws.{SlotRead, slot_ends, slot_long, slot_record}
+use Rattle.function_table.proofs.ReadLaws.{SlotRead, slot_ends, slot_long, slot_record_lem}
 use Rattle.function_table.proofs.record_of.Goals as goal
 
 -- where the record lies
@@ -29,4 +29,4 @@ pub load_record-requires : goal.load_record-requires
 load_record-requires c = slot_long (slot (goal.at.load_record-requires c).After-record_row)
 
 pub returns : goal.returns
-returns c = slot_record (slot (goal.at.returns c).After-record_row) _ c.load_record.ensures
+returns c = slot_record_lem (slot (goal.at.returns c).After-record_row) _ c.load_record.ensures

@@ -1,8 +1,8 @@
 -- One way out for each condition, in the order of 01; each later one has all before it at hand.
 use native.Mathlib.Omega.{arith}
-use Rattle.functions.proofs.AdmitLaws.{least_length, target_ends}
+use Rattle.functions.proofs.AdmitLaws.{least_length_lem, target_ends}
 use Rattle.functions.proofs.JudgeLaws.{Chosen, LeftAlone, Clear, Grounded, Short, Held}
-use Rattle.functions.proofs.JudgeLaws.{is-alone, is_clear, is_grounded, is-short, is_held}
+use Rattle.functions.proofs.JudgeLaws.{is_alone_lem, is_clear, is_grounded, is-short, is_held}
 use Rattle.functions.proofs.JudgeLaws.{not_alone, debug_before, put_in_nothing, too_long, short_enough, size-beyond}
 use Rattle.functions.proofs.JudgeLaws.{fields_beyond, all_fit}
 use Rattle.functions.proofs.judge_body.Goals as goal
@@ -11,7 +11,7 @@ chosen : (c : goal.Start) → Chosen c.args.p.layout c.args.image.now c.args.id 
 chosen c = record { admitted = c.requires.laid.admitted; known = c.requires.id_bound.0; is = c.requires.id_bound.1 }
 
 alone : (c : goal.Else-not-stands_alone) → Here LeftAlone c
-alone c = is-alone c.args.body.now (chosen c) _ c.stands_alone.ensures c.if-not-stands_alone.false
+alone c = is_alone_lem c.args.body.now (chosen c) _ c.stands_alone.ensures c.if-not-stands_alone.false
 
 clear : (c : goal.Else-not-is_debug_past) → Here Clear c
 clear c = is_clear (alone c) _ c.is_debug_past.ensures c.if-not-is_debug_past.false
@@ -37,7 +37,7 @@ returns-then-not-stands_alone c =
     not_alone c.args.body.now (chosen (goal.at.returns-then-not-stands_alone c).Start) _ c.stands_alone.ensures c.if-not-stands_alone.true
 
 pub is_debug_past-requires : goal.is_debug_past-requires
-is_debug_past-requires c = omega (arith, least_length c.args.p.layout c.args.image.now c.requires.laid.admitted)
+is_debug_past-requires c = omega (arith, least_length_lem c.args.p.layout c.args.image.now c.requires.laid.admitted)
 
 pub returns-then-not-is_debug_past : goal.returns-then-not-is_debug_past
 returns-then-not-is_debug_past c =

@@ -1,6 +1,6 @@
 -- The image's own number first, then 7, then what `judge_body` says of a function that is there.
 use mathlib.Core.Path.{sym, ◌∙◌}
-use Rattle.functions.proofs.JudgeLaws.{FunctionKnown, image_refused, no_function, function-asked, body_asked, body_judged}
+use Rattle.functions.proofs.JudgeLaws.{FunctionKnown, image_refused, no_function_lem, function-asked, body_asked, body_judged}
 use Rattle.functions.proofs.measure.Goals as goal
 
 -- the image is admitted, and has the function
@@ -21,7 +21,7 @@ returns-in_default c =
 pub returns-then-p-id : goal.returns-then-p-id
 returns-then-p-id c =
     let a = c.args in
-    no_function a.layout a.image.now a.id a.body.now _ c.admit-admitted.ensures _ c.in-Laid.is
+    no_function_lem a.layout a.image.now a.id a.body.now _ c.admit-admitted.ensures _ c.in-Laid.is
     c.if-p-id.true
 
 pub function_at-f-requires : goal.function_at-f-requires

@@ -15,7 +15,7 @@ begun c = record {
 -- the new body is put in
 spliced : (c : goal.After-put_spliced) → let a = c.args in
     Spliced a.layout a.image.now a.id a.body.now (length a.out.now) c.function_at-f.result
-    c.put_spliced.new.0
+    c.put_spliced.new.out
 spliced c = record { begun = begun c; spliced = c.put_spliced.ensures }
 
 pub function_at-f-requires : goal.function_at-f-requires

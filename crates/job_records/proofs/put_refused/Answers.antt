@@ -9,10 +9,10 @@ pub returns : goal.returns
 unfolding refused_at_line spaced
 returns c =
     let a = c.args in (
-      wrote_then a.out.now c.put_number-b.new.0 c.put_number.new.0
+      wrote_then a.out.now c.put_number-b.new.out c.put_number.new.out
           (spaced ((0x72 ∷ 0x65 ∷ 0x66 ∷ 0x75 ∷ 0x73 ∷ 0x65 ∷ 0x64 ∷ []) ∷ decimal a.k ∷ []))
           (decimal a.number ++ (10 ∷ [])) 0 _ _
-          (wrote_then a.out.now c.put_text-a.new.0 c.put_number-b.new.0
+          (wrote_then a.out.now c.put_text-a.new.out c.put_number-b.new.out
           (spaced ((0x72 ∷ 0x65 ∷ 0x66 ∷ 0x75 ∷ 0x73 ∷ 0x65 ∷ 0x64 ∷ []) ∷ [])) (decimal a.k ++ (32 ∷ [])) 0 _ _
           c.put_text-a.ensures c.put_number-b.ensures.0) c.put_number.ensures.0,
       omega

@@ -4,7 +4,7 @@ use native.Mathlib.Omega.{arith}
 use Rattle.bits.proofs.PassLaws.{pass_none, pass_next}
 use Rattle.function_table.specs.Functions.{as_func}
 use Rattle.large_headers.specs.Clear.{clear_at}
-use Rattle.large_headers.proofs.ClearLaws.{WithHeader, ClearTurn, no_header, clear_at_lem, header-not_clear, header_clear}
+use Rattle.large_headers.proofs.ClearLaws.{WithHeader, ClearTurn, no_header, clear_at_lem, header-not_clear, header_clear_lem}
 use Rattle.large_headers.proofs.is_header_clear.Goals as goal
 
 -- function j has a large header
@@ -64,4 +64,4 @@ loop-i-preserved c =
 pub returns : goal.returns
 returns c =
     let l = c.loop-i in
-    header_clear (headed (goal.at.returns c).Else-not-g) l.i (omega arith) l.invariant.1
+    header_clear_lem (headed (goal.at.returns c).Else-not-g) l.i (omega arith) l.invariant.1

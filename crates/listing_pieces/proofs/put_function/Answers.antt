@@ -1,11 +1,11 @@
 -- Nothing where all functions are listed; else the line of the next.
 use native.Mathlib.Omega.{arith}
-use Rattle.listing_pieces.proofs.PointLaws.{no_function, gives_function}
+use Rattle.listing_pieces.proofs.PointLaws.{no_function_lem, gives_function}
 use Rattle.listing_pieces.proofs.put_function.Goals as goal
 
 pub returns-then-p-i : goal.returns-then-p-i
 returns-then-p-i c =
-    no_function c.args.p c.args.image.now c.requires.laid.placed c.args.out.now c.args.out.now
+    no_function_lem c.args.p c.args.image.now c.requires.laid.placed c.args.out.now c.args.out.now
     c.args.at c.args.at c.args.i c.if-p-i.true
 
 pub returns : goal.returns

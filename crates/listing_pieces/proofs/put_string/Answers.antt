@@ -1,12 +1,12 @@
 -- The line of the string whose turn it is, before its units.
-use Rattle.listing_pieces.proofs.PointLaws.{no_string, gives_string}
+use Rattle.listing_pieces.proofs.PointLaws.{no_string_lem, gives_string}
 use Rattle.listing_pieces.proofs.put_string.Goals as goal
 
 pub returns-then-p-id : goal.returns-then-p-id
 returns-then-p-id c =
     λ s ready good.
     let a = c.args in
-    no_string a.p s ready.laid.placed a.out.now a.out.now a.at a.at a.turn c.if-p-id.true
+    no_string_lem a.p s ready.laid.placed a.out.now a.out.now a.at a.at a.turn c.if-p-id.true
 
 pub returns : goal.returns
 returns c =

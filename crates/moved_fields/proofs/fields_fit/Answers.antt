@@ -3,7 +3,7 @@ use mathlib.Core.Bool.{true}
 use native.Mathlib.Omega.{arith}
 use Rattle.bits.proofs.PassLaws.{pass_none, pass_next}
 use Rattle.format.specs.Move.{moved}
-use Rattle.image.proofs.CheckLaws.{headers_in}
+use Rattle.image.proofs.CheckLaws.{headers_in_lem}
 use Rattle.sections.proofs.SectionLaws.{sectioned}
 use Rattle.moved_fields.proofs.FitLaws.{fit_is, fields_stop, fields_end}
 use Rattle.moved_fields.proofs.fields_fit.Goals as goal
@@ -14,7 +14,7 @@ loop-i-init c = (omega arith, pass_none _)
 pub function_at-f-requires : goal.function_at-f-requires
 function_at-f-requires c =
     record {
-      readable = (c.requires.laid.placed.fits, (headers_in _ _).passed c.requires.laid.admitted.header);
+      readable = (c.requires.laid.placed.fits, (headers_in_lem _ _).passed c.requires.laid.admitted.header);
       i_bound = omega
           (arith, (sectioned c.args.p c.args.image.now c.requires.laid.placed).functions);
     }

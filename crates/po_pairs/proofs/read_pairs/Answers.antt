@@ -2,20 +2,20 @@
 use mathlib.Core.Path.{sym, ◌∙◌}
 use native.Mathlib.Omega.{arith}
 use borrow.Author.Tests.{not-true, not-false}
-use Rattle.po_pairs.proofs.PairLaws.{not_utf8, not_ended, unread, file-answered}
+use Rattle.po_pairs.proofs.PairLaws.{not_utf8_lem, not_ended_lem, unread, file-answered}
 use Rattle.po_pairs.proofs.read_pairs.Goals as goal
 
 pub returns-then-not-is_utf8 : goal.returns-then-not-is_utf8
 returns-then-not-is_utf8 c =
     let u = c.is_utf8 in
     let a = c.args in
-    rw (not_utf8 a.file.now (sym u.ensures ∙ not-true u.result c.if-not-is_utf8.true))
+    rw (not_utf8_lem a.file.now (sym u.ensures ∙ not-true u.result c.if-not-is_utf8.true))
 
 pub returns-then-not-is_ended : goal.returns-then-not-is_ended
 returns-then-not-is_ended c =
     let e = c.is_ended in
     let a = c.args in
-    rw (not_ended a.file.now (sym e.ensures ∙ not-true e.result c.if-not-is_ended.true))
+    rw (not_ended_lem a.file.now (sym e.ensures ∙ not-true e.result c.if-not-is_ended.true))
 
 pub returns-in_default : goal.returns-in_default
 returns-in_default c =

@@ -3,7 +3,7 @@ use mathlib.Core.Path.{sym, ◌∙◌}
 use native.Mathlib.Omega.{arith}
 use Rattle.bits.specs.Words.{whole}
 use Rattle.sections.proofs.SectionLaws.{records_few}
-use Rattle.image.proofs.PlaceLaws.{record_in}
+use Rattle.image.proofs.PlaceLaws.{record_in_lem}
 use Rattle.function_table.specs.Functions.{as_func}
 use Rattle.function_table.proofs.ReadLaws.{LargeRead, header-fits}
 use Rattle.relocate.proofs.GroupLaws.{SmallMoved, LargeMoved, small_group, large_group, fields_held, header_held, words_held}
@@ -58,7 +58,7 @@ put_record-requires c =
     let a = c.args in (
       records_few a.layout a.image.now a.i c.requires.movable.fits c.requires.i_bound,
       omega
-          (arith, record_in a.layout a.image.now a.i c.requires.i_bound, c.requires.movable.records),
+          (arith, record_in_lem a.layout a.image.now a.i c.requires.i_bound, c.requires.movable.records),
     )
 
 pub returns-then-not-is_large : goal.returns-then-not-is_large
@@ -92,7 +92,7 @@ put_record-requires-2 c =
     let a = c.args in (
       records_few a.layout a.image.now a.i c.requires.movable.fits c.requires.i_bound,
       omega
-          (arith, record_in a.layout a.image.now a.i c.requires.i_bound, c.requires.movable.records),
+          (arith, record_in_lem a.layout a.image.now a.i c.requires.i_bound, c.requires.movable.records),
     )
 
 pub put_header-requires : goal.put_header-requires

@@ -1,6 +1,6 @@
 use native.Mathlib.Omega.{arith}
 use borrow.Author.Tests.{not-false}
-use Rattle.string_walk.proofs.RunLaws.{plain_run, identifier-run}
+use Rattle.string_walk.proofs.RunLaws.{plain_run, identifier_run_lem}
 use Rattle.string_walk.proofs.rank_in.Goals as goal
 
 pub returns-then-not-run : goal.returns-then-not-run
@@ -12,4 +12,4 @@ overflow_sub-result-2 c = omega (arith, c.requires.id_bound (not-false _ c.if-no
 pub returns : goal.returns
 returns c =
     let a = c.args in
-    identifier-run a.run a.id c.if-not-run.false
+    identifier_run_lem a.run a.id c.if-not-run.false

@@ -10,6 +10,6 @@ pub returns : goal.returns
 unfolding hex4 hex8
 returns c =
     let a = c.args in
-    let w = wrote_then a.out.now c.put_hex.new.0 c.put_hex-2.new.0 (hex4 (a.word / 65536))
+    let w = wrote_then a.out.now c.put_hex.new.out c.put_hex-2.new.out (hex4 (a.word / 65536))
     (hex4 (a.word % 65536)) a.at (a.at + 4) (a.at + 4 + 4) (refl, c.put_hex.ensures) (refl, c.put_hex-2.ensures) in
     (omega arith, w.1)

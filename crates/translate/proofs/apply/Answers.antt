@@ -13,7 +13,7 @@ marked c = let k = c.read_pairs-read.auto in
     record {
       laid = c.requires.0;
       lends = lent_still _ _ _ _ _ _ _ _ c.requires.1 k.1.0 k.1.1.0 (c.mark.auto.1.1.1.1.1.0 ∙ k.1.1.1.0);
-      old = c.read_pairs-read.new.1.1.1.0;
+      old = c.read_pairs-read.new.ends.1.1.0;
       read = read_of c.args.file.now _ _ _ _ _ c.read_pairs-read.ensures c.in-Read.is;
       mark = c.mark.ensures.by_index;
     }

@@ -51,7 +51,7 @@ put_zeros-requires c =
     let a = c.args in
     omega (
       arith,
-      part_within a.text.now c.apply-answer.new.1.1.1.1.0 (length a.file.now)
+      part_within a.text.now c.apply-answer.new.ends.1.1.1.0 (length a.file.now)
           (counted (goal.at.put_zeros-requires c).After-words_for-words).in_text c.apply-answer.auto.1.1.1.1.0,
     )
 
@@ -60,7 +60,7 @@ clear-requires c =
     let a = c.args in
     omega (
       arith,
-      part_within a.ends.now c.apply-answer.new.1.1.1.1.1.0 c.words_for-words.result
+      part_within a.ends.now c.apply-answer.new.ends.1.1.1.1.0 c.words_for-words.result
           (counted (goal.at.clear-requires c).After-words_for-words).in_ends c.apply-answer.auto.1.1.1.1.1.0,
     )
 
@@ -78,7 +78,7 @@ returns c =
     let a = c.args in
     let k = counted (goal.at.returns c).After-words_for-words in
     let e = c.apply-answer.auto.1.1.1.1 in
-    let w = c.apply-answer.new.1.1.1.1 in
+    let w = c.apply-answer.new.ends.1.1.1 in
     let n = c.words_for-words.result in
     record {
       answers = c.apply-answer.ensures;
