@@ -4,9 +4,10 @@ use Rattle.admission.specs.declared.Admission.TheVariants.{Laid}
 use Rattle.admission.specs.Admission.{laid_out}
 use Rattle.admission.proofs.StageLaws.{refused_first, placed, refused_second, judged_last}
 use Rattle.admission.proofs.admit.Goals as goal
+use Rattle.admission.proofs.admit.Goals.{In-Laid-2}
 
 -- the first stage passes
-laid : (c : goal.In-Laid-2) → let a = c.args in
+laid : (c : In-Laid-2) → let a = c.args in
     laid_out a.layout a.image.now ≡ Laid c.in-Laid.p
 laid c = sym c.lay_out-laid.ensures ∙ c.in-Laid.is
 

@@ -6,11 +6,12 @@ use Rattle.function_table.specs.Functions.{functions_in_tail}
 use Rattle.admission.proofs.StageLaws.{InTail, functions_are_in, is-in-tail}
 use Rattle.admission.proofs.StageLaws.{not_in_tail, headers_are_in, bad_debug, not-apart, good_functions}
 use Rattle.admission.proofs.judge_functions.Goals as goal
+use Rattle.admission.proofs.judge_functions.Goals.{Else-not-are_functions_in_tail, Else-not-is_debug_in_tail}
 
-functions_in_lem : (c : goal.Else-not-are_functions_in_tail) → let a = c.args in functions_in_tail a.p.layout a.image.now ≡ true
+functions_in_lem : (c : Else-not-are_functions_in_tail) → let a = c.args in functions_in_tail a.p.layout a.image.now ≡ true
 functions_in_lem c = functions_are_in c.args.p _ _ c.are_functions_in_tail.ensures c.if-not-are_functions_in_tail.false
 
-in_tail : (c : goal.Else-not-is_debug_in_tail) → let a = c.args in InTail a.p.layout a.image.now
+in_tail : (c : Else-not-is_debug_in_tail) → let a = c.args in InTail a.p.layout a.image.now
 in_tail c = is-in-tail c.args.p _ (functions_in_lem c) _
     c.is_debug_in_tail.ensures c.if-not-is_debug_in_tail.false
 

@@ -4,9 +4,10 @@ use mathlib.Core.Bool.{true}
 use Rattle.string_tables.specs.Kinds.{kinds_good}
 use Rattle.admission.proofs.StageLaws.{bad_kinds, good_kinds, bad_strings, good_strings}
 use Rattle.admission.proofs.judge_strings.Goals as goal
+use Rattle.admission.proofs.judge_strings.Goals.{Else-not-are_kinds_good}
 
 -- the first test passes
-kinds-are : (c : goal.Else-not-are_kinds_good) → let a = c.args in kinds_good a.p.layout a.image.now ≡ true
+kinds-are : (c : Else-not-are_kinds_good) → let a = c.args in kinds_good a.p.layout a.image.now ≡ true
 kinds-are c = good_kinds c.args.p _ _ c.are_kinds_good.ensures c.if-not-are_kinds_good.false
 
 pub returns-then-not-are_kinds_good : goal.returns-then-not-are_kinds_good

@@ -1,11 +1,12 @@
 -- Four ways out, one for each test in its turn; the places are judged once the length is known.
 use Rattle.admission.proofs.StageLaws.{LengthTested, Marked, is-marked, too_short, too_long, no_magic, no_room, all_laid}
 use Rattle.admission.proofs.lay_out.Goals as goal
+use Rattle.admission.proofs.lay_out.Goals.{Else-image-gt-SIZE_LIMIT, Else-word64-ne-MAGIC_NUMBER}
 
-sized : (c : goal.Else-image-gt-SIZE_LIMIT) → LengthTested c.args.image.now
+sized : (c : Else-image-gt-SIZE_LIMIT) → LengthTested c.args.image.now
 sized c = record { least = c.if-image.false; most = c.if-image-gt-SIZE_LIMIT.false }
 
-marked : (c : goal.Else-word64-ne-MAGIC_NUMBER) → Marked c.args.image.now
+marked : (c : Else-word64-ne-MAGIC_NUMBER) → Marked c.args.image.now
 marked c = is-marked (sized c) _ (rw c.at.ensures at c.word64.ensures)
     c.if-word64-ne-MAGIC_NUMBER.false
 

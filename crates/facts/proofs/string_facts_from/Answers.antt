@@ -6,9 +6,10 @@ use Rattle.sections.specs.Places.{Laid}
 use Rattle.admission.proofs.AnswerLaws.{is-laid}
 use Rattle.facts.proofs.PassLaws.{from_refused, from_none, from_strings, least_told}
 use Rattle.facts.proofs.string_facts_from.Goals as goal
+use Rattle.facts.proofs.string_facts_from.Goals.{In-Laid-2}
 
 -- the image is admitted
-laid : (c : goal.In-Laid-2) → Laid c.in-Laid.p c.args.image.now
+laid : (c : In-Laid-2) → Laid c.in-Laid.p c.args.image.now
 laid c = is-laid _ _ _ c.admit-answer.ensures _ c.in-Laid.is (λ i. (c.type_inv.image i).fits)
 
 pub returns-in_default : goal.returns-in_default

@@ -3,9 +3,10 @@ use Rattle.function_table.proofs.ReadLaws.{SmallRead, LargeRead, header-fits, he
 use mathlib.Core.Path.{sym, ◌∙◌}
 use Rattle.bits.specs.Words.{whole}
 use Rattle.function_table.proofs.function_at.Goals as goal
+use Rattle.function_table.proofs.function_at.Goals.{After-pointer_of, Else-is_large}
 
 -- the record points to a large header
-large : (c : goal.After-pointer_of) → let a = c.args in
+large : (c : After-pointer_of) → let a = c.args in
     LargeRead a.layout a.image.now a.i (whole c.record_of-words.result) c.pointer_of.result
 large c = record {
       number = c.record_of-words.ensures;
@@ -14,7 +15,7 @@ large c = record {
     }
 
 -- it points to none
-small : (c : goal.Else-is_large) → let a = c.args in
+small : (c : Else-is_large) → let a = c.args in
     SmallRead a.layout a.image.now a.i (whole c.record_of-words.result)
 small c = record { number = c.record_of-words.ensures; flag = sym c.is_large.ensures ∙ c.if-is_large.false }
 

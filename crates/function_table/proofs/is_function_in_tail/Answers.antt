@@ -3,9 +3,10 @@ use mathlib.Core.Path.{sym, ◌∙◌}
 use native.Mathlib.Omega.{arith}
 use Rattle.function_table.proofs.TailLaws.{BodyTested, refused_out, found_sized, body_out, body_in, tail_is, place_is}
 use Rattle.function_table.proofs.is_function_in_tail.Goals as goal
+use Rattle.function_table.proofs.is_function_in_tail.Goals.{After-is_in_tail}
 
 -- the function is read, and its body tested
-tested : (c : goal.After-is_in_tail) → let a = c.args in
+tested : (c : After-is_in_tail) → let a = c.args in
     BodyTested a.p.layout a.image.now a.i c.in-Found.f c.is_in_tail.result
 tested c = record {
       found = sym c.in-Found.is ∙ c.read_function-read.ensures.0;

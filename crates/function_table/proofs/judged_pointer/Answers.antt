@@ -3,9 +3,10 @@ use native.Mathlib.Omega.{arith}
 use Rattle.bits.specs.Words.{whole}
 use Rattle.function_table.proofs.TailLaws.{PointerTested, large_width_of, pointer_out, pointer_in, pointer-fits}
 use Rattle.function_table.proofs.judged_pointer.Goals as goal
+use Rattle.function_table.proofs.judged_pointer.Goals.{After-is_in_tail}
 
 -- the header that the record points to is tested
-tested : (c : goal.After-is_in_tail) → let a = c.args in
+tested : (c : After-is_in_tail) → let a = c.args in
     PointerTested a.p a.image.now (whole a.words) c.pointer_of-ptr.result c.large_row.result
     c.is_in_tail.result
 tested c = record {

@@ -5,9 +5,10 @@ use Rattle.bits.specs.Words.{whole}
 use Rattle.function_table.proofs.ReadLaws.{SmallRead}
 use Rattle.function_table.proofs.TailLaws.{PointerRead, small_found, pointer_refused, header_found, header_there}
 use Rattle.function_table.proofs.read_function.Goals as goal
+use Rattle.function_table.proofs.read_function.Goals.{After-judged_pointer-judged, Then-not-is_large}
 
 -- the record points to no large header
-small : (c : goal.Then-not-is_large) → let a = c.args in
+small : (c : Then-not-is_large) → let a = c.args in
     SmallRead a.p.layout a.image.now a.i (whole c.record_of-words.result)
 small c = record {
       number = c.record_of-words.ensures;
@@ -15,7 +16,7 @@ small c = record {
     }
 
 -- it points to one, and its pointer is judged
-judged : (c : goal.After-judged_pointer-judged) → let a = c.args in
+judged : (c : After-judged_pointer-judged) → let a = c.args in
     PointerRead a.p.layout a.image.now a.i (whole c.record_of-words.result) c.judged_pointer-judged.result
 judged c = record {
       number = c.record_of-words.ensures;

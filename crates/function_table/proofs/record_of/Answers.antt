@@ -3,9 +3,10 @@ use native.Mathlib.Omega.{arith}
 use Rattle.sections.proofs.SectionLaws.{records_few}
 use Rattle.function_table.proofs.ReadLaws.{SlotRead, slot_ends, slot_long, slot_record_lem}
 use Rattle.function_table.proofs.record_of.Goals as goal
+use Rattle.function_table.proofs.record_of.Goals.{After-record_row}
 
 -- where the record lies
-slot : (c : goal.After-record_row) → let a = c.args in
+slot : (c : After-record_row) → let a = c.args in
     SlotRead a.layout a.image.now a.i c.record_at-at.result c.record_row.result
 slot c = record { place = c.record_at-at.ensures.0; row = c.record_row.ensures; fits = c.requires.fits; known = c.requires.i_bound }
 

@@ -6,23 +6,24 @@ use Rattle.functions.proofs.JudgeLaws.{is_alone_lem, is_clear, is_grounded, is-s
 use Rattle.functions.proofs.JudgeLaws.{not_alone, debug_before, put_in_nothing, too_long, short_enough, size-beyond}
 use Rattle.functions.proofs.JudgeLaws.{fields_beyond, all_fit}
 use Rattle.functions.proofs.judge_body.Goals as goal
+use Rattle.functions.proofs.judge_body.Goals.{Else-is_from_nothing, Else-is_too_long, Else-not-does_size_fit, Else-not-is_debug_past, Else-not-stands_alone, Start}
 
-chosen : (c : goal.Start) → Chosen c.args.p.layout c.args.image.now c.args.id c.args.f
+chosen : (c : Start) → Chosen c.args.p.layout c.args.image.now c.args.id c.args.f
 chosen c = record { admitted = c.requires.laid.admitted; known = c.requires.id_bound.0; is = c.requires.id_bound.1 }
 
-alone : (c : goal.Else-not-stands_alone) → Here LeftAlone c
+alone : (c : Else-not-stands_alone) → Here LeftAlone c
 alone c = is_alone_lem c.args.body.now (chosen c) _ c.stands_alone.ensures c.if-not-stands_alone.false
 
-clear : (c : goal.Else-not-is_debug_past) → Here Clear c
+clear : (c : Else-not-is_debug_past) → Here Clear c
 clear c = is_clear (alone c) _ c.is_debug_past.ensures c.if-not-is_debug_past.false
 
-grounded : (c : goal.Else-is_from_nothing) → Here Grounded c
+grounded : (c : Else-is_from_nothing) → Here Grounded c
 grounded c = is_grounded (clear c) _ c.is_from_nothing.ensures c.if-is_from_nothing.false
 
-short : (c : goal.Else-is_too_long) → Here Short c
+short : (c : Else-is_too_long) → Here Short c
 short c = is-short (grounded c) _ c.is_too_long.ensures c.if-is_too_long.false
 
-held : (c : goal.Else-not-does_size_fit) → Here Held c
+held : (c : Else-not-does_size_fit) → Here Held c
 held c = is_held (short c) _ c.does_size_fit.ensures c.if-not-does_size_fit.false
 
 pub stands_alone-requires : goal.stands_alone-requires

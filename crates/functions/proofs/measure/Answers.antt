@@ -2,9 +2,10 @@
 use mathlib.Core.Path.{sym, ◌∙◌}
 use Rattle.functions.proofs.JudgeLaws.{FunctionKnown, image_refused, no_function_lem, function-asked, body_asked, body_judged}
 use Rattle.functions.proofs.measure.Goals as goal
+use Rattle.functions.proofs.measure.Goals.{Else-p-id}
 
 -- the image is admitted, and has the function
-known : (c : goal.Else-p-id) → let a = c.args in
+known : (c : Else-p-id) → let a = c.args in
     FunctionKnown a.layout a.image.now a.id c.in-Laid.p
 known c = record {
       bytes = λ i. (c.type_inv.image i).fits;

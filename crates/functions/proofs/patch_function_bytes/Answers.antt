@@ -2,9 +2,10 @@
 use mathlib.Core.Path.{sym, ◌∙◌}
 use Rattle.functions.proofs.WriteLaws.{PatchRoomy, goes_out, no_room, room_made, written_out}
 use Rattle.functions.proofs.patch_function_bytes.Goals as goal
+use Rattle.functions.proofs.patch_function_bytes.Goals.{Else-out-length}
 
 -- the result has its length, and room
-roomy : (c : goal.Else-out-length) → let a = c.args in
+roomy : (c : Else-out-length) → let a = c.args in
     PatchRoomy a.layout a.image.now a.id a.body.now a.out.now c.in-Length.length
 roomy c = record {
       measured = sym c.in-Length.is ∙ c.measure-measured.ensures;

@@ -3,9 +3,10 @@ use lib.ListN.{length}
 use Rattle.functions.proofs.AdmitLaws.{readable}
 use Rattle.functions.proofs.WriteLaws.{Begun, Spliced, splice-asked, same_size, other_size, may_move}
 use Rattle.functions.proofs.put_body.Goals as goal
+use Rattle.functions.proofs.put_body.Goals.{After-function_at-f, After-put_spliced}
 
 -- the function is read
-begun : (c : goal.After-function_at-f) → let a = c.args in
+begun : (c : After-function_at-f) → let a = c.args in
     Begun a.layout a.image.now a.id a.body.now (length a.out.now) c.function_at-f.result
 begun c = record {
       accepted = c.requires;
@@ -13,7 +14,7 @@ begun c = record {
     }
 
 -- the new body is put in
-spliced : (c : goal.After-put_spliced) → let a = c.args in
+spliced : (c : After-put_spliced) → let a = c.args in
     Spliced a.layout a.image.now a.id a.body.now (length a.out.now) c.function_at-f.result
     c.put_spliced.new.out
 spliced c = record { begun = begun c; spliced = c.put_spliced.ensures }

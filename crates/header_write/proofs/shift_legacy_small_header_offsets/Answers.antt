@@ -9,9 +9,10 @@ use Rattle.format.specs.Table.{legacy_record}
 use Rattle.records.specs.Records.{as_edited, shift_small}
 use Rattle.header_write.proofs.SlotLaws.{slot_short, slot_beyond, slot_done}
 use Rattle.header_write.proofs.shift_legacy_small_header_offsets.Goals as goal
+use Rattle.header_write.proofs.shift_legacy_small_header_offsets.Goals.{After-shift_legacy_offsets-moved}
 
 -- the record that the code made
-moved-is : (c : goal.After-shift_legacy_offsets-moved) → let a = c.args in
+moved-is : (c : After-shift_legacy_offsets-moved) → let a = c.args in
     as_edited c.shift_legacy_offsets-moved.result
     ≡ shift_small (Legacy false false) a.delta (number_at a.slot.now 0 legacy_record.width)
 moved-is c = c.shift_legacy_offsets-moved.ensures ∙ rw (c.load16.ensures, to_z-of_z c.ranges.delta)

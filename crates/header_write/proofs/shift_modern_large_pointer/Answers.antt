@@ -8,9 +8,10 @@ use Rattle.format.specs.Table.{modern_record}
 use Rattle.records.specs.Records.{as_edited, shift_pointer}
 use Rattle.header_write.proofs.SlotLaws.{slot_short, slot_beyond, slot_done}
 use Rattle.header_write.proofs.shift_modern_large_pointer.Goals as goal
+use Rattle.header_write.proofs.shift_modern_large_pointer.Goals.{After-shift_modern_pointer-moved}
 
 -- the record that the code made
-moved-is : (c : goal.After-shift_modern_pointer-moved) → let a = c.args in
+moved-is : (c : After-shift_modern_pointer-moved) → let a = c.args in
     as_edited c.shift_modern_pointer-moved.result ≡ shift_pointer Modern a.delta (number_at a.slot.now 0 modern_record.width)
 moved-is c = c.shift_modern_pointer-moved.ensures ∙ rw (c.load12.ensures, to_z-of_z c.ranges.delta)
 

@@ -8,9 +8,10 @@ use Rattle.format.specs.Table.{modern_record}
 use Rattle.records.specs.Records.{as_edited, shift_small}
 use Rattle.header_write.proofs.SlotLaws.{slot_short, slot_beyond, slot_done}
 use Rattle.header_write.proofs.shift_modern_small_header_offset.Goals as goal
+use Rattle.header_write.proofs.shift_modern_small_header_offset.Goals.{After-shift_modern_offset-moved}
 
 -- the record that the code made
-moved-is : (c : goal.After-shift_modern_offset-moved) → let a = c.args in
+moved-is : (c : After-shift_modern_offset-moved) → let a = c.args in
     as_edited c.shift_modern_offset-moved.result ≡ shift_small Modern a.delta (number_at a.slot.now 0 modern_record.width)
 moved-is c = c.shift_modern_offset-moved.ensures ∙ rw (c.load12.ensures, to_z-of_z c.ranges.delta)
 

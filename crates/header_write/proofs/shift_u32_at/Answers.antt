@@ -7,9 +7,10 @@ use Rattle.records.specs.Sum.{summed, word_bits}
 use Rattle.records.proofs.SumLaws.{sum_lt}
 use Rattle.header_write.proofs.SlotLaws.{word_short, word_beyond, word_done}
 use Rattle.header_write.proofs.shift_u32_at.Goals as goal
+use Rattle.header_write.proofs.shift_u32_at.Goals.{After-add_delta-sum}
 
 -- the sum that the code made
-sum_is : (c : goal.After-add_delta-sum) → let a = c.args in
+sum_is : (c : After-add_delta-sum) → let a = c.args in
     c.add_delta-sum.result ≡ summed word_bits a.delta (word_at a.buf.now a.pos)
 sum_is c = c.add_delta-sum.ensures ∙ rw (c.word.ensures.0, to_z-of_z c.ranges.delta)
 

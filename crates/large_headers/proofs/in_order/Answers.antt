@@ -7,9 +7,10 @@ use Rattle.function_table.specs.Functions.{as_func}
 use Rattle.large_headers.proofs.OrderLaws.{OrderTurn, order_none, end_next, first_next, bodies_next, ascends_next, not_behind}
 use Rattle.large_headers.proofs.OrderLaws.{order_end, image_order}
 use Rattle.large_headers.proofs.in_order.Goals as goal
+use Rattle.large_headers.proofs.in_order.Goals.{After-is_behind}
 
 -- function i is tested
-turn : (c : goal.After-is_behind) → let a = c.args in
+turn : (c : After-is_behind) → let a = c.args in
     OrderTurn c.large_width-width.result (func_of a.layout a.image.now) c.loop-i.i
     (as_func c.function_at-f.result) c.loop-i.end c.is_behind.result
 turn c = record {

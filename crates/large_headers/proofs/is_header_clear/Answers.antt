@@ -6,9 +6,10 @@ use Rattle.function_table.specs.Functions.{as_func}
 use Rattle.large_headers.specs.Clear.{clear_at}
 use Rattle.large_headers.proofs.ClearLaws.{WithHeader, ClearTurn, no_header, clear_at_lem, header-not_clear, header_clear_lem}
 use Rattle.large_headers.proofs.is_header_clear.Goals as goal
+use Rattle.large_headers.proofs.is_header_clear.Goals.{After-is_clear_of, Else-not-g}
 
 -- function j has a large header
-headed : (c : goal.Else-not-g) → let a = c.args in
+headed : (c : Else-not-g) → let a = c.args in
     WithHeader a.layout a.image.now a.j a.n (as_func c.function_at-g.result)
 headed c = record {
       is = c.function_at-g.ensures.0;
@@ -17,7 +18,7 @@ headed c = record {
     }
 
 -- function i is tested against it
-turn : (c : goal.After-is_clear_of) → let a = c.args in
+turn : (c : After-is_clear_of) → let a = c.args in
     ClearTurn a.layout a.image.now a.j a.n c.loop-i.i c.large_width-width.result
     (as_func c.function_at-g.result) (as_func c.function_at-f.result) c.are_two.result
     c.is_clear_of.result

@@ -2,9 +2,10 @@
 use native.Mathlib.Omega.{arith}
 use Rattle.listing_pieces.proofs.ListingLaws.{RecordJudged, record_ends, record_refused, record_laid}
 use Rattle.listing_pieces.proofs.open_image.Goals as goal
+use Rattle.listing_pieces.proofs.open_image.Goals.{After-admit-answer}
 
 -- the image is judged
-judged : (c : goal.After-admit-answer) → let a = c.args in
+judged : (c : After-admit-answer) → let a = c.args in
     RecordJudged a.layout a.length a.input.now c.admit-answer.result
 judged c = record { ends = omega arith; answer = c.admit-answer.ensures }
 

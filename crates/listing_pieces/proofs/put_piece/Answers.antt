@@ -5,6 +5,7 @@ use Rattle.listing_pieces.specs.declared.Point.TheVariants.{End}
 use Rattle.listing_pieces.specs.Pieces.{Gives}
 use Rattle.listing_pieces.proofs.PointLaws.{piece, gives_end}
 use Rattle.listing_pieces.proofs.put_piece.Goals as goal
+use Rattle.listing_pieces.proofs.put_piece.Goals.{Start}
 
 pub put_units-requires : goal.put_units-requires
 put_units-requires c = (c.requires.ready, (good _ (goal.at.put_units-requires c).Start c.in-Units.is, c.requires.good.1))

@@ -3,9 +3,10 @@ use native.Mathlib.Omega.{arith}
 use Rattle.listing_pieces.proofs.PointLaws.{InLine, slot_known, turn_small, line_small, gives_closing, Chunk, least_units}
 use Rattle.listing_pieces.proofs.PointLaws.{units_in_lem, gives_units}
 use Rattle.listing_pieces.proofs.put_units.Goals as goal
+use Rattle.listing_pieces.proofs.put_units.Goals.{After-least-n, After-string_in-string}
 
 -- what the index tells of the string
-line : (c : goal.After-string_in-string) → let a = c.args in
+line : (c : After-string_in-string) → let a = c.args in
     InLine a.p a.image.now a.turn c.string_in-string.result
 line c = let h = c.requires in
     record {
@@ -16,7 +17,7 @@ line c = let h = c.requires in
     }
 
 -- the units that are to be put
-units : (c : goal.After-least-n) → let a = c.args in
+units : (c : After-least-n) → let a = c.args in
     Chunk a.p a.image.now a.turn c.string_in-string.result a.unit c.least-n.result
 units c = record { line = line c; some = c.if-count-unit.false; least = c.least-n.ensures.0 }
 

@@ -10,9 +10,10 @@ use Rattle.chains.specs.Chains.{head_of}
 use Rattle.po_targets.specs.Marks.{id_in, str_in, bucket_of}
 use Rattle.po_targets.proofs.PairLaws.{string_bucket, down_from, down_end, down_is, down_lower, down_on}
 use Rattle.po_targets.proofs.find_pair.Goals as goal
+use Rattle.po_targets.proofs.find_pair.Goals.{After-word_at-c-in-loop-c}
 
 -- the link of the pair on which the cursor stands
-linked : (c : goal.After-word_at-c-in-loop-c) → let a = c.args in
+linked : (c : After-word_at-c-in-loop-c) → let a = c.args in
     let j = c.loop-c.c - 1 in
     c.word_at-c-in-loop-c.result ≡ head_of (λ q. true) (λ q. bucket_of a.m (utf16 (id_in a.text.now a.ends.now q)))
     (bucket_of a.m (utf16 (id_in a.text.now a.ends.now j))) j

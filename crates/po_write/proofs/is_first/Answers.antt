@@ -3,9 +3,10 @@ use native.Mathlib.Omega.{arith}
 use Rattle.po_write.proofs.WalkLaws.{bucket_low, few_words, walks_from, none_there}
 use Rattle.po_write.proofs.WalkLaws.{before, other_inside, value_there, walks_on, walks_lower}
 use Rattle.po_write.proofs.is_first.Goals as goal
+use Rattle.po_write.proofs.is_first.Goals.{In-loop-c}
 
 -- the cursor stands on a string before this one, and the image's strings are few
-stands : (c : goal.In-loop-c) → let a = c.args in
+stands : (c : In-loop-c) → let a = c.args in
     (c.loop-c.c - 1 < a.id) × (a.p.strings < 4294967296)
 stands c = let q = c.requires in
     (before _ _ _ _ _ _ q _ c.loop-c.invariant c.loop-c-test.true, few_words _ _ _ _ _ _ q)

@@ -8,9 +8,10 @@ use Rattle.po_write.proofs.FileLaws.{pair_none}
 use Rattle.po_write.proofs.WorkLaws.{told_off}
 use Rattle.po_write.proofs.TextLaws.{text_kept, kept_pair}
 use Rattle.po_write.proofs.put_kept.Goals as goal
+use Rattle.po_write.proofs.put_kept.Goals.{After-shared_slice_known-2-1}
 
 -- the image's strings are few
-few : (c : goal.After-shared_slice_known-2-1) → c.args.p.strings < 4294967296
+few : (c : After-shared_slice_known-2-1) → c.args.p.strings < 4294967296
 few c = let z : Sectioned c.args.p c.args.image.now = sectioned _ _ c.requires.laid.0.placed in
     omega arith
 

@@ -9,15 +9,16 @@ use Rattle.po_write.proofs.TurnLaws.{found_small, found_held, found_bucket, buck
 use Rattle.po_write.proofs.TurnLaws.{found_valid, turn_on}
 use Rattle.po_write.specs.Strings.{is_written}
 use Rattle.po_write.proofs.take_turn.Goals as goal
+use Rattle.po_write.proofs.take_turn.Goals.{After-is_first, After-text_of-t, Else-is_identifier}
 
 -- the text is that of the string
-found : (c : goal.After-text_of-t) → let a = c.args in
+found : (c : After-text_of-t) → let a = c.args in
     Found a.p a.image.now a.id a.string c.text_of-t.result
 found c = let q = c.requires.laid in
     record { laid = q.0; known = q.1; stands = q.2; text = c.text_of-t.ensures }
 
 -- whether it is written is whether it is the first of its value
-written : (c : goal.After-is_first) → let a = c.args in
+written : (c : After-is_first) → let a = c.args in
     c.is_first.result ≡ is_written a.p.layout a.image.now a.id
 written c = let a = c.args in
     let e = found_flag a.p a.image.now a.id a.string c.requires.laid.2 _ c.is_identifier.ensures in

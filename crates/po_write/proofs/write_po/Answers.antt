@@ -7,9 +7,10 @@ use Rattle.sections.proofs.SectionLaws.{Sectioned, sectioned}
 use Rattle.admission.proofs.AnswerLaws.{is-laid}
 use Rattle.po_write.proofs.WriteLaws.{lent-words, image_refused, work_short, file_made}
 use Rattle.po_write.proofs.write_po.Goals as goal
+use Rattle.po_write.proofs.write_po.Goals.{In-Laid-2}
 
 -- the image is admitted
-laid : (c : goal.In-Laid-2) → Laid c.in-Laid.p c.args.image.now
+laid : (c : In-Laid-2) → Laid c.in-Laid.p c.args.image.now
 laid c = let b : (i : ℕ) → get_or c.args.image.now i 0 < 256 = λ i. (c.type_inv.image i).fits in
     is-laid _ _ _ c.admit-admitted.ensures _ c.in-Laid.is b
 

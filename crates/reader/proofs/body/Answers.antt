@@ -7,9 +7,10 @@ use Rattle.admission.specs.Admission.{admission}
 use Rattle.admission.proofs.AnswerLaws.{is-laid}
 use Rattle.reader.proofs.ReadingLaws.{body_refused, body_absent, body_found}
 use Rattle.reader.proofs.body.Goals as goal
+use Rattle.reader.proofs.body.Goals.{In-Laid-2}
 
 -- the image is admitted
-laid : (c : goal.In-Laid-2) → let a = c.args in
+laid : (c : In-Laid-2) → let a = c.args in
     admission a.layout a.image.now ≡ Laid c.in-Laid.p
 laid c = sym c.admit-answer.ensures ∙ c.in-Laid.is
 

@@ -4,13 +4,14 @@ use Rattle.sections.specs.Places.{Laid}
 use Rattle.admission.proofs.AnswerLaws.{is-laid}
 use Rattle.reader.proofs.ReadingLaws.{StringSought, string_refused, string-absent, string_found}
 use Rattle.reader.proofs.string.Goals as goal
+use Rattle.reader.proofs.string.Goals.{After-locate-location, In-Laid-2}
 
 -- the image is admitted
-laid : (c : goal.In-Laid-2) → Laid c.in-Laid.p c.args.image.now
+laid : (c : In-Laid-2) → Laid c.in-Laid.p c.args.image.now
 laid c = is-laid _ _ _ c.admit-answer.ensures _ c.in-Laid.is (λ i. (c.type_inv.image i).fits)
 
 -- the string was looked for
-sought : (c : goal.After-locate-location) → let a = c.args in
+sought : (c : After-locate-location) → let a = c.args in
     StringSought a.layout a.image.now a.id c.in-Laid.p c.locate-location.result
 sought c = record {
       answer = sym c.admit-answer.ensures ∙ c.in-Laid.is;

@@ -7,12 +7,13 @@ use Rattle.format.specs.Table.{legacy_offset}
 use Rattle.records.specs.Records.{field_sum, info_sum, shift_small}
 use Rattle.records.proofs.SumLaws.{sum_lt, info_lt}
 use Rattle.records.proofs.shift_legacy_offsets.Goals as goal
+use Rattle.records.proofs.shift_legacy_offsets.Goals.{After-field_sum-offset_sum, After-info_sum-moved_info}
 
-offset-is : (c : goal.After-field_sum-offset_sum) → let a = c.args in
+offset-is : (c : After-field_sum-offset_sum) → let a = c.args in
     c.field_sum-offset_sum.result ≡ field_sum legacy_offset a.delta (whole a.w)
 offset-is c = c.field_sum-offset_sum.ensures ∙ rw (to_z-of_z c.ranges.delta)
 
-info-is : (c : goal.After-info_sum-moved_info) → let a = c.args in
+info-is : (c : After-info_sum-moved_info) → let a = c.args in
     c.info_sum-moved_info.result ≡ info_sum a.delta (whole a.w)
 info-is c = c.info_sum-moved_info.ensures ∙ rw (to_z-of_z c.ranges.delta)
 

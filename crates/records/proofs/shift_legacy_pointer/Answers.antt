@@ -9,8 +9,9 @@ use Rattle.records.specs.Sum.{summed, word_bits}
 use Rattle.records.specs.Records.{shift_pointer}
 use Rattle.records.proofs.SumLaws.{sum_lt}
 use Rattle.records.proofs.shift_legacy_pointer.Goals as goal
+use Rattle.records.proofs.shift_legacy_pointer.Goals.{After-add_delta-sum}
 
-sum_is : (c : goal.After-add_delta-sum) → let a = c.args in
+sum_is : (c : After-add_delta-sum) → let a = c.args in
     c.add_delta-sum.result ≡ summed word_bits a.delta (pointer (Legacy false false) (whole a.w))
 sum_is c = c.add_delta-sum.ensures ∙ rw (c.legacy_pointer.ensures.0, to_z-of_z c.ranges.delta)
 

@@ -7,8 +7,9 @@ use Rattle.format.specs.Table.{modern_offset}
 use Rattle.records.specs.Records.{field_sum, shift_small}
 use Rattle.records.proofs.SumLaws.{sum_lt}
 use Rattle.records.proofs.shift_modern_offset.Goals as goal
+use Rattle.records.proofs.shift_modern_offset.Goals.{After-field_sum-sum}
 
-sum_is : (c : goal.After-field_sum-sum) → let a = c.args in
+sum_is : (c : After-field_sum-sum) → let a = c.args in
     c.field_sum-sum.result ≡ field_sum modern_offset a.delta (whole a.w)
 sum_is c = c.field_sum-sum.ensures ∙ rw (to_z-of_z c.ranges.delta)
 

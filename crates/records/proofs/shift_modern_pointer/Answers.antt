@@ -8,8 +8,9 @@ use Rattle.records.specs.Sum.{summed, word_bits}
 use Rattle.records.specs.Records.{shift_pointer}
 use Rattle.records.proofs.SumLaws.{sum_lt}
 use Rattle.records.proofs.shift_modern_pointer.Goals as goal
+use Rattle.records.proofs.shift_modern_pointer.Goals.{After-add_delta-sum}
 
-sum_is : (c : goal.After-add_delta-sum) → let a = c.args in
+sum_is : (c : After-add_delta-sum) → let a = c.args in
     c.add_delta-sum.result ≡ summed word_bits a.delta (pointer Modern (whole a.w))
 sum_is c = c.add_delta-sum.ensures ∙ rw (c.modern_pointer.ensures.0, to_z-of_z c.ranges.delta)
 

@@ -6,8 +6,9 @@ use Rattle.format.specs.declared.Layout.TheVariants.{Legacy}
 use Rattle.format.specs.Record.{put_pointer}
 use Rattle.format.proofs.RecordLaws.{pointer_back}
 use Rattle.records.proofs.with_legacy_pointer.Goals as goal
+use Rattle.records.proofs.with_legacy_pointer.Goals.{After-with_value}
 
-put : (c : goal.After-with_value) → let a = c.args in
+put : (c : After-with_value) → let a = c.args in
     whole c.with_value.result ≡ put_pointer (Legacy false false) a.p (whole a.w)
 unfolding put_pointer
 put c = rw

@@ -9,9 +9,10 @@ use Rattle.function_table.proofs.ReadLaws.{LargeRead, header-fits}
 use Rattle.relocate.proofs.GroupLaws.{SmallMoved, LargeMoved, small_group, large_group, fields_held, header_held, words_held}
 use borrow.Author.Tests.{not-false}
 use Rattle.relocate.proofs.relocate_function.Goals as goal
+use Rattle.relocate.proofs.relocate_function.Goals.{After-function_after-f, After-function_after-f-2}
 
 -- the function as it is read, without a large header, and as it is to be
-small-moved : (c : goal.After-function_after-f) → let a = c.args in
+small-moved : (c : After-function_after-f) → let a = c.args in
     SmallMoved a.layout a.image.now a.m a.i (whole c.record_of-words.result) c.is_large.result
     (as_func c.small_function.result) (as_func c.function_after-f.result)
 small-moved c = record {
@@ -25,7 +26,7 @@ small-moved c = record {
     }
 
 -- the function as it is read, with its large header, and as it is to be
-moved : (c : goal.After-function_after-f-2) → let a = c.args in
+moved : (c : After-function_after-f-2) → let a = c.args in
     LargeMoved a.layout a.image.now a.m a.i (whole c.record_of-words.result) c.is_large.result
     (as_func c.large_function-old.result) (as_func c.function_after-f-2.result) c.pointer_of-ptr.result
 moved c = record {

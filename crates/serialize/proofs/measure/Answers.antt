@@ -7,17 +7,18 @@ use Rattle.serialize.specs.Builder.{ends_ascend}
 use Rattle.serialize.proofs.BuilderLaws.{EndsOrdered, Current, AsciiStrings}
 use Rattle.serialize.proofs.BuilderLaws.{ascii-is, unordered, past_text, old_version, not_ascii, not-small, by_length}
 use Rattle.serialize.proofs.measure.Goals as goal
+use Rattle.serialize.proofs.measure.Goals.{Else-given-size, Else-not-ascii, Else-not-ends_ascend, Else-version-lt-LEAST_VERSION}
 
-ascends : (c : goal.Else-not-ends_ascend) → ends_ascend c.args.ends.now ≡ true
+ascends : (c : Else-not-ends_ascend) → ends_ascend c.args.ends.now ≡ true
 ascends c = sym c.ends_ascend.ensures ∙ not-false _ c.if-not-ends_ascend.false
 
-ordered : (c : goal.Else-given-size) → Here (λ v. EndsOrdered) c
+ordered : (c : Else-given-size) → Here (λ v. EndsOrdered) c
 ordered c = record { ascends = ascends c; last = omega arith }
 
-current : (c : goal.Else-version-lt-LEAST_VERSION) → Here Current c
+current : (c : Else-version-lt-LEAST_VERSION) → Here Current c
 current c = record { ordered = ordered c; version = c.if-version-lt-LEAST_VERSION.false }
 
-plain : (c : goal.Else-not-ascii) → Here AsciiStrings c
+plain : (c : Else-not-ascii) → Here AsciiStrings c
 plain c = let a = c.args in
     record {
       current = current c;

@@ -8,9 +8,10 @@ use Rattle.utf.proofs.ReadingLaws.{small-between}
 use Rattle.string_find.specs.Find.{units_at}
 use Rattle.string_find.proofs.FindLaws.{Turn, count_left, differs, agrees, room_less, room-low, all_agree, from_start}
 use Rattle.string_find.proofs.are_units.Goals as goal
+use Rattle.string_find.proofs.are_units.Goals.{After-completed-units}
 
 -- the byte that is read, and the units that it completes
-turn : (c : goal.After-completed-units) → let a = c.args in
+turn : (c : After-completed-units) → let a = c.args in
     let l = c.loop-i in
     Turn a.image.now a.value.now (list_of c.completed-units.result) a.start l.j l.i a.wide l.r
     c.next_byte-r.result

@@ -8,14 +8,15 @@ use Rattle.string_in_place.specs.Known.{tested}
 use Rattle.string_in_place.proofs.EditedLaws.{Met, strings_few, edge_first, turn_first, edge_known, edge_within}
 use Rattle.string_in_place.proofs.EditedLaws.{met_stands, edge_next, edge_past, behind, test_stop, test_next, test_end}
 use Rattle.string_in_place.proofs.all_pass.Goals as goal
+use Rattle.string_in_place.proofs.all_pass.Goals.{After-passes, After-string_at-step}
 
 -- the string of the next edit was visited
-met : (c : goal.After-string_at-step) → let a = c.args in
+met : (c : After-string_at-step) → let a = c.args in
     Met a.p a.image.now c.loop-next.next c.string_from-at.result c.string_at-step.result
 met c = record { edit = c.loop-next-test.true; here = c.string_from-at.ensures.1; visits = c.string_at-step.ensures }
 
 -- what the test answers is that of the next edit
-answer : (c : goal.After-passes) → let a = c.args in
+answer : (c : After-passes) → let a = c.args in
     let next = c.loop-next.next in
     c.passes.result ≡ tested a.overlaps a.p.layout a.image.now next.id (coming_in a.text.now a.ends.now next)
 answer c = let a = c.args in

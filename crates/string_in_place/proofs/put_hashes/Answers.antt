@@ -10,14 +10,15 @@ use Rattle.string_in_place.proofs.FinishLaws.{Slotted, slot_fits, slotted-is}
 use Rattle.string_in_place.proofs.EditedLaws.{Met, strings_few, edge_first, turn_first, edge_known, edge_within}
 use Rattle.string_in_place.proofs.EditedLaws.{met_stands, edge_next, edge_past, behind, turn_met, turn_end}
 use Rattle.string_in_place.proofs.put_hashes.Goals as goal
+use Rattle.string_in_place.proofs.put_hashes.Goals.{After-string_at-step}
 
 -- the string of the next edit was visited
-met : (c : goal.After-string_at-step) → let a = c.args in
+met : (c : After-string_at-step) → let a = c.args in
     Met a.p a.image.now c.loop-due.due c.string_from-at.result c.string_at-step.result
 met c = record { edit = c.loop-due-test.true; here = c.string_from-at.ensures.1; visits = c.string_at-step.ensures }
 
 -- the slot of the string's rank is in the buffer
-slotted : (c : goal.After-string_at-step) → let a = c.args in
+slotted : (c : After-string_at-step) → let a = c.args in
     Slotted a.p a.image.now c.loop-due.due.id c.string_at-step.result.string.rank (length c.loop-due.out)
 slotted c = let q = c.requires in
     let e = c.loop-due.invariant.0 in

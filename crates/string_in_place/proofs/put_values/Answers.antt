@@ -9,9 +9,10 @@ use Rattle.string_in_place.proofs.InPlaceLaws.{value-size, over_own, own_within}
 use Rattle.string_in_place.proofs.EditedLaws.{Met, strings_few, edge_first, turn_first, edge_known, edge_within}
 use Rattle.string_in_place.proofs.EditedLaws.{met_stands, edge_next, edge_past, met_known, met_gets, behind, turn_met, turn_end}
 use Rattle.string_in_place.proofs.put_values.Goals as goal
+use Rattle.string_in_place.proofs.put_values.Goals.{After-string_at-step}
 
 -- the string of the next edit was visited
-met : (c : goal.After-string_at-step) → let a = c.args in
+met : (c : After-string_at-step) → let a = c.args in
     Met a.p a.image.now c.loop-next.next c.string_from-at.result c.string_at-step.result
 met c = record { edit = c.loop-next-test.true; here = c.string_from-at.ensures.1; visits = c.string_at-step.ensures }
 

@@ -8,15 +8,16 @@ use Rattle.string_edits.proofs.ToldLaws.{coming, coming_within}
 use Rattle.string_packing.specs.Strings.{as_string, Shaped}
 use Rattle.string_packing.proofs.PassLaws.{shape_small, stretch_to, stretch_rest}
 use Rattle.string_packing.proofs.next_stretch.Goals as goal
+use Rattle.string_packing.proofs.next_stretch.Goals.{After-next_edit-next, After-shape_of-new}
 
 -- the next value stands in the text
-stands : (c : goal.After-next_edit-next) → let a = c.args in
+stands : (c : After-next_edit-next) → let a = c.args in
     c.next_edit-next.result.id < 4294967296 → Within a.text.now a.ends.now c.next_edit-next.result.edit
 stands c = let a = c.args in
     coming_within (told a.form a.words.now) a.text.now a.ends.now c.requires.listed a.from _ c.next_edit-next.ensures
 
 -- what is known of the next edit and its value
-comes : (c : goal.After-shape_of-new) → let a = c.args in
+comes : (c : After-shape_of-new) → let a = c.args in
     let next = c.next_edit-next.result in
     let value = coming_in a.text.now a.ends.now next in
     Coming (values_in (told a.form a.words.now) a.text.now a.ends.now) value a.from next.id

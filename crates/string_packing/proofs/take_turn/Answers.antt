@@ -2,9 +2,10 @@
 use native.Mathlib.Omega.{arith}
 use Rattle.string_packing.proofs.PassLaws.{PlaceFound, strings_few, count_small, turned}
 use Rattle.string_packing.proofs.take_turn.Goals as goal
+use Rattle.string_packing.proofs.take_turn.Goals.{After-new_place-place}
 
 -- what is known of the new place
-found : (c : goal.After-new_place-place) → let a = c.args in
+found : (c : After-new_place-place) → let a = c.args in
     PlaceFound a.mode a.p a.image.now a.id a.new a.c c.string_at-step.result c.new_place-place.result
 found c = let e = c.new_place-place.ensures in
     record {

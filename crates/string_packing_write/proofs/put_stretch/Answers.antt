@@ -8,9 +8,10 @@ use Rattle.string_edits.specs.Told.{told, values_in}
 use Rattle.string_packing.specs.Pass.{StretchOf}
 use Rattle.string_packing_write.proofs.StretchLaws.{Writing, held_fits, held_reached, held_laid}
 use Rattle.string_packing_write.proofs.put_stretch.Goals as goal
+use Rattle.string_packing_write.proofs.put_stretch.Goals.{After-value_of-value}
 
 -- what is known of the strings at the start
-writing : (c : goal.After-value_of-value) → let a = c.args in
+writing : (c : After-value_of-value) → let a = c.args in
     Writing a.mode a.p a.image.now (values_in (told a.form a.words.now) a.text.now a.ends.now)
     c.value_of-value.result.now c.next_stretch-s.result a.from a.to (length a.out.now)
 writing c = let a = c.args in

@@ -5,9 +5,10 @@ use lib.ListN.{length}
 use Rattle.string_packing_write.proofs.PutLaws.{Due, old_few, old_in, new_at, entry-fits, place_low, gap-room, bytes_room}
 use Rattle.string_packing_write.proofs.PutLaws.{behind, string-put}
 use Rattle.string_packing_write.proofs.put_string.Goals as goal
+use Rattle.string_packing_write.proofs.put_string.Goals.{After-old-1, After-take_turn-t}
 
 -- what is known of the string behind its turn
-due : (c : goal.After-take_turn-t) → let a = c.args in
+due : (c : After-take_turn-t) → let a = c.args in
     Due a.mode a.p a.image.now a.value.now a.id a.new a.c a.to (length a.out.now)
 due c = let q = c.requires in record { turn = q.0.0; shaped = q.0.1; fits = q.1 }
 

@@ -5,9 +5,10 @@ use Rattle.sections.proofs.SectionLaws.{Sectioned, sectioned}
 use Rattle.string_reasons.specs.declared.Reason.TheVariants.{InPlace}
 use Rattle.string_reasons.proofs.AnswerLaws.{path_moves, judged_none, judged_some, judged_in_place}
 use Rattle.string_reasons.proofs.judged.Goals as goal
+use Rattle.string_reasons.proofs.judged.Goals.{In_default}
 
 -- the path is not in place
-moves : (c : goal.In_default) → c.args.path ≢ InPlace
+moves : (c : In_default) → c.args.path ≢ InPlace
 moves c g = elim (rw g at c.in_default.keys2) [
   | inl k ↦ omega arith
   | inr (inl k) ↦ omega arith

@@ -11,15 +11,16 @@ use Rattle.string_index.specs.Filling.{Indexed}
 use Rattle.string_index.proofs.IndexLaws.{laid_there, index_there}
 use Rattle.string_reasons.proofs.AnswerLaws.{why_refused, why_absent, why_value, why_long, why_judged}
 use Rattle.string_reasons.proofs.why.Goals as goal
+use Rattle.string_reasons.proofs.why.Goals.{In-Laid-1, In-Laid-2}
 
 -- the image is admitted, and the index is filled from it
-laid : (c : goal.In-Laid-2) → Laid c.in-Laid.p
+laid : (c : In-Laid-2) → Laid c.in-Laid.p
     c.args.image.now
 laid c = let b : (i : ℕ) → get_or c.args.image.now i 0 < 256
     = λ i. (c.type_inv.image i).fits in
     laid_there _ _ c.args.index.now _ c.admit_indexed-admitted.ensures.0 _ c.in-Laid.is b
 
-held : (c : goal.In-Laid-2) → let a = c.args in
+held : (c : In-Laid-2) → let a = c.args in
     (y : List ℕ) → y ≡ index_after a.layout a.image.now a.index.now → Indexed c.in-Laid.p a.image.now y
 held c y g = let b : (i : ℕ) → get_or c.args.image.now i 0 < 256
     = λ i. (c.type_inv.image i).fits in

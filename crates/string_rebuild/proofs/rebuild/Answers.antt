@@ -5,9 +5,10 @@ use lib.ListN.{length}
 use Rattle.string_in_place.proofs.FinishLaws.{room-written, part_length}
 use Rattle.string_rebuild.proofs.JudgeLaws.{planned_tail, planned_length, MeetsNone, none_met, met_refused, makes}
 use Rattle.string_rebuild.proofs.rebuild.Goals as goal
+use Rattle.string_rebuild.proofs.rebuild.Goals.{Else-number-ne0}
 
 -- nothing was met
-passed : (c : goal.Else-number-ne0) → let a = c.args in
+passed : (c : Else-number-ne0) → let a = c.args in
     MeetsNone a.p a.image.now c.plan_rebuild-plan.result (length a.out.now)
 passed c = none_met _ _ _ _ (sym c.refusal-number.ensures ∙ c.if-number-ne0.false)
 

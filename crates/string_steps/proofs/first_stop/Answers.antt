@@ -13,20 +13,21 @@ use Rattle.string_steps.proofs.MarkLaws.{front-listed}
 use Rattle.string_steps.proofs.MarkLaws as marks
 use Rattle.string_steps.proofs.StopLaws.{pass_first, pass_end, met_most, front_fits, pass_stop, pass_next}
 use Rattle.string_steps.proofs.first_stop.Goals as goal
+use Rattle.string_steps.proofs.first_stop.Goals.{After-first_string-c, After-fits_too-fits, After-string_at-step}
 
 -- the pass starts at the first string
-given : (c : goal.After-first_string-c) → let a = c.args in
+given : (c : After-first_string-c) → let a = c.args in
     Given a.p a.image.now (told Marks a.marks.now) a.text.now a.ends.now c.first_string-c.result
 given c = let e = c.first_string-c.ensures in
     marks.given _ _ _ _ _ c.requires _ (e.0 _ _ c.requires.laid.placed) e.1
 
 -- the next string was visited
-met : (c : goal.After-string_at-step) → let a = c.args in
+met : (c : After-string_at-step) → let a = c.args in
     Met a.p a.image.now c.loop-next.next c.string_from-at.result c.string_at-step.result
 met c = record { edit = c.loop-next-test.true; here = c.string_from-at.ensures.1; visits = c.string_at-step.ensures }
 
 -- whether it fits too
-answer : (c : goal.After-fits_too-fits) → let a = c.args in
+answer : (c : After-fits_too-fits) → let a = c.args in
     let n = c.loop-next.next in
     c.fits_too-fits.result
     ≡ both (fits_in_place a.p.layout a.image.now n.id (coming_in a.text.now a.ends.now n)) c.loop-next.fits

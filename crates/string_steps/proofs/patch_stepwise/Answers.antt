@@ -5,9 +5,10 @@ use Rattle.string_steps.specs.Steps.{Sound}
 use Rattle.string_steps.proofs.MarkLaws.{sound}
 use Rattle.string_steps.proofs.StopLaws.{steps_refused, steps_made}
 use Rattle.string_steps.proofs.patch_stepwise.Goals as goal
+use Rattle.string_steps.proofs.patch_stepwise.Goals.{After-stop_of-number}
 
 -- the values are UTF-8, and of bytes
-told-sound : (c : goal.After-stop_of-number) → let a = c.args in
+told-sound : (c : After-stop_of-number) → let a = c.args in
     Sound a.p.layout a.image.now (values_in (told Marks a.marks.now) a.text.now a.ends.now)
 told-sound c = sound _ _ _ _ _ c.requires (λ i. (c.type_inv.text i).fits)
 

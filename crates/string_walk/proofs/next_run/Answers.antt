@@ -4,9 +4,10 @@ use native.Mathlib.Omega.{arith}
 use Rattle.sections.proofs.SectionLaws.{sectioned}
 use Rattle.string_walk.proofs.RunLaws.{RunIn, KindRead, next_ends, next_more, next_is}
 use Rattle.string_walk.proofs.next_run.Goals as goal
+use Rattle.string_walk.proofs.next_run.Goals.{After-is_identifier_run-identifier}
 
 -- the kind behind the run was read
-read : (c : goal.After-is_identifier_run-identifier) → let a = c.args in
+read : (c : After-is_identifier_run-identifier) → let a = c.args in
     KindRead a.p a.image.now a.run.count c.kind_word-word.result c.value-size.result
     c.is_identifier_run-identifier.result
 read c = record {

@@ -5,14 +5,15 @@ use Rattle.sections.proofs.SectionLaws.{sectioned}
 use Rattle.string_walk.specs.Places.{StepOf, counts_of}
 use Rattle.string_walk.proofs.RunLaws.{Covers, rank_most, rank_is}
 use Rattle.string_walk.proofs.string_at.Goals as goal
+use Rattle.string_walk.proofs.string_at.Goals.{After-run_of-run, After-visit-step}
 
 -- the string's entries were visited
-step : (c : goal.After-visit-step) → let a = c.args in
+step : (c : After-visit-step) → let a = c.args in
     StepOf a.p a.image.now (counts_of a.at) c.visit-step.result
 step c = rw c.counts_of.ensures at c.visit-step.ensures
 
 -- and the run was found that covers its id
-covers : (c : goal.After-run_of-run) → let a = c.args in
+covers : (c : After-run_of-run) → let a = c.args in
     Covers a.p a.image.now c.run_of-run.result a.at.id
 covers c = let r = c.run_of-run.ensures in
     let h = c.requires in

@@ -2,9 +2,10 @@
 use mathlib.Core.Path.{refl}
 use Rattle.string_walk.proofs.WalkLaws.{EntryAt, pairs_few, pair_there, lies, walked_next}
 use Rattle.string_walk.proofs.visit.Goals as goal
+use Rattle.string_walk.proofs.visit.Goals.{After-small_entry-entry}
 
 -- the entry that was read is that of the next string
-entry : (c : goal.After-small_entry-entry) → let a = c.args in
+entry : (c : After-small_entry-entry) → let a = c.args in
     EntryAt a.p a.image.now a.before c.small_entry-entry.result
 entry c = let h = c.requires in
     record { laid = h.0; walked = h.1.0; known = h.1.1; entry = c.small_entry-entry.ensures.0 }

@@ -4,15 +4,16 @@ use Rattle.string_edits.specs.Told.{told}
 use Rattle.string_in_place.specs.Known.{Given, Overwritten}
 use Rattle.string_in_place.proofs.InPlaceLaws.{known_in_place}
 use Rattle.strings.proofs.patch_known.Goals as goal
+use Rattle.strings.proofs.patch_known.Goals.{After-first_edited-from, Then-fits_all}
 
 -- the edits, and where the pass over them starts
-given : (c : goal.After-first_edited-from) → let a = c.args in
+given : (c : After-first_edited-from) → let a = c.args in
     Given a.p a.image.now (told a.form a.words.now) a.text.now a.ends.now c.first_edited-from.result
 given c = let q = c.requires in
     record { laid = q.0.0; listed = q.0.1; known = q.1; from = c.first_edited-from.ensures }
 
 -- the values go over their strings' bytes
-overwritten : (c : goal.Then-fits_all) → let a = c.args in
+overwritten : (c : Then-fits_all) → let a = c.args in
     Overwritten a.p a.image.now (told a.form a.words.now) a.text.now a.ends.now
     c.first_edited-from.result
 overwritten c = record { given = given c; fits = sym c.fits_all.ensures ∙ c.if-fits_all.true }

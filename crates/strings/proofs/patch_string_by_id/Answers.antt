@@ -7,13 +7,14 @@ use Rattle.sections.specs.Places.{Laid}
 use Rattle.admission.proofs.AnswerLaws.{is-laid}
 use Rattle.strings.proofs.PatchLaws.{Admits, id_refused, id-absent, id-value, id_known}
 use Rattle.strings.proofs.patch_string_by_id.Goals as goal
+use Rattle.strings.proofs.patch_string_by_id.Goals.{In-Laid-2}
 
 -- the image is admitted
-admits : (c : goal.In-Laid-2) → let a = c.args in
+admits : (c : In-Laid-2) → let a = c.args in
     Admits a.layout a.image.now c.admit-admitted.result c.in-Laid.p
 admits c = record { is = c.admit-admitted.ensures; laid = c.in-Laid.is }
 
-laid : (c : goal.In-Laid-2) → Laid c.in-Laid.p c.args.image.now
+laid : (c : In-Laid-2) → Laid c.in-Laid.p c.args.image.now
 laid c = let b : (i : ℕ) → get_or c.args.image.now i 0 < 256 = λ i. (c.type_inv.image i).fits in
     is-laid _ _ _ c.admit-admitted.ensures _ c.in-Laid.is b
 

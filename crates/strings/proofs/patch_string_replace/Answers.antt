@@ -8,20 +8,21 @@ use Rattle.string_walk.proofs.WalkLaws.{located_self}
 use Rattle.strings.proofs.PatchLaws.{OldTested, NewTested, ValueSought}
 use Rattle.strings.proofs.PatchLaws.{value_refused, old_value, new_value, value-absent, value_known}
 use Rattle.strings.proofs.patch_string_replace.Goals as goal
+use Rattle.strings.proofs.patch_string_replace.Goals.{After-find-location, After-is_utf8, After-is_utf8-2}
 
-old-tested : (c : goal.After-is_utf8) → let a = c.args in
+old-tested : (c : After-is_utf8) → let a = c.args in
     OldTested a.layout a.image.now c.admit-admitted.result c.in-Laid.p a.old.now c.is_utf8.result
 old-tested c = record {
       admits = record { is = c.admit-admitted.ensures; laid = c.in-Laid.is };
       tested = c.is_utf8.ensures;
     }
 
-new-tested : (c : goal.After-is_utf8-2) → let a = c.args in
+new-tested : (c : After-is_utf8-2) → let a = c.args in
     NewTested a.layout a.image.now c.admit-admitted.result c.in-Laid.p a.old.now a.new.now
     c.is_utf8.result c.is_utf8-2.result
 new-tested c = record { before = old-tested c; valid = c.if-not-is_utf8.false; tested = c.is_utf8-2.ensures }
 
-sought : (c : goal.After-find-location) → let a = c.args in
+sought : (c : After-find-location) → let a = c.args in
     ValueSought a.layout a.image.now c.admit-admitted.result c.in-Laid.p a.old.now a.new.now
     c.is_utf8.result c.is_utf8-2.result c.find-location.result
 sought c = record { before = new-tested c; valid = c.if-not-is_utf8-2.false; location = c.find-location.ensures }

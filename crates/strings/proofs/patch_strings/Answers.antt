@@ -10,9 +10,10 @@ use Rattle.string_edits.proofs.ToldLaws.{listed}
 use Rattle.strings.proofs.PassLaws.{no_list, list_one, list_refused, Judging, ids_known}
 use Rattle.strings.proofs.PassLaws.{not_known, given-twice, not_valid, list_known}
 use Rattle.strings.proofs.patch_strings.Goals as goal
+use Rattle.strings.proofs.patch_strings.Goals.{In-Laid-2}
 
 -- the three are a list, and the image is admitted
-judging : (c : goal.In-Laid-2) → let a = c.args in
+judging : (c : In-Laid-2) → let a = c.args in
     Judging a.layout a.image.now a.ids.now a.text.now a.ends.now c.admit-admitted.result c.in-Laid.p
     c.is_list.result
 judging c = record {
@@ -21,7 +22,7 @@ judging c = record {
       admits = record { is = c.admit-admitted.ensures; laid = c.in-Laid.is };
     }
 
-laid : (c : goal.In-Laid-2) → Laid c.in-Laid.p c.args.image.now
+laid : (c : In-Laid-2) → Laid c.in-Laid.p c.args.image.now
 laid c = let b : (i : ℕ) → get_or c.args.image.now i 0 < 256 = λ i. (c.type_inv.image i).fits in
     is-laid _ _ _ c.admit-admitted.ensures _ c.in-Laid.is b
 

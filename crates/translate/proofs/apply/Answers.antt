@@ -4,9 +4,10 @@ use native.Mathlib.Omega.{arith}
 use Rattle.translate.proofs.ApplyLaws.{read_of, read_outside, lent_still, entered, apart, MarkedOf, marked_all}
 use Rattle.translate.proofs.ApplyLaws.{stepped, absent, unread}
 use Rattle.translate.proofs.apply.Goals as goal
+use Rattle.translate.proofs.apply.Goals.{After-mark, In-Read-2}
 
 -- what the look-up left
-marked : (c : goal.After-mark) → let a = c.args in
+marked : (c : After-mark) → let a = c.args in
     let w = c.read_pairs-read.last in
     MarkedOf a.p a.image.now a.file.now w.1.0 w.1.1.0 c.mark.new.1.1.1.1.1.0 c.in-Read.count
 marked c = let k = c.read_pairs-read.auto in

@@ -10,11 +10,12 @@ use Rattle.sections.proofs.SectionLaws.{Sectioned, sectioned}
 use Rattle.translate.specs.Space.{words_for}
 use Rattle.translate.proofs.SpaceLaws.{lent-long, enough, part_within, part_cleared}
 use Rattle.translate.proofs.apply_in.Goals as goal
+use Rattle.translate.proofs.apply_in.Goals.{After-words_for-words}
 
 strings_few : (p : Places) (s : List ℕ) → Laid p s → p.strings ≤ 16777216
 strings_few p s l = let z : Sectioned p s = sectioned p s l.placed in omega arith
 
-counted : (c : goal.After-words_for-words) → let a = c.args in
+counted : (c : After-words_for-words) → let a = c.args in
     Counted (length a.file.now) a.p.strings c.words_for-words.result (length a.text.now) (length a.ends.now)
     (length a.work.now)
 counted c = let e = enough _ _ _ c.requires.1 in

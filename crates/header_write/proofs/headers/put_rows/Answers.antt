@@ -7,9 +7,10 @@ use lib.ListN.{length}
 use Rattle.header_write.specs.Headers.{run, is_header_word}
 use Rattle.header_write.proofs.HeaderLaws.{row_at, word_width, word_fits, place_le, run-next, run_end}
 use Rattle.header_write.proofs.headers.put_rows.Goals as goal
+use Rattle.header_write.proofs.headers.put_rows.Goals.{After-get}
 
 -- the row of this turn is a header word
-word : (c : goal.After-get) → is_header_word c.get.result ≡ true
+word : (c : After-get) → is_header_word c.get.result ≡ true
 word c = row_at c.get.result c.args.first (length c.args.values.now) c.loop-i.i c.get.ensures
     c.requires.values_bound.1 (omega arith)
 
