@@ -1,6 +1,5 @@
 -- Without a large header the record says all; with one, its place is judged before a word of it is read.
 use mathlib.Core.Path.{sym, ◌∙◌}
-use borrow.Author.Tests.{not-true, not-false}
 use Rattle.bits.specs.Words.{whole}
 use Rattle.function_table.proofs.ReadLaws.{SmallRead}
 use Rattle.function_table.proofs.TailLaws.{PointerRead, small_found, pointer_refused, header_found, header_there}
@@ -12,7 +11,7 @@ small : (c : Then-not-is_large) → let a = c.args in
     SmallRead a.p.layout a.image.now a.i (whole c.record_of-words.result)
 small c = record {
       number = c.record_of-words.ensures;
-      flag = sym c.is_large.ensures ∙ not-true c.is_large.result c.if-not-is_large.true;
+      flag = sym c.is_large.ensures ∙ c.if-not-is_large.true;
     }
 
 -- it points to one, and its pointer is judged
@@ -20,7 +19,7 @@ judged : (c : After-judged_pointer-judged) → let a = c.args in
     PointerRead a.p.layout a.image.now a.i (whole c.record_of-words.result) c.judged_pointer-judged.result
 judged c = record {
       number = c.record_of-words.ensures;
-      flag = sym c.is_large.ensures ∙ not-false c.is_large.result c.if-not-is_large.false;
+      flag = sym c.is_large.ensures ∙ c.if-not-is_large.false;
       pointer = c.judged_pointer-judged.ensures;
     }
 

@@ -34,7 +34,7 @@ returns-then-size-f c = same_size (spliced (goal.at.returns-then-size-f c).After
 
 pub relocate-requires : goal.relocate-requires
 relocate-requires c =
-    rw c.put_spliced.auto.0 (may_move (begun (goal.at.relocate-requires c).After-function_at-f) c.if-size-f.false)
+    rw c.put_spliced.new.out (may_move (begun (goal.at.relocate-requires c).After-function_at-f) c.if-size-f.false)
 
 pub returns : goal.returns
 returns c = other_size (spliced (goal.at.returns c).After-put_spliced) c.if-size-f.false _ c.relocate.ensures

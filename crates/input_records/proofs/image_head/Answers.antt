@@ -1,5 +1,5 @@
 -- One way out for each thing that is wrong, in the order in which the definition tests it; each later way has those before it at hand.
-use borrow.Author.Tests.{le-leb, lt-leb, not-true, not-false}
+use borrow.Author.Tests.{le-leb, lt-leb}
 use lib.ListN.{length, get_or}
 use Rattle.input_records.specs.Heads.{image_head, image_head_good}
 use Rattle.input_records.proofs.image_head.Goals as goal
@@ -14,8 +14,7 @@ returns-then-not-has_mark c =
     rw (
       le-leb 7 (length c.args.s.now) c.if-s-lt-IMAGE_HEAD.false,
       ← c.has_mark.ensures,
-      not-true
-          c.has_mark.result c.if-not-has_mark.true,
+      c.if-not-has_mark.true,
     )
 
 pub returns-then-s-gt4 : goal.returns-then-s-gt4
@@ -24,8 +23,7 @@ returns-then-s-gt4 c =
     rw (
       le-leb 7 (length c.args.s.now) c.if-s-lt-IMAGE_HEAD.false,
       ← c.has_mark.ensures,
-      not-false
-          c.has_mark.result c.if-not-has_mark.false,
+      c.if-not-has_mark.false,
       lt-leb (get_or c.args.s.now 2 0) 4 c.if-s-gt4.true,
     )
 
@@ -35,8 +33,7 @@ returns-then-length-gt-IMAGE_MOST c =
     rw (
       le-leb 7 (length c.args.s.now) c.if-s-lt-IMAGE_HEAD.false,
       ← c.has_mark.ensures,
-      not-false
-          c.has_mark.result c.if-not-has_mark.false,
+      c.if-not-has_mark.false,
       le-leb (get_or c.args.s.now 2 0) 4 c.if-s-gt4.false,
       ← c.word-length.ensures.0,
       lt-leb c.word-length.result 65_536 c.if-length-gt-IMAGE_MOST.true,
@@ -48,8 +45,7 @@ returns c =
     rw (
       le-leb 7 (length c.args.s.now) c.if-s-lt-IMAGE_HEAD.false,
       ← c.has_mark.ensures,
-      not-false
-          c.has_mark.result c.if-not-has_mark.false,
+      c.if-not-has_mark.false,
       le-leb (get_or c.args.s.now 2 0) 4 c.if-s-gt4.false,
       ← c.word-length.ensures.0,
       le-leb c.word-length.result 65_536 c.if-length-gt-IMAGE_MOST.false,

@@ -1,12 +1,10 @@
-use borrow.Author.Tests.{not-true, not-false}
 use Rattle.large_headers.proofs.is_clear_of.Goals as goal
 
 pub returns-then-not-is_clear_of_header : goal.returns-then-not-is_clear_of_header
-returns-then-not-is_clear_of_header c =
-    rw (← c.is_clear_of_header.ensures, not-true c.is_clear_of_header.result c.if-not-is_clear_of_header.true)
+returns-then-not-is_clear_of_header c = rw (← c.is_clear_of_header.ensures, c.if-not-is_clear_of_header.true)
 
 pub returns : goal.returns
 returns c =
     rw
-    (← c.is_clear_of_header.ensures, not-false c.is_clear_of_header.result c.if-not-is_clear_of_header.false)
+    (← c.is_clear_of_header.ensures, c.if-not-is_clear_of_header.false)
     c.is_clear_of_body.ensures

@@ -11,7 +11,7 @@ pub returns-in-Hash : goal.returns-in-Hash
 returns-in-Hash c =
     let a = c.args in
     let p = c.put_hex_word in
-    let w = subst⁻¹ (λ (x : Slot). Wrote a.out.now a.at (slot_word x) p.result p.new.0) c.in-Hash.is
+    let w = subst⁻¹ (λ (x : Slot). Wrote a.out.now a.at (slot_word x) p.result p.new.out) c.in-Hash.is
     p.ensures in
     (w, omega (arith, w.0, length_slot a.slot))
 
@@ -19,6 +19,6 @@ pub returns-in-None : goal.returns-in-None
 returns-in-None c =
     let a = c.args in
     let p = c.put_text in
-    let w = subst⁻¹ (λ (x : Slot). Wrote a.out.now a.at (slot_word x) p.result p.new.0) c.in-None.is
+    let w = subst⁻¹ (λ (x : Slot). Wrote a.out.now a.at (slot_word x) p.result p.new.out) c.in-None.is
     p.ensures in
     (w, omega (arith, w.0, length_slot a.slot))

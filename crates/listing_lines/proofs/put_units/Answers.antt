@@ -34,8 +34,8 @@ loop-i-preserved c =
     let l = c.loop-i in
     let p = c.put_hex in (
       omega arith,
-      p.auto.0 ∙ l.invariant.1,
-      put_turn a.image.now a.start a.wide a.first a.n l.out p.new.0 _ a.at
+      p.auto.out ∙ l.invariant.1,
+      put_turn a.image.now a.start a.wide a.first a.n l.out p.new.out _ a.at
           l.i c.unit_at.result
           (record { left = c.loop-i-test.true; unit = c.unit_at.ensures.0; wrote = p.ensures })
           l.invariant.2,

@@ -11,7 +11,7 @@ returns-then-p-i c =
 pub returns : goal.returns
 returns c =
     let w = c.put_function-end in
-    gives_function c.args.p c.args.image.now c.requires.laid.placed c.args.out.now w.new.0
+    gives_function c.args.p c.args.image.now c.requires.laid.placed c.args.out.now w.new.out
     c.args.at w.result c.args.i _
     (record {
       known = omega (arith, c.if-p-i.false);

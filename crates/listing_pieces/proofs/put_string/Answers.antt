@@ -13,7 +13,7 @@ returns c =
     λ s ready good.
     let a = c.args in
     let w = c.put_string-end in
-    gives_string a.p s ready.laid.placed a.out.now w.new.0 a.at w.result a.turn c.string_in-string.result
+    gives_string a.p s ready.laid.placed a.out.now w.new.out a.at w.result a.turn c.string_in-string.result
     (record {
       known = c.if-p-id.false;
       counted = good;

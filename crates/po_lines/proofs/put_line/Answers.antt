@@ -2,14 +2,13 @@
 use mathlib.Core.Path.{refl, ap, sym, ◌∙◌}
 use native.Mathlib.Nat.{add-zero}
 use native.Mathlib.Omega.{arith}
-use borrow.Author.Tests.{not-true, not-false}
 use lib.ListN.{length, length-drop}
 use Rattle.po_lines.specs.Kinds.{mark_of}
 use Rattle.po_lines.proofs.put_line.Goals as goal
 
 pub returns-then-not-is_quoted : goal.returns-then-not-is_quoted
 returns-then-not-is_quoted c =
-    let q = sym c.is_quoted.ensures ∙ not-true c.is_quoted.result c.if-not-is_quoted.true in
+    let q = sym c.is_quoted.ensures ∙ c.if-not-is_quoted.true in
     record {
       wrote = rw q (sym (add-zero c.args.at), refl);
       few = omega arith;
@@ -23,7 +22,7 @@ put_unescaped-requires c =
 pub returns : goal.returns
 returns c =
     let a = c.args in
-    let q = sym c.is_quoted.ensures ∙ not-false c.is_quoted.result c.if-not-is_quoted.false in
+    let q = sym c.is_quoted.ensures ∙ c.if-not-is_quoted.false in
     let e = c.quoted.ensures in
     let p = c.put_unescaped.ensures in
     record {

@@ -20,7 +20,7 @@ loop-i-preserved c =
     let s = c.args.text.now in
     let n = p.ensures.next in (
       omega arith,
-      p.auto.0 ∙ l.invariant.1,
+      p.auto.out ∙ l.invariant.1,
       omega (arith, l.invariant.2, p.ensures.few),
       end_turn l.quote s l.i _ (omega arith) n ∙ l.invariant.3,
       omega (arith, l.invariant.4, p.ensures.wrote.0, count_turn l.quote s l.i _ (omega arith) n),

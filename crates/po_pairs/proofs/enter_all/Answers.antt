@@ -59,7 +59,7 @@ loop-q-preserved c =
     let b = c.bucket_of-bucket.ensures in
     let bucket = bucket_in a.text.now a.ends.now a.m in (
       omega arith,
-      c.enter.auto.0 ∙ l.invariant.1,
+      c.enter.new.work ∙ l.invariant.1,
       pass_next (is_new (id_in a.text.now a.ends.now)) l.q _ c.is_new.ensures c.if-not-is_new.false l.invariant.2,
       rw add-one (chained_enter (λ j. true) bucket a.m l.q l.work l.invariant.3 (rw b.0 at b.1)
           (omega (arith, q.1, q.2, l.invariant.1)) refl _ (rw b.0 at c.enter.ensures)),

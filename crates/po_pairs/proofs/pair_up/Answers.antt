@@ -15,7 +15,7 @@ enter_all-requires c =
     let a = c.args in
     let q = c.requires in
     record {
-      all_within = (λ j h. q.0.0 j (omega arith), omega (arith, q.0.1), omega (arith, q.1.1, c.clear.auto.0), q.1.0, q.0.2);
+      all_within = (λ j h. q.0.0 j (omega arith), omega (arith, q.0.1), omega (arith, q.1.1, c.clear.new.work), q.1.0, q.0.2);
       chained_pairs = chained_clear (λ j. true) (bucket_in a.text.now a.ends.now (length a.ends.now)) (length a.ends.now) a.work.now _
           (omega (arith, q.1.1)) c.clear.ensures;
     }

@@ -32,7 +32,7 @@ loop-i-preserved c =
     let l = c.loop-i in
     let p = c.put_point-to in (
       q.2,
-      p.auto.0 ∙ l.invariant.1,
+      p.auto.out ∙ l.invariant.1,
       left_valid _ _ _ q.0 l.invariant.2,
       omega (arith, l.invariant.3, p.ensures.0, length_parts _ _ _ q.0 l.invariant.2),
       put_turn _ _ _ q.0 l.invariant.2 l.out _ _ l.to _ p.ensures l.invariant.4,

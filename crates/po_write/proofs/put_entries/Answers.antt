@@ -40,7 +40,7 @@ loop-j-preserved c =
     let g = a.p.layout in
     let s = a.image.now in (
       omega (arith, c.loop-j-test.true),
-      w.auto.0 ∙ l.invariant.1,
+      w.auto.out ∙ l.invariant.1,
       omega (arith, w.ensures.0, l.invariant.2, length_next g s l.j),
       rw (file_next g s l.j)
           (sets_then a.out.now l.out _ (file_to g s l.j) (file_at g s l.j) 0 l.to l.invariant.3

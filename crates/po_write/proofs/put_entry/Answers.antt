@@ -16,7 +16,7 @@ put_units-behind-requires c =
     let t = c.put_text-value in
     record {
       inside = c.requires.inside;
-      t_in_bounds = omega (arith, c.requires.t_in_bounds, t.ensures.0, t.auto.0, entry_length (utf8_of (units_in a.image.now a.t)));
+      t_in_bounds = omega (arith, c.requires.t_in_bounds, t.ensures.0, t.auto.out, entry_length (utf8_of (units_in a.image.now a.t)));
     }
 
 pub put_text-requires : goal.put_text-requires
@@ -28,9 +28,9 @@ put_text-requires c =
       arith,
       c.requires.t_in_bounds,
       t.ensures.0,
-      t.auto.0,
+      t.auto.out,
       u.ensures.0,
-      u.auto.0,
+      u.auto.out,
       entry_length
           (utf8_of (units_in a.image.now a.t)),
     )

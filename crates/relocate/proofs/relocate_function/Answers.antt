@@ -7,7 +7,6 @@ use Rattle.image.proofs.PlaceLaws.{record_in_lem}
 use Rattle.function_table.specs.Functions.{as_func}
 use Rattle.function_table.proofs.ReadLaws.{LargeRead, header-fits}
 use Rattle.relocate.proofs.GroupLaws.{SmallMoved, LargeMoved, small_group, large_group, fields_held, header_held, words_held}
-use borrow.Author.Tests.{not-false}
 use Rattle.relocate.proofs.relocate_function.Goals as goal
 use Rattle.relocate.proofs.relocate_function.Goals.{After-function_after-f, After-function_after-f-2}
 
@@ -73,7 +72,7 @@ large_function-old-requires c =
     let z : LargeRead a.layout a.image.now a.i (whole c.record_of-words.result) c.pointer_of-ptr.result
     = record {
       number = c.record_of-words.ensures;
-      flag = sym c.is_large.ensures ∙ not-false c.is_large.result c.if-not-is_large.false;
+      flag = sym c.is_large.ensures ∙ c.if-not-is_large.false;
       place = c.pointer_of-ptr.ensures.0;
     } in
     (header-fits z c.requires.movable.headers c.requires.i_bound, c.requires.movable.fits.most)
@@ -100,7 +99,7 @@ pub put_header-requires : goal.put_header-requires
 put_header-requires c =
     let held = moved (goal.at.put_header-requires c).After-function_after-f-2 in
     record {
-      layout_in_bounds = rw c.put_record-2.auto.0 (header_held _ _ _ _ _ _ _ _ _ held _ c.requires.movable c.requires.i_bound);
+      layout_in_bounds = rw c.put_record-2.new.out (header_held _ _ _ _ _ _ _ _ _ held _ c.requires.movable c.requires.i_bound);
       fits_words = words_held _ _ _ _ _ _ _ _ _ held _ c.requires.movable c.requires.i_bound;
     }
 

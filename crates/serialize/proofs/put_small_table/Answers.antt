@@ -17,7 +17,7 @@ loop-i-preserved c =
     let s = c.args in
     let l = c.loop-i in (
       omega arith,
-      c.put_word.auto.0 ∙ l.invariant.1,
+      c.put_word.new.s ∙ l.invariant.1,
       c.put_word.ensures
           ∙ small_more s.ends.now s.image.now l.image l.i _ _ l.invariant.2 c.storage_at.ensures
           (rw (c.start_of.ensures.0, c.start_of-start.ensures.0) at c.entry.ensures),

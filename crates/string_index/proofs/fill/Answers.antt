@@ -36,11 +36,11 @@ loop-c-preserved c =
     let a = c.args in
     let l = c.loop-c in
     let r = c.put_string-c in (
-      omega (arith, r.ensures.0.1),
-      r.auto.0 ∙ l.invariant.1,
-      r.ensures.0.0,
-      rw r.ensures.0.1
-          (put_next a.p.strings (entry_of a.p.layout a.image.now) a.index.now l.c.id _ _ l.invariant.3 r.ensures.1),
+      omega (arith, r.ensures.cursor_of_2.1),
+      r.auto.index ∙ l.invariant.1,
+      r.ensures.cursor_of_2.0,
+      rw r.ensures.cursor_of_2.1
+          (put_next a.p.strings (entry_of a.p.layout a.image.now) a.index.now l.c.id _ _ l.invariant.3 r.ensures.index_after),
     )
 
 pub shape_of-index : goal.shape_of-index

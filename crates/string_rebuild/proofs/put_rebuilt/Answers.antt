@@ -21,7 +21,7 @@ put_region-requires c =
       laid = q.asked.given.laid;
       listed = q.asked.given.listed;
       measured = q.measured;
-      room = rw c.copy_around.auto.0 r.0;
+      room = rw c.copy_around.new.out r.0;
       limit = r.1;
     }
 
@@ -30,7 +30,7 @@ put_counts-requires c =
     let a = c.args in
     let edits = told a.form a.words.now in
     let q = c.requires in
-    rw (c.put_region.auto.0, c.copy_around.auto.0)
+    rw (c.put_region.new.out, c.copy_around.new.out)
     (header-room a.mode a.p a.image.now edits a.text.now a.ends.now a.from a.sizes a.tail _ q)
 
 pub relocate-requires : goal.relocate-requires
@@ -38,7 +38,7 @@ relocate-requires c =
     let a = c.args in
     let edits = told a.form a.words.now in
     let q = c.requires in
-    rw (c.put_counts.auto.0, c.put_region.auto.0, c.copy_around.auto.0)
+    rw (c.put_counts.new.out, c.put_region.new.out, c.copy_around.new.out)
     (movable a.mode a.p a.image.now edits a.text.now a.ends.now a.from a.sizes a.tail _ q)
 
 pub finish-requires : goal.finish-requires
@@ -48,10 +48,10 @@ finish-requires c =
     let q = c.requires in (
       q.asked.given,
       rw (
-        c.relocate.auto.0,
-        c.put_counts.auto.0,
-        c.put_region.auto.0,
-        c.copy_around.auto.0,
+        c.relocate.new.out,
+        c.put_counts.new.out,
+        c.put_region.new.out,
+        c.copy_around.new.out,
       )
           (ends_room a.mode a.p a.image.now edits a.text.now a.ends.now a.from a.sizes a.tail _ q),
     )
@@ -68,6 +68,6 @@ returns c =
       strings = c.put_region.ensures;
       counts = c.put_counts.ensures;
       places = c.relocate.ensures;
-      long = c.relocate.auto.0 ∙ c.put_counts.auto.0 ∙ c.put_region.auto.0
-          ∙ c.copy_around.auto.0;
+      long = c.relocate.new.out ∙ c.put_counts.new.out ∙ c.put_region.new.out
+          ∙ c.copy_around.new.out;
     }) _ _ c.finish.ensures

@@ -10,7 +10,7 @@ put_decimal-end-requires c = omega (arith, c.requires, decimal_20 c.args.x c.ran
 pub bounds-out-end : goal.bounds-out-end
 bounds-out-end c =
     let p = c.put_decimal-end in
-    omega (arith, c.requires, decimal_20 c.args.x c.ranges.x.fits, p.ensures.0, p.auto.0)
+    omega (arith, c.requires, decimal_20 c.args.x c.ranges.x.fits, p.ensures.0, p.auto.out)
 
 pub overflow_add-result : goal.overflow_add-result
 overflow_add-result c =
@@ -20,7 +20,7 @@ overflow_add-result c =
 pub returns : goal.returns
 returns c =
     let p = c.put_decimal-end in (
-      wrote_byte c.args.out.now p.new.0 (decimal c.args.x) c.args.at p.result c.args.behind
+      wrote_byte c.args.out.now p.new.out (decimal c.args.x) c.args.at p.result c.args.behind
           p.ensures,
       omega (arith, decimal_20 c.args.x c.ranges.x.fits, p.ensures.0),
     )

@@ -53,7 +53,7 @@ put_zeros-requires c =
     omega (
       arith,
       part_within a.text.now c.apply-answer.new.ends.1.1.1.0 (length a.file.now)
-          (counted (goal.at.put_zeros-requires c).After-words_for-words).in_text c.apply-answer.auto.1.1.1.1.0,
+          (counted (goal.at.put_zeros-requires c).After-words_for-words).in_text c.apply-answer.new.ends.1.1.1.0,
     )
 
 pub clear-requires : goal.clear-requires
@@ -62,7 +62,7 @@ clear-requires c =
     omega (
       arith,
       part_within a.ends.now c.apply-answer.new.ends.1.1.1.1.0 c.words_for-words.result
-          (counted (goal.at.clear-requires c).After-words_for-words).in_ends c.apply-answer.auto.1.1.1.1.1.0,
+          (counted (goal.at.clear-requires c).After-words_for-words).in_ends c.apply-answer.new.ends.1.1.1.1.0,
     )
 
 pub clear-requires-2 : goal.clear-requires-2
@@ -78,7 +78,7 @@ pub returns : goal.returns
 returns c =
     let a = c.args in
     let k = counted (goal.at.returns c).After-words_for-words in
-    let e = c.apply-answer.auto.1.1.1.1 in
+    let e = c.apply-answer.new.ends.1.1.1 in
     let w = c.apply-answer.new.ends.1.1.1 in
     let n = c.words_for-words.result in
     record {

@@ -39,9 +39,9 @@ loop-i-preserved c =
     let room = put-room l.r n.result s _ l.i t l.to _ l.invariant.3 in (
       omega arith,
       n.ensures.1,
-      p.auto.0
+      p.auto.out
           ∙ l.invariant.2,
-      omega (arith, room.1, p.ensures.0, p.auto.0),
+      omega (arith, room.1, p.ensures.0, p.auto.out),
       rw (p.ensures.0, p.ensures.1)
           (put_turn l.r n.result s _ l.i t l.out _ l.to l.invariant.4),
     )

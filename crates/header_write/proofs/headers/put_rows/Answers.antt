@@ -33,7 +33,7 @@ loop-i-preserved c =
     let l = c.loop-i in
     let s = c.args in (
       omega arith,
-      c.put_word.auto.0
+      c.put_word.new.s
           ∙ l.invariant.1,
       run-next s.layout s.first l.i s.values.now l.buf _ l.invariant.2 c.get.result _
           (record {
