@@ -18,6 +18,8 @@ use Rattle.text.specs.Text.{digit, decimal_of, decimal, space, spaced, Wrote}
 -- steps past the number change nothing
 same : (n m x : ℕ) → x < n → x < m → decimal_of n x ≡ decimal_of m x
 unfolding decimal_of
+same zero m x h g = absurd (omega arith)
+same (suc n) zero x h g = absurd (omega arith)
 same (suc n) (suc m) x h g = go (ltb x 10) (λ k. same n m (x / 10) (omega (arith, ltb-false x 10 k)) (omega (arith, ltb-false x 10 k)))
   where
     go : (t : Bool) → (t ≡ false → decimal_of n (x / 10) ≡ decimal_of m (x / 10))
