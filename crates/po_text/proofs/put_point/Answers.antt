@@ -32,7 +32,7 @@ put_two-requires-then-c-lt65536 c =
     (omega arith, omega arith, simp length-set (omega (arith, k)))
 
 pub shape_of-out-then-c-lt65536 : goal.shape_of-out-then-c-lt65536
-shape_of-out-then-c-lt65536 c = c.put_two-then-c-lt65536.new.out ∙ simp length-set
+shape_of-out-then-c-lt65536 c = c.put_two-then-c-lt65536.auto.out ∙ simp length-set
 
 pub returns-then-c-lt65536 : goal.returns-then-c-lt65536
 returns-then-c-lt65536 c =
@@ -49,7 +49,7 @@ put_two-middle-requires c =
 pub put_two-requires-2 : goal.put_two-requires-2
 put_two-requires-2 c =
     let k = rw (written_four _ c.if-c-lt65536.false) at c.requires.1 in
-    (omega arith, omega arith, omega (arith, k, c.put_two-middle.ensures.0, c.put_two-middle.new.out))
+    (omega arith, omega arith, omega (arith, k, c.put_two-middle.ensures.0, c.put_two-middle.auto.out))
 
 pub returns : goal.returns
 returns c =
