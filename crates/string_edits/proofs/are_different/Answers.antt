@@ -1,3 +1,5 @@
+use mathlib.Core.Path.{ap}
+use mathlib.Core.Bool.{not}
 use mathlib.Core.Bool.{true}
 use Prim.Native.Nat.{◌-◌}
 use native.Mathlib.Omega.{arith}
@@ -13,13 +15,13 @@ pub returns-then-not-is_new : goal.returns-then-not-is_new
 returns-then-not-is_new c =
     let a = c.args in
     pass_stop (is_new (λ i. get_or a.ids.now i 0)) _ c.loop-j.j _ c.loop-j-test.true c.is_new.ensures
-    c.if-not-is_new.true
+    (ap not c.if-not-is_new.true)
 
 pub loop-j-preserved : goal.loop-j-preserved
 loop-j-preserved c =
     let a = c.args in (
       omega arith,
-      pass_next (is_new (λ i. get_or a.ids.now i 0)) c.loop-j.j _ c.is_new.ensures c.if-not-is_new.false
+      pass_next (is_new (λ i. get_or a.ids.now i 0)) c.loop-j.j _ c.is_new.ensures (ap not c.if-not-is_new.false)
           c.loop-j.invariant.1,
     )
 

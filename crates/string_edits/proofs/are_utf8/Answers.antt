@@ -1,3 +1,4 @@
+use mathlib.Core.Bool.{not}
 use mathlib.Core.Path.{◌∙◌, ap}
 use mathlib.Core.Bool.{true}
 use Prim.Native.Nat.{◌-◌}
@@ -17,14 +18,14 @@ pub returns-then-not-is_utf8 : goal.returns-then-not-is_utf8
 returns-then-not-is_utf8 c =
     let a = c.args in
     pass_stop (λ i. is_utf8 (value_in a.text.now a.ends.now i)) _ c.loop-j.j _ c.loop-j-test.true
-    (c.is_utf8.ensures ∙ ap is_utf8 c.value_at.ensures.0) c.if-not-is_utf8.true
+    (c.is_utf8.ensures ∙ ap is_utf8 c.value_at.ensures.0) (ap not c.if-not-is_utf8.true)
 
 pub loop-j-preserved : goal.loop-j-preserved
 loop-j-preserved c =
     let a = c.args in (
       omega arith,
       pass_next (λ i. is_utf8 (value_in a.text.now a.ends.now i)) c.loop-j.j _
-          (c.is_utf8.ensures ∙ ap is_utf8 c.value_at.ensures.0) c.if-not-is_utf8.false c.loop-j.invariant.1,
+          (c.is_utf8.ensures ∙ ap is_utf8 c.value_at.ensures.0) (ap not c.if-not-is_utf8.false) c.loop-j.invariant.1,
     )
 
 pub returns : goal.returns

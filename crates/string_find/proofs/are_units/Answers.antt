@@ -1,3 +1,5 @@
+use mathlib.Core.Path.{ap}
+use mathlib.Core.Bool.{not}
 use mathlib.Core.Path.{sym, subst}
 use Prim.Native.Nat.{◌-◌}
 use native.Mathlib.Omega.{arith}
@@ -47,7 +49,7 @@ are_next-requires c =
 
 pub returns-then-not-are_next : goal.returns-then-not-are_next
 returns-then-not-are_next c =
-    differs _ _ _ _ _ _ _ _ _ _ (turn (goal.at.returns-then-not-are_next c).After-completed-units) _ c.are_next.ensures c.if-not-are_next.true
+    differs _ _ _ _ _ _ _ _ _ _ (turn (goal.at.returns-then-not-are_next c).After-completed-units) _ c.are_next.ensures (ap not c.if-not-are_next.true)
 
 pub count_of-j-requires : goal.count_of-j-requires
 count_of-j-requires c = tt
@@ -68,7 +70,7 @@ loop-i-preserved c =
       omega arith,
       c.next_byte-r.ensures.1,
       rw c.count_of-j.ensures.0 (count_left _ _ _ _ _ _ _ _ _ _ t _ c.loop-i.invariant.2),
-      rw c.count_of-j.ensures.0 (agrees _ _ _ _ _ _ _ _ _ _ t _ c.are_next.ensures c.if-not-are_next.false),
+      rw c.count_of-j.ensures.0 (agrees _ _ _ _ _ _ _ _ _ _ t _ c.are_next.ensures (ap not c.if-not-are_next.false)),
     )
 
 pub returns : goal.returns

@@ -1,3 +1,4 @@
+use mathlib.Core.Bool.{not}
 use mathlib.Core.Path.{◌≡◌, ap, ◌∙◌}
 use mathlib.Core.Bool.{true}
 use mathlib.Core.List.{List}
@@ -65,7 +66,7 @@ returns-then-not-passes c =
     let a = c.args in
     let edits = told a.form a.words.now in
     test_stop a.p a.image.now edits a.text.now a.ends.now a.from c.requires _ _ c.loop-next.invariant.0 _ _
-    (met (goal.at.returns-then-not-passes c).After-string_at-step) (tested a.overlaps a.p.layout a.image.now) _ (answer (goal.at.returns-then-not-passes c).After-passes) c.if-not-passes.true
+    (met (goal.at.returns-then-not-passes c).After-string_at-step) (tested a.overlaps a.p.layout a.image.now) _ (answer (goal.at.returns-then-not-passes c).After-passes) (ap not c.if-not-passes.true)
 
 pub next_edit-next-requires-in-loop-next : goal.next_edit-next-requires-in-loop-next
 next_edit-next-requires-in-loop-next c =
@@ -97,7 +98,7 @@ loop-next-preserved c =
       edge_next a.p a.image.now edits a.text.now a.ends.now a.from c.requires _ _ e _ _ (met (goal.at.loop-next-preserved c).After-string_at-step) _
           c.next_edit-next-in-loop-next.ensures,
       test_next a.p a.image.now edits a.text.now a.ends.now a.from c.requires _ _ e _ _ (met (goal.at.loop-next-preserved c).After-string_at-step)
-          (tested a.overlaps a.p.layout a.image.now) _ (answer (goal.at.loop-next-preserved c).After-passes) c.if-not-passes.false c.loop-next.invariant.1,
+          (tested a.overlaps a.p.layout a.image.now) _ (answer (goal.at.loop-next-preserved c).After-passes) (ap not c.if-not-passes.false) c.loop-next.invariant.1,
     )
 
 pub returns : goal.returns

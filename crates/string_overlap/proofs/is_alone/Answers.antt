@@ -1,3 +1,5 @@
+use mathlib.Core.Path.{ap}
+use mathlib.Core.Bool.{not}
 use mathlib.Core.Bool.{true}
 use Prim.Native.Nat.{◌-◌}
 use native.Mathlib.Omega.{arith}
@@ -35,7 +37,7 @@ returns-then-not-is_apart c =
       this = q.1.place;
       that = c.string_at-step.ensures.string.place;
       tested = c.is_apart.ensures;
-    }) c.if-not-is_apart.true c.loop-c-test.true
+    }) (ap not c.if-not-is_apart.true) c.loop-c-test.true
 
 pub loop-c-smaller : goal.loop-c-smaller
 loop-c-smaller c = omega (arith, c.string_at-step.ensures.id, c.loop-c-test.true)
@@ -48,7 +50,7 @@ loop-c-preserved c =
     =
     alone_next _ _ _ _ _ _ _
     (record { placed = q.0.placed; this = q.1.place; that = e.string.place; tested = c.is_apart.ensures })
-    c.if-not-is_apart.false c.loop-c.invariant.2 in
+    (ap not c.if-not-is_apart.false) c.loop-c.invariant.2 in
     (omega (arith, e.id, c.loop-c-test.true), e.next, rw e.id next)
 
 pub returns : goal.returns

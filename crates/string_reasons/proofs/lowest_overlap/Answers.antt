@@ -1,3 +1,4 @@
+use mathlib.Core.Bool.{not}
 use mathlib.Core.Bool.{true}
 use Prim.Native.Nat.{◌-◌}
 use native.Mathlib.Omega.{arith}
@@ -20,7 +21,7 @@ returns-then-not-is_apart c =
     λ s laid ix.
     overlaps_here _ s laid _ _ _ _ (c.string_in-own.ensures.by_index s laid ix).place
     (c.string_in-other.ensures.by_index s laid ix).place _
-    c.is_apart.ensures (c.loop-i.invariant.1 s laid ix) c.loop-i-test.true c.if-not-is_apart.true
+    c.is_apart.ensures (c.loop-i.invariant.1 s laid ix) c.loop-i-test.true (ap not c.if-not-is_apart.true)
 
 pub loop-i-smaller : goal.loop-i-smaller
 loop-i-smaller c = omega (arith, c.loop-i-test.true)
@@ -32,7 +33,7 @@ loop-i-preserved c =
       λ s laid ix.
           apart_next _ s laid _ _ _ _ (c.string_in-own.ensures.by_index s laid ix).place
           (c.string_in-other.ensures.by_index s laid ix).place _
-          c.is_apart.ensures (c.loop-i.invariant.1 s laid ix) c.if-not-is_apart.false,
+          c.is_apart.ensures (c.loop-i.invariant.1 s laid ix) (ap not c.if-not-is_apart.false),
     )
 
 pub returns : goal.returns

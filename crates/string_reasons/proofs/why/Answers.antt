@@ -1,4 +1,6 @@
 -- Refusals in 02's order, each by its law; then the path, which the index tells.
+use mathlib.Core.Path.{ap}
+use mathlib.Core.Bool.{not}
 use mathlib.Core.Path.{◌≡◌}
 use mathlib.Core.List.{List}
 use Prim.Native.Nat.{ℕ, ◌<◌}
@@ -49,7 +51,7 @@ returns-then-not-is_utf8 c =
     let a = c.args in
     let e = c.admit_indexed-admitted.ensures in (
       why_value a.mode a.layout a.image.now a.id a.value.now a.index.now _ e.0 _ c.in-Laid.is
-          c.if-p-id.false _ c.is_utf8.ensures c.if-not-is_utf8.true,
+          c.if-p-id.false _ c.is_utf8.ensures (ap not c.if-not-is_utf8.true),
       e.1,
     )
 
@@ -58,7 +60,7 @@ returns-then-value-gt-LONGEST c =
     let a = c.args in
     let e = c.admit_indexed-admitted.ensures in (
       why_long a.mode a.layout a.image.now a.id a.value.now a.index.now _ e.0 _ c.in-Laid.is
-          c.if-p-id.false _ c.is_utf8.ensures c.if-not-is_utf8.false (laid (goal.at.returns-then-value-gt-LONGEST c).In-Laid-2) c.if-value-gt-LONGEST.true,
+          c.if-p-id.false _ c.is_utf8.ensures (ap not c.if-not-is_utf8.false) (laid (goal.at.returns-then-value-gt-LONGEST c).In-Laid-2) c.if-value-gt-LONGEST.true,
       e.1,
     )
 
@@ -80,6 +82,6 @@ returns c =
     let a = c.args in
     let e = c.admit_indexed-admitted.ensures in (
       why_judged a.mode a.layout a.image.now a.id a.value.now a.index.now _ e.0 _ c.in-Laid.is
-          c.if-p-id.false _ c.is_utf8.ensures c.if-not-is_utf8.false _ c.judged.ensures,
+          c.if-p-id.false _ c.is_utf8.ensures (ap not c.if-not-is_utf8.false) _ c.judged.ensures,
       e.1,
     )

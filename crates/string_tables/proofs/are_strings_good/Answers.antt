@@ -1,3 +1,5 @@
+use mathlib.Core.Path.{ap}
+use mathlib.Core.Bool.{not}
 use Prim.Native.Nat.{◌-◌}
 use native.Mathlib.Omega.{arith}
 use Rattle.bits.proofs.PassLaws.{pass_none}
@@ -37,7 +39,7 @@ returns-then-not-is_entry_good c =
       known = c.loop-i-test.true;
       word = c.word-entry.ensures.0;
       place = c.entry_at.ensures;
-    }) _ c.is_entry_good.ensures c.if-not-is_entry_good.true
+    }) _ c.is_entry_good.ensures (ap not c.if-not-is_entry_good.true)
 
 pub overflow_add-k : goal.overflow_add-k
 overflow_add-k c =
@@ -60,7 +62,7 @@ loop-i-preserved c =
       record {
         placed = l.invariant.2.placed;
         count = count_next _ _ _ _ _ _ e _ _ c.is_full.ensures c.if_set-k.ensures.0;
-        good = entries_next _ _ _ _ _ _ e _ c.is_entry_good.ensures c.if-not-is_entry_good.false;
+        good = entries_next _ _ _ _ _ _ e _ c.is_entry_good.ensures (ap not c.if-not-is_entry_good.false);
       },
     )
 

@@ -1,4 +1,6 @@
 -- Refusals in 01's order, each by its law; a string that is there is patched.
+use mathlib.Core.Path.{ap}
+use mathlib.Core.Bool.{not}
 use mathlib.Core.Path.{sym, ◌∙◌}
 use Prim.Native.Nat.{ℕ, ◌<◌}
 use borrow.Author.Tests.{not-false}
@@ -34,15 +36,15 @@ pub returns-then-not-is_utf8 : goal.returns-then-not-is_utf8
 returns-then-not-is_utf8 c =
     let a = c.args in
     id-value a.mode _ _ _ _ a.id a.value.now a.out.now _
-    (record { admits = admits (goal.at.returns-then-not-is_utf8 c).In-Laid-2; known = c.if-p-id.false; tested = c.is_utf8.ensures }) c.if-not-is_utf8.true
+    (record { admits = admits (goal.at.returns-then-not-is_utf8 c).In-Laid-2; known = c.if-p-id.false; tested = c.is_utf8.ensures }) (ap not c.if-not-is_utf8.true)
 
 pub patch_one-requires : goal.patch_one-requires
 patch_one-requires c =
-    (laid (goal.at.patch_one-requires c).In-Laid-2, c.if-p-id.false, sym c.is_utf8.ensures ∙ not-false _ c.if-not-is_utf8.false)
+    (laid (goal.at.patch_one-requires c).In-Laid-2, c.if-p-id.false, sym c.is_utf8.ensures ∙ c.if-not-is_utf8.false)
 
 pub returns : goal.returns
 returns c =
     let a = c.args in
     id_known a.mode _ _ _ _ a.id a.value.now a.out.now _
-    (record { admits = admits (goal.at.returns c).In-Laid-2; known = c.if-p-id.false; tested = c.is_utf8.ensures }) c.if-not-is_utf8.false
+    (record { admits = admits (goal.at.returns c).In-Laid-2; known = c.if-p-id.false; tested = c.is_utf8.ensures }) (ap not c.if-not-is_utf8.false)
     _ _ c.patch_one.ensures

@@ -1,4 +1,6 @@
 -- Refusals in 01's order, each by its law; the string that was found is patched.
+use mathlib.Core.Path.{ap}
+use mathlib.Core.Bool.{not}
 use mathlib.Core.Path.{sym, ◌∙◌}
 use Prim.Native.Nat.{ℕ, ◌<◌}
 use borrow.Author.Tests.{not-false}
@@ -20,12 +22,12 @@ old-tested c = record {
 new-tested : (c : After-is_utf8-2) → let a = c.args in
     NewTested a.layout a.image.now c.admit-admitted.result c.in-Laid.p a.old.now a.new.now
     c.is_utf8.result c.is_utf8-2.result
-new-tested c = record { before = old-tested c; valid = c.if-not-is_utf8.false; tested = c.is_utf8-2.ensures }
+new-tested c = record { before = old-tested c; valid = (ap not c.if-not-is_utf8.false); tested = c.is_utf8-2.ensures }
 
 sought : (c : After-find-location) → let a = c.args in
     ValueSought a.layout a.image.now c.admit-admitted.result c.in-Laid.p a.old.now a.new.now
     c.is_utf8.result c.is_utf8-2.result c.find-location.result
-sought c = record { before = new-tested c; valid = c.if-not-is_utf8-2.false; location = c.find-location.ensures }
+sought c = record { before = new-tested c; valid = (ap not c.if-not-is_utf8-2.false); location = c.find-location.ensures }
 
 pub returns-in_default : goal.returns-in_default
 returns-in_default c =
@@ -36,11 +38,11 @@ returns-in_default c =
 pub returns-then-not-is_utf8 : goal.returns-then-not-is_utf8
 returns-then-not-is_utf8 c =
     let a = c.args in
-    old_value _ _ _ _ _ a.old.now a.new.now a.out.now _ (old-tested (goal.at.returns-then-not-is_utf8 c).After-is_utf8) c.if-not-is_utf8.true
+    old_value _ _ _ _ _ a.old.now a.new.now a.out.now _ (old-tested (goal.at.returns-then-not-is_utf8 c).After-is_utf8) (ap not c.if-not-is_utf8.true)
 
 pub returns-then-not-is_utf8-2 : goal.returns-then-not-is_utf8-2
 returns-then-not-is_utf8-2 c =
-    new_value _ _ _ _ _ _ _ _ _ _ (new-tested (goal.at.returns-then-not-is_utf8-2 c).After-is_utf8-2) c.if-not-is_utf8-2.true
+    new_value _ _ _ _ _ _ _ _ _ _ (new-tested (goal.at.returns-then-not-is_utf8-2 c).After-is_utf8-2) (ap not c.if-not-is_utf8-2.true)
 
 pub find-location-requires : goal.find-location-requires
 find-location-requires c =
@@ -58,7 +60,7 @@ patch_one-requires c =
     (
       is-laid _ _ _ c.admit-admitted.ensures _ c.in-Laid.is b,
       found.0,
-      sym c.is_utf8-2.ensures ∙ not-false _ c.if-not-is_utf8-2.false,
+      sym c.is_utf8-2.ensures ∙ c.if-not-is_utf8-2.false,
     )
 
 pub returns : goal.returns

@@ -1,4 +1,6 @@
 -- 15, then refusals in the order of 02, No. 4, each by its law; what passes them all is patched.
+use mathlib.Core.Path.{ap}
+use mathlib.Core.Bool.{not}
 use mathlib.Core.Path.{refl, sym, ◌∙◌}
 use Prim.Native.Nat.{ℕ, ◌<◌}
 use borrow.Author.Tests.{not-false}
@@ -18,7 +20,7 @@ judging : (c : In-Laid-2) → let a = c.args in
     c.is_list.result
 judging c = record {
       list = c.is_list.ensures;
-      one = c.if-not-is_list.false;
+      one = (ap not c.if-not-is_list.false);
       admits = record { is = c.admit-admitted.ensures; laid = c.in-Laid.is };
     }
 
@@ -30,28 +32,28 @@ pub returns-then-not-is_list : goal.returns-then-not-is_list
 returns-then-not-is_list c =
     let a = c.args in
     no_list a.mode a.layout a.image.now a.ids.now a.text.now a.ends.now a.out.now _ c.is_list.ensures
-    c.if-not-is_list.true
+    (ap not c.if-not-is_list.true)
 
 pub returns-in_default : goal.returns-in_default
 returns-in_default c =
     let a = c.args in
     list_refused a.mode a.layout a.image.now a.ids.now a.text.now a.ends.now a.out.now _
-    c.is_list.ensures c.if-not-is_list.false _ c.admit-admitted.ensures _ _ c.in_default.is
+    c.is_list.ensures (ap not c.if-not-is_list.false) _ c.admit-admitted.ensures _ _ c.in_default.is
     c.number_of.ensures
 
 pub returns-then-not-are_known : goal.returns-then-not-are_known
 returns-then-not-are_known c =
     let a = c.args in
     not_known a.mode _ _ _ _ _ a.out.now _ _ _ (judging (goal.at.returns-then-not-are_known c).In-Laid-2) _ _ _
-    (record { there = c.are_known.ensures; twice = refl; values = refl }) c.if-not-are_known.true
+    (record { there = c.are_known.ensures; twice = refl; values = refl }) (ap not c.if-not-are_known.true)
 
 pub returns-then-not-are_different : goal.returns-then-not-are_different
 returns-then-not-are_different c =
     let a = c.args in
     given-twice a.mode _ _ _ _ _ a.out.now _ _ _ (judging (goal.at.returns-then-not-are_different c).In-Laid-2) _ _ _
     (record { there = c.are_known.ensures; twice = c.are_different.ensures; values = refl })
-    c.if-not-are_known.false
-    c.if-not-are_different.true
+    (ap not c.if-not-are_known.false)
+    (ap not c.if-not-are_different.true)
 
 pub are_utf8-requires : goal.are_utf8-requires
 are_utf8-requires c =
@@ -66,7 +68,7 @@ returns-then-not-are_utf8 c =
     let a = c.args in
     not_valid a.mode _ _ _ _ _ a.out.now _ _ _ (judging (goal.at.returns-then-not-are_utf8 c).In-Laid-2) _ _ _
     (record { there = c.are_known.ensures; twice = c.are_different.ensures; values = c.are_utf8.ensures })
-    c.if-not-are_known.false c.if-not-are_different.false c.if-not-are_utf8.true
+    (ap not c.if-not-are_known.false) (ap not c.if-not-are_different.false) (ap not c.if-not-are_utf8.true)
 
 pub patch_known-requires : goal.patch_known-requires
 patch_known-requires c =
@@ -78,9 +80,9 @@ patch_known-requires c =
       laid = (
         laid (goal.at.patch_known-requires c).In-Laid-2,
         listed a.ids.now a.text.now a.ends.now o
-            (sym c.are_different.ensures ∙ not-false _ c.if-not-are_different.false),
+            (sym c.are_different.ensures ∙ c.if-not-are_different.false),
       );
-      by_index = ids_known a.ids.now _ _ c.are_known.ensures c.if-not-are_known.false;
+      by_index = ids_known a.ids.now _ _ c.are_known.ensures (ap not c.if-not-are_known.false);
     }
 
 pub returns : goal.returns
@@ -92,4 +94,4 @@ returns c =
       twice = c.are_different.ensures;
       values = c.are_utf8.ensures;
     })
-    c.if-not-are_known.false c.if-not-are_different.false c.if-not-are_utf8.false _ _ c.patch_known.ensures
+    (ap not c.if-not-are_known.false) (ap not c.if-not-are_different.false) (ap not c.if-not-are_utf8.false) _ _ c.patch_known.ensures
