@@ -11,4 +11,4 @@ pub returns : goal.returns
 unfolding info_sum
 returns c =
     rw (← c.value.ensures.0, ne_eqb _ _ c.if-value-eq0.false)
-    (rw (c.field_sum.ensures, to_z-of_z c.ranges.delta))
+    (rw (c.field_sum.ensures, to_z-of_z c.ranges.delta, c.value.ensures.0))

@@ -12,7 +12,7 @@ use Rattle.header_write.proofs.headers.put_rows.Goals.{After-get}
 -- the row of this turn is a header word
 word : (c : After-get) → is_header_word c.get.result ≡ true
 word c = row_at c.get.result c.args.first (length c.args.values.now) c.loop-i.i c.get.ensures
-    c.requires.values_bound.1 (omega arith)
+    c.requires.values_value (omega arith)
 
 pub loop-i-init : goal.loop-i-init
 loop-i-init c = (omega arith, refl, rw (add-zero c.args.first))
@@ -33,7 +33,7 @@ loop-i-preserved c =
     let l = c.loop-i in
     let s = c.args in (
       omega arith,
-      c.put_word.new.s
+      c.put_word.auto.s
           ∙ l.invariant.1,
       run-next s.layout s.first l.i s.values.now l.buf _ l.invariant.2 c.get.result _
           (record {

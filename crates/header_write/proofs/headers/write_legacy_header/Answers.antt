@@ -11,7 +11,7 @@ pub returns : goal.returns
 unfolding legacy_header
 returns c =
     header_done _ _ _ (omega arith)
-    (c.put_legacy_back.new.buf ∙ c.put_legacy_front.new.buf
-    ∙ c.put_identity.new.buf)
+    (c.put_legacy_back.auto.buf ∙ c.put_legacy_front.auto.buf
+    ∙ c.put_identity.auto.buf)
     (parts _ _ _ _ _ _ (rw c.put_identity.ensures at c.put_legacy_front.ensures)
     c.put_legacy_back.ensures)

@@ -11,6 +11,6 @@ pub returns : goal.returns
 unfolding modern_header run
 returns c =
     header_done _ _ _ (omega arith)
-    (c.put_rows-2.new.buf ∙ c.put_rows.new.buf ∙ c.put_identity.new.buf)
+    (c.put_rows-2.auto.buf ∙ c.put_rows.auto.buf ∙ c.put_identity.auto.buf)
     (parts _ _ _ _ _ _ (rw c.put_identity.ensures at c.put_rows.ensures)
     c.put_rows-2.ensures)
