@@ -10,18 +10,18 @@ returns-then-string-count c =
     let a = c.args in
     let q = c.requires in
     other_count a.p a.image.now (utf16 a.value.now) a.i a.string a.count
-    (record { placed = q.0.0; stands = q.0.1; count = q.1 }) c.if-string-count.true
+    (record { placed = q.placed.0; stands = q.placed.1; count = q.count_value }) c.if-string-count.true
 
 pub are_units-requires : goal.are_units-requires
 are_units-requires c =
     let a = c.args in
     let q = c.requires in
     units_in a.p a.image.now (utf16 a.value.now) a.i a.string a.count
-    (record { placed = q.0.0; stands = q.0.1; count = q.1 }) (omega arith)
+    (record { placed = q.placed.0; stands = q.placed.1; count = q.count_value }) (omega arith)
 
 pub returns : goal.returns
 returns c =
     let a = c.args in
     let q = c.requires in
     c.are_units.ensures ∙ same_count a.p a.image.now (utf16 a.value.now) a.i a.string a.count
-    (record { placed = q.0.0; stands = q.0.1; count = q.1 }) (omega arith)
+    (record { placed = q.placed.0; stands = q.placed.1; count = q.count_value }) (omega arith)

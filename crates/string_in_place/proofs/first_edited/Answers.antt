@@ -8,8 +8,8 @@ string_from-requires c =
     let n = c.next_edit-next.ensures in
     let f = c.first_string-first.ensures in
     record {
-      laid = q.0;
-      cursor_of = (f.0 _ _ q.0.placed, omega (arith, f.1), q.1 _ _ (n.own c.if-next-lt-NONE.true));
+      laid = q.laid;
+      cursor_of = (f.0 _ _ q.laid.placed, omega (arith, f.1), q.by_index _ _ (n.own c.if-next-lt-NONE.true));
     }
 
 pub returns-then-next-lt-NONE : goal.returns-then-next-lt-NONE
@@ -19,7 +19,7 @@ returns-then-next-lt-NONE c =
     let e = c.string_from.ensures in
     record {
       cursor = e.0;
-      most = omega (arith, e.1, q.1 _ _ (n.own c.if-next-lt-NONE.true));
+      most = omega (arith, e.1, q.by_index _ _ (n.own c.if-next-lt-NONE.true));
       first = λ id j t. omega (arith, e.1, n.least id j t (omega arith));
     }
 
@@ -27,4 +27,4 @@ pub returns : goal.returns
 returns c =
     let q = c.requires in
     let f = c.first_string-first.ensures in
-    record { cursor = f.0 _ _ q.0.placed; most = omega (arith, f.1); first = λ id j t. omega (arith, f.1) }
+    record { cursor = f.0 _ _ q.laid.placed; most = omega (arith, f.1); first = λ id j t. omega (arith, f.1) }

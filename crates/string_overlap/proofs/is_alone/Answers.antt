@@ -12,7 +12,7 @@ pub loop-c-init : goal.loop-c-init
 loop-c-init c =
     let e = c.first_string-c.ensures in
     let q = c.requires in
-    (omega (arith, e.1), e.0 _ _ q.0.placed, rw e.1 (pass_none _))
+    (omega (arith, e.1), e.0 _ _ q.laid.placed, rw e.1 (pass_none _))
 
 pub string_at-step-requires : goal.string_at-step-requires
 string_at-step-requires c =
@@ -24,8 +24,8 @@ string_at-step-requires c =
 pub is_apart-requires : goal.is_apart-requires
 is_apart-requires c =
     let q = c.requires in
-    let x = lies_low _ _ q.0.placed _ _ q.1.place in
-    let y = lies_low _ _ q.0.placed _ _ c.string_at-step.ensures.string.place in
+    let x = lies_low _ _ q.laid.placed _ _ q.stands.place in
+    let y = lies_low _ _ q.laid.placed _ _ c.string_at-step.ensures.string.place in
     (x, y)
 
 pub returns-then-not-is_apart : goal.returns-then-not-is_apart
@@ -33,8 +33,8 @@ returns-then-not-is_apart c =
     let q = c.requires in
     not_alone _ _ _ _ _ _ _
     (record {
-      placed = q.0.placed;
-      this = q.1.place;
+      placed = q.laid.placed;
+      this = q.stands.place;
       that = c.string_at-step.ensures.string.place;
       tested = c.is_apart.ensures;
     }) (ap not c.if-not-is_apart.true) c.loop-c-test.true
@@ -49,11 +49,11 @@ loop-c-preserved c =
     let next
     =
     alone_next _ _ _ _ _ _ _
-    (record { placed = q.0.placed; this = q.1.place; that = e.string.place; tested = c.is_apart.ensures })
+    (record { placed = q.laid.placed; this = q.stands.place; that = e.string.place; tested = c.is_apart.ensures })
     (ap not c.if-not-is_apart.false) c.loop-c.invariant.2 in
     (omega (arith, e.id, c.loop-c-test.true), e.next, rw e.id next)
 
 pub returns : goal.returns
 returns c =
     let q = c.requires in
-    alone _ _ q.0.placed _ _ (omega (arith, c.loop-c.invariant.0, c.loop-c-test.false)) c.loop-c.invariant.2
+    alone _ _ q.laid.placed _ _ (omega (arith, c.loop-c.invariant.0, c.loop-c-test.false)) c.loop-c.invariant.2

@@ -12,7 +12,7 @@ pub measure_stretch-c-requires : goal.measure_stretch-c-requires
 measure_stretch-c-requires c =
     let q = c.requires in
     record {
-      laid = (q.0, q.1, c.loop-c-test.true);
+      laid = (q.laid, q.listed, c.loop-c-test.true);
       reached = c.loop-c.invariant.1;
     }
 
@@ -20,7 +20,7 @@ pub loop-c-smaller : goal.loop-c-smaller
 loop-c-smaller c = omega (arith, c.measure_stretch-c.ensures.id_lt_id)
 
 pub loop-c-preserved : goal.loop-c-preserved
-loop-c-preserved c = let e = c.measure_stretch-c.ensures in (e.1.1, e.0)
+loop-c-preserved c = let e = c.measure_stretch-c.ensures in (e.id_lt_id.1, e.reached_2)
 
 pub returns : goal.returns
 returns c = measured _ _ _ _ _ (omega (arith, c.loop-c.invariant.0, c.loop-c-test.false)) c.loop-c.invariant.1

@@ -7,10 +7,10 @@ use Rattle.string_packing.proofs.measure_stretch.Goals as goal
 pub next_stretch-s-requires : goal.next_stretch-s-requires
 next_stretch-s-requires c =
     let q = c.requires in
-    let z : Sectioned c.args.p c.args.image.now = sectioned _ _ q.0.0.placed in
+    let z : Sectioned c.args.p c.args.image.now = sectioned _ _ q.laid.0.placed in
     record {
-      listed = q.0.1;
-      from_lt_strings = (q.0.2, omega arith);
+      listed = q.laid.1;
+      from_lt_strings = (q.laid.2, omega arith);
     }
 
 pub loop-c-init : goal.loop-c-init

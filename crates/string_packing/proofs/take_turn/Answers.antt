@@ -11,8 +11,8 @@ found c = let e = c.new_place-place.ensures in
     record {
       turn = c.requires;
       visits = c.string_at-step.ensures;
-      new = e.0;
-      near = e.1.1;
+      new = e.result_value;
+      near = e.at_le_at.1;
     }
 
 pub new_place-place-requires : goal.new_place-place-requires

@@ -17,21 +17,21 @@ writing : (c : After-value_of-value) → let a = c.args in
 writing c = let a = c.args in
     let q = c.requires in
     record {
-      placed = q.0.0.laid.placed;
+      placed = q.writable.0.laid.placed;
       stretch = subst⁻¹ (λ (x : List ℕ). StretchOf (values_in (told a.form a.words.now) a.text.now a.ends.now) x
           a.from.old.id a.p.strings c.next_stretch-s.result)
           c.value_of-value.ensures.0 c.next_stretch-s.ensures.stretch_of;
-      reached = q.1;
-      roomy = q.0.0.roomy;
+      reached = q.reached;
+      roomy = q.writable.0.roomy;
     }
 
 pub next_stretch-s-requires : goal.next_stretch-s-requires
 next_stretch-s-requires c =
     let q = c.requires in
-    let z : Sectioned c.args.p c.args.image.now = sectioned _ _ q.0.0.laid.placed in
+    let z : Sectioned c.args.p c.args.image.now = sectioned _ _ q.writable.0.laid.placed in
     record {
-      listed = q.0.0.listed;
-      from_lt_strings = (q.0.1, omega arith);
+      listed = q.writable.0.listed;
+      from_lt_strings = (q.writable.1, omega arith);
     }
 
 pub value_of-value-requires : goal.value_of-value-requires
@@ -65,13 +65,13 @@ pub loop-c-preserved : goal.loop-c-preserved
 loop-c-preserved c =
     let l = c.loop-c in
     let e = c.put_string-c.ensures in (
-      omega (arith, e.0.string, l.invariant.0),
-      omega (arith, e.0.string, c.loop-c-test.true),
+      omega (arith, e.behind.string, l.invariant.0),
+      omega (arith, e.behind.string, c.loop-c-test.true),
       c.put_string-c.new.out ∙ l.invariant.2,
       λ v w.
           let (r, on) = l.invariant.3 v w in (
-            held_reached _ _ _ v _ _ _ _ _ w l.c l.invariant.0 c.loop-c-test.true r _ e.0,
-            held_laid _ _ _ v _ _ _ _ _ w l.c l.invariant.0 c.loop-c-test.true r _ e.0 _ _ _ on e.1,
+            held_reached _ _ _ v _ _ _ _ _ w l.c l.invariant.0 c.loop-c-test.true r _ e.behind,
+            held_laid _ _ _ v _ _ _ _ _ w l.c l.invariant.0 c.loop-c-test.true r _ e.behind _ _ _ on e.out_after,
           ),
     )
 

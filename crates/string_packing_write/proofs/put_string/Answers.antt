@@ -10,7 +10,7 @@ use Rattle.string_packing_write.proofs.put_string.Goals.{After-old-1, After-take
 -- what is known of the string behind its turn
 due : (c : After-take_turn-t) → let a = c.args in
     Due a.mode a.p a.image.now a.value.now a.id a.new a.c a.to (length a.out.now)
-due c = let q = c.requires in record { turn = q.0.0; shaped = q.0.1; fits = q.1 }
+due c = let q = c.requires in record { turn = q.in_turn.0; shaped = q.in_turn.1; fits = q.string_fits }
 
 pub size_of-size-requires : goal.size_of-size-requires
 size_of-size-requires c = old_few _ _ _ _ _ _ (due (goal.at.size_of-size-requires c).After-old-1).turn _ c.take_turn-t.ensures

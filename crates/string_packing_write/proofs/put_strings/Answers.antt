@@ -29,14 +29,14 @@ put_stretch-c-requires c =
     }
 
 pub loop-c-smaller : goal.loop-c-smaller
-loop-c-smaller c = let e = c.put_stretch-c.ensures in omega (arith, e.1.0)
+loop-c-smaller c = let e = c.put_stretch-c.ensures in omega (arith, e.id_lt_id)
 
 pub loop-c-preserved : goal.loop-c-preserved
 loop-c-preserved c =
     let a = c.args in
     let v = c.loop-c.invariant in
     let e = c.put_stretch-c.ensures in
-    (e.1.0.1, c.put_stretch-c.new.out ∙ v.1, e.0, e.1.1 a.out.now v.3)
+    (e.id_lt_id.1, c.put_stretch-c.new.out ∙ v.1, e.reached_2, e.laid_on a.out.now v.3)
 
 pub shape_of-out : goal.shape_of-out
 shape_of-out c = c.loop-c.invariant.1

@@ -25,5 +25,5 @@ returns c =
     let a = c.args in
     let q = c.requires in
     c.refusal.ensures
-    ∙ plan_judged a.mode a.p a.image.now a.id a.value.now _ q.0.0 q.0.1 q.1
+    ∙ plan_judged a.mode a.p a.image.now a.id a.value.now _ q.laid.0 q.laid.1 q.value_value
     (one_planned a.mode a.p a.image.now a.id a.value.now _ c.plan_rebuild-plan.ensures)

@@ -9,20 +9,20 @@ use Rattle.string_steps.proofs.stop_at.Goals as goal
 pub refusal-requires : goal.refusal-requires
 refusal-requires c =
     let q = c.requires in
-    (q.1.0, omega (arith, planned_length _ _ _ _ _ c.plan_rebuild-plan.ensures))
+    (q.laid.0, omega (arith, planned_length _ _ _ _ _ c.plan_rebuild-plan.ensures))
 
 pub returns-then-not-fits : goal.returns-then-not-fits
 returns-then-not-fits c =
     let q = c.requires in
     c.refusal.ensures
-    ∙ refusal_is _ _ _ _ _ q.1.0 (sym q.0 ∙ not-true _ c.if-not-fits.true) c.plan_rebuild-plan.ensures _
+    ∙ refusal_is _ _ _ _ _ q.laid.0 (sym q.fits_value ∙ not-true _ c.if-not-fits.true) c.plan_rebuild-plan.ensures _
 
 pub returns-then-room-image : goal.returns-then-room-image
 returns-then-room-image c =
     let q = c.requires in
-    placed_short _ _ _ _ q.1.0.admitted (sym q.0 ∙ not-false _ c.if-not-fits.false) _ c.if-room-image.true
+    placed_short _ _ _ _ q.laid.0.admitted (sym q.fits_value ∙ not-false _ c.if-not-fits.false) _ c.if-room-image.true
 
 pub returns : goal.returns
 returns c =
     let q = c.requires in
-    placed-fits _ _ _ _ q.1.0.admitted (sym q.0 ∙ not-false _ c.if-not-fits.false) _ (omega (arith, c.if-room-image.false))
+    placed-fits _ _ _ _ q.laid.0.admitted (sym q.fits_value ∙ not-false _ c.if-not-fits.false) _ (omega (arith, c.if-room-image.false))

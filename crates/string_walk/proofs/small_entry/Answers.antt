@@ -13,4 +13,4 @@ word_at-requires c =
 pub returns : goal.returns
 returns c =
     let h = c.requires in
-    (small_word _ _ h.0 _ _ _ c.word_at.ensures.0 refl, c.word_at.ensures.1)
+    (small_word _ _ h.placed _ _ _ c.word_at.ensures.0 refl, c.word_at.ensures.1)

@@ -17,20 +17,20 @@ covers : (c : After-run_of-run) → let a = c.args in
     Covers a.p a.image.now c.run_of-run.result a.at.id
 covers c = let r = c.run_of-run.ensures in
     let h = c.requires in
-    record { placed = h.0.placed; run = r.0; reached = r.1; ends = r.2 }
+    record { placed = h.laid.placed; run = r.0; reached = r.1; ends = r.2 }
 
 pub visit-step-requires : goal.visit-step-requires
 visit-step-requires c =
     let h = c.requires in
     record {
-      laid = h.0;
-      walked = rw c.counts_of.ensures (h.1.0.walked, h.1.1);
+      laid = h.laid;
+      walked = rw c.counts_of.ensures (h.cursor_of.0.walked, h.cursor_of.1);
     }
 
 pub overflow_add-string : goal.overflow_add-string
 overflow_add-string c =
     let h = c.requires in
-    let z = sectioned _ _ h.0.placed in
+    let z = sectioned _ _ h.laid.placed in
     record { fits = omega (arith, (step (goal.at.overflow_add-string c).After-visit-step).place.before) }
 
 pub rank_in-requires : goal.rank_in-requires

@@ -7,12 +7,12 @@ use Rattle.string_walk.proofs.string_from.Goals as goal
 pub walk_to-requires : goal.walk_to-requires
 walk_to-requires c =
     let h = c.requires in
-    rw c.counts_of.ensures (h.0, (h.1.0.walked, h.1.1, h.1.2))
+    record { laid = h.laid; walked = rw c.counts_of.ensures (h.cursor_of.0.walked, h.cursor_of.1, h.cursor_of.2) }
 
 pub run_of-requires : goal.run_of-requires
 run_of-requires c =
     let h = c.requires in
-    record { laid = h.0; known = h.1.2; run = h.1.0.run; reached = omega (arith, h.1.0.reached, h.1.1) }
+    record { laid = h.laid; known = h.cursor_of.2; run = h.cursor_of.0.run; reached = omega (arith, h.cursor_of.0.reached, h.cursor_of.1) }
 
 pub returns : goal.returns
 returns c =

@@ -8,7 +8,7 @@ use Rattle.string_walk.proofs.visit.Goals.{After-small_entry-entry}
 entry : (c : After-small_entry-entry) → let a = c.args in
     EntryAt a.p a.image.now a.before c.small_entry-entry.result
 entry c = let h = c.requires in
-    record { laid = h.0; walked = h.1.0; known = h.1.1; entry = c.small_entry-entry.ensures.0 }
+    record { laid = h.laid; walked = h.walked.0; known = h.walked.1; entry = c.small_entry-entry.ensures.0 }
 
 pub read_place-read-requires : goal.read_place-read-requires
 read_place-read-requires c =

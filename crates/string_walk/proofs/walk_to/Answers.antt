@@ -3,7 +3,7 @@ use native.Mathlib.Omega.{arith}
 use Rattle.string_walk.proofs.walk_to.Goals as goal
 
 pub loop-counts-init : goal.loop-counts-init
-loop-counts-init c = let q = c.requires in (q.1.1, q.1.0)
+loop-counts-init c = let q = c.requires in (q.walked.1, q.walked.0)
 
 pub visit-requires : goal.visit-requires
 visit-requires c =

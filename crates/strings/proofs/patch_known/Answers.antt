@@ -10,7 +10,7 @@ use Rattle.strings.proofs.patch_known.Goals.{After-first_edited-from, Then-fits_
 given : (c : After-first_edited-from) → let a = c.args in
     Given a.p a.image.now (told a.form a.words.now) a.text.now a.ends.now c.first_edited-from.result
 given c = let q = c.requires in
-    record { laid = q.0.0; listed = q.0.1; known = q.1; from = c.first_edited-from.ensures }
+    record { laid = q.laid.0; listed = q.laid.1; known = q.by_index; from = c.first_edited-from.ensures }
 
 -- the values go over their strings' bytes
 overwritten : (c : Then-fits_all) → let a = c.args in
@@ -22,8 +22,8 @@ pub first_edited-from-requires : goal.first_edited-from-requires
 first_edited-from-requires c =
     let q = c.requires in
     record {
-      laid = q.0.0;
-      by_index = q.1;
+      laid = q.laid.0;
+      by_index = q.by_index;
     }
 
 pub fits_all-requires : goal.fits_all-requires
