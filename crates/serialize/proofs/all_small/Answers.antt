@@ -23,16 +23,15 @@ returns-then-start-start_of c =
     c.loop-i-test.true c.if-start-start_of.true
 
 pub loop-i-preserved : goal.loop-i-preserved
-loop-i-preserved c =
-    (
-      omega arith,
-      fits c.args.ends.now c.loop-i.i _ _
-          (record {
-            span = record { from = c.start_of-start.ensures.0; to = c.start_of.ensures.0 };
-            near = c.if-start-ge-FAR.false;
-          })
-          c.if-start-start_of.false c.loop-i.invariant.1,
-    )
+loop-i-preserved c = (
+  omega arith,
+  fits c.args.ends.now c.loop-i.i _ _
+      (record {
+        span = record { from = c.start_of-start.ensures.0; to = c.start_of.ensures.0 };
+        near = c.if-start-ge-FAR.false;
+      })
+      c.if-start-start_of.false c.loop-i.invariant.1,
+)
 
 pub returns : goal.returns
 returns c = all_fit c.args.ends.now c.loop-i.i (omega arith) c.loop-i.invariant.1

@@ -30,13 +30,14 @@ slice_bounds-put_image-end-2 c =
 pub put_image-requires : goal.put_image-requires
 put_image-requires c =
     let a = c.args in
-    room_made a.version a.text.now a.ends.now a.body.now a.out.now _ _
+    let made = room_made a.version a.text.now a.ends.now a.body.now a.out.now _ _
     (record {
       accepted = fine a.version a.text.now a.ends.now a.body.now _ _ c.measure-measured.ensures
           c.in-Length.is;
       last = c.start_of-size.ensures.0;
       room = c.if-out-length.false;
-    })
+    }) in
+    record { image_len = made.0; image_len_bound = made.1.0; ends_value = made.1.1 }
 
 pub returns : goal.returns
 returns c =

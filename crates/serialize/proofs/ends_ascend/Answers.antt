@@ -15,13 +15,12 @@ returns-then-start_of c =
     c.loop-i-test.true c.if-start_of.true
 
 pub loop-i-preserved : goal.loop-i-preserved
-loop-i-preserved c =
-    (
-      omega arith,
-      rises c.args.ends.now c.loop-i.i _ _
-          (record { from = c.start_of-in-loop-i.ensures.0; to = c.start_of.ensures.0 })
-          c.if-start_of.false c.loop-i.invariant.1,
-    )
+loop-i-preserved c = (
+  omega arith,
+  rises c.args.ends.now c.loop-i.i _ _
+      (record { from = c.start_of-in-loop-i.ensures.0; to = c.start_of.ensures.0 })
+      c.if-start_of.false c.loop-i.invariant.1,
+)
 
 pub returns : goal.returns
 returns c = all_ascend c.args.ends.now c.loop-i.i (omega arith) c.loop-i.invariant.1

@@ -6,10 +6,11 @@ use Rattle.serialize.proofs.put_image.Goals as goal
 
 pub put_sections-requires : goal.put_sections-requires
 put_sections-requires c =
-    (
-      search rules,
-      ((omega (arith, c.up4-large_at.ensures, c.body_at-begin.ensures, c.requires.image_len), c.requires.image_len_bound.0), c.requires.image_len_bound.1),
-    )
+    record {
+      storage_in_bounds = search rules;
+      large_at_in_bounds = (omega (arith, c.up4-large_at.ensures, c.body_at-begin.ensures, c.requires.image_len), c.requires.image_len_bound);
+      ends_value = c.requires.ends_value;
+    }
 
 pub returns : goal.returns
 returns c =
@@ -17,7 +18,7 @@ returns c =
     image_made a.version a.storage.now a.ends.now a.body.now a.image.now _ _ _ _
     (record {
       long = c.requires.image_len;
-      limit = c.requires.image_len_bound.0;
+      limit = c.requires.image_len_bound;
       front = rw (c.up4-large_at.ensures, c.body_at-begin.ensures) at c.put_sections.ensures;
       back = rw c.body_at-begin.ensures at c.put_tail.ensures;
     })

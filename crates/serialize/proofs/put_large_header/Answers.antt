@@ -8,8 +8,8 @@ use Rattle.serialize.proofs.put_large_header.Goals as goal
 pub shape_of-image : goal.shape_of-image
 shape_of-image c =
     rw length-set
-    (c.put_word-5.new.s ∙ c.put_word-4.new.s ∙ c.put_word-3.new.s ∙ c.put_word-2.new.s
-    ∙ c.put_word.new.s ∙ c.put_zeros.new.s)
+    (c.put_word-5.auto.s ∙ c.put_word-4.auto.s ∙ c.put_word-3.auto.s ∙ c.put_word-2.auto.s
+    ∙ c.put_word.auto.s ∙ c.put_zeros.auto.s)
 
 pub returns : goal.returns
 unfolding bytes_of

@@ -4,7 +4,7 @@ use Rattle.serialize.proofs.put_record.Goals as goal
 
 pub returns : goal.returns
 returns c =
-    record_laid c.args.image.now _ _ _ _ c.args.large-at
+    record_laid c.args.image.now _ _ _ _ c.args.large_at
     (record {
       from = c.at-at.ensures;
       to = c.kinds_at-end.ensures;

@@ -4,12 +4,12 @@ use borrow.Author.Rules.{rules}
 use Rattle.serialize.proofs.put_sections.Goals as goal
 
 pub put_small_table-requires : goal.put_small_table-requires
-put_small_table-requires c = (search rules, (search rules, c.requires.large_at_in_bounds.1))
+put_small_table-requires c = record { ends_in_bounds = search rules; image_len_bound = search rules; ends_value = c.requires.ends_value }
 
 pub returns : goal.returns
 returns c =
     let s = c.args in
-    sections-laid s.version s.storage.now s.ends.now s.large-at s.image.now _ _ _ _ _ _
+    sections-laid s.version s.storage.now s.ends.now s.large_at s.image.now _ _ _ _ _ _
     (record {
       header = c.put_header.ensures;
       pointing = c.put_record.ensures;

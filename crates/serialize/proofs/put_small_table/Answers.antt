@@ -10,14 +10,14 @@ pub loop-i-init : goal.loop-i-init
 loop-i-init c = (omega arith, refl, small-none c.args.ends.now c.args.image.now)
 
 pub overflow_sub-len : goal.overflow_sub-len
-overflow_sub-len c = omega (arith, ascends-at c.args.ends.now c.loop-i.i c.requires.image_len_bound.1 c.loop-i-test.true)
+overflow_sub-len c = omega (arith, ascends-at c.args.ends.now c.loop-i.i c.requires.ends_value c.loop-i-test.true)
 
 pub loop-i-preserved : goal.loop-i-preserved
 loop-i-preserved c =
     let s = c.args in
     let l = c.loop-i in (
       omega arith,
-      c.put_word.new.s ∙ l.invariant.1,
+      c.put_word.auto.s ∙ l.invariant.1,
       c.put_word.ensures
           ∙ small_more s.ends.now s.image.now l.image l.i _ _ l.invariant.2 c.storage_at.ensures
           (rw (c.start_of.ensures.0, c.start_of-start.ensures.0) at c.entry.ensures),
