@@ -19,7 +19,7 @@ use Rattle.image.specs.Sections.{strings_in, overflows_in, storage_in, small_at,
 use Rattle.image.specs.Strings.{is_full, over_before, small_in, over_in, place_at, unit_size, size_of, Str, string_of}
 use Rattle.edits.specs.Packing.{count_of, Packed, Carries}
 use Rattle.edits.specs.Rebuild.{smalls, pair_of, pairs, overs, region}
-use Rattle.edits.proofs.TableLaws.{length_pair, pair_offset, pair_length, overs-lt, size-smalls, size-pairs, small_at, pair_at}
+use Rattle.edits.proofs.TableLaws.{length_pair, pair_offset, pair_length, overs-lt, size-smalls, size-pairs, small_at as small_entry_at, pair_at}
 use Rattle.edits.proofs.TableLaws.{TablesRead, located, before_is, full_is, index_is}
 use Rattle.edits.proofs.RebuildLaws.{Valid}
 
@@ -105,7 +105,7 @@ module _ (l : Layout) (f : ℕ → Str) (q : Packed) (s : List ℕ) (ok : Bears 
       number_lies s (small_at l s + i * 4) 4 (small_word (overs q.place i) (q.place i))
       (λ j k.
       let b : j < 4 = rw length-bytes_of at k in
-      rw add_assoc (small_lies (i * 4 + j) (rw (size-smalls q.place n) (omega arith)) ∙ small_at q.place n i h j k))
+      rw add_assoc (small_lies (i * 4 + j) (rw (size-smalls q.place n) (omega arith)) ∙ small_entry_at q.place n i h j k))
       (small-lt (overs q.place i) (q.place i))
 
   pair_lies : (i : ℕ) → i < n → is_over (q.place i) ≡ true → Lies s (over_at l s + overs q.place i * 8) (pair_of (q.place i))
