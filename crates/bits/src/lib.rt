@@ -1,5 +1,7 @@
 // Words and bit fields: the bytes of a slice as little-endian numbers, and fields of a number of
 // one or two 64-bit words.
+#![tactic(auto)]
+
 pub mod word32;
 
 ghost use Rattle.std.specs.Prelude.{◌≡◌, ◌+◌, ◌*◌, ◌^◌, ◌<◌, ◌≤◌, length, replicate, nat_lt};

@@ -1,4 +1,6 @@
 // The layouts of an image, and the one table of the places and widths of its fields.
+#![tactic(auto)]
+
 ghost use Rattle.std.specs.Prelude.{◌≡◌, ◌+◌, ◌<◌, ◌≤◌, ◌^◌, length};
 ghost use Rattle.std.proofs.lemmas.List.Edits.{sets};
 ghost use Rattle.format.specs.Table.{row_of, row_count, header_length, place_in, if_set, record_row, large_row, debug_row};

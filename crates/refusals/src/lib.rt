@@ -1,5 +1,6 @@
 // The refusal numbers of document 01, by the names that it gives them. Definitions have the same names
 // (specs/Numbers.antt).
+#![tactic(auto)]
 
 pub const SIZE: u8 = 1;
 

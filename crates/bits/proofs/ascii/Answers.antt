@@ -1,4 +1,4 @@
-use Rattle.std.proofs.Common.{◌-◌, ◌∙◌, arith}
+use Rattle.std.proofs.Common.{◌∙◌, arith}
 use Rattle.bits.proofs.AsciiLaws.{ascii-none, ascii_next, ascii_all}
 use Rattle.bits.proofs.ascii.Goals as goal
 

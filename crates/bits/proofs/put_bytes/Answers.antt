@@ -1,5 +1,5 @@
-use Rattle.std.proofs.Common.{◌-◌, length, refl, arith, length-set}
-use lib.Seq.{paste, paste-zero}
+use Rattle.std.proofs.Common.{refl, arith, length-set}
+use lib.Seq.{paste-zero}
 use Rattle.bits.proofs.WriteLaws.{copied_more, copied_all}
 use Rattle.bits.proofs.put_bytes.Goals as goal
 

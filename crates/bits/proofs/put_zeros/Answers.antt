@@ -1,6 +1,6 @@
-use Rattle.std.proofs.Common.{ℕ, ◌-◌, length, replicate, refl, arith, length-set}
+use Rattle.std.proofs.Common.{ℕ, replicate, refl, arith, length-set}
 use lib.ListN.{length-replicate}
-use lib.Seq.{paste, paste-zero}
+use lib.Seq.{paste-zero}
 use Rattle.bits.proofs.WriteLaws.{zeros_more, copied_all}
 use Rattle.bits.proofs.put_zeros.Goals as goal
 
