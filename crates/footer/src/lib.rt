@@ -3,6 +3,8 @@
 //
 // Where the Rust grows a vector, a function here takes a lent buffer and the length of what is in
 // it, and answers the new length; the buffer's other bytes stay. A refusal changes no byte.
+#![tactic(auto)]
+
 ghost use Rattle.std.specs.Prelude.{◌≡◌, ◌+◌, ◌≤◌, length, take};
 ghost use Rattle.std.proofs.lemmas.List.Edits.{sets};
 ghost use Rattle.bits.specs.Outcome.{Answers};

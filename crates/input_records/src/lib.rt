@@ -1,5 +1,7 @@
 // The records that the programs read, judged by the bytes before their contents: a two-byte mark,
 // then what the record is about. A record that is not well formed is refused with 15.
+#![tactic(auto)]
+
 ghost use Rattle.std.specs.Prelude.{◌≡◌, ◌+◌, ◌≤◌, ◌<◌, length};
 ghost use Rattle.bits.specs.Bytes.{number_at};
 ghost use Rattle.format.specs.declared.Layout.TheVariants.{Legacy};

@@ -1,6 +1,8 @@
 // SHA-1 of a slice, FIPS 180-4. The five words of the hash value and of the working variables, and
 // the ring of 16 words that the schedule is worked in, are arrays that go into a function by value
 // and come back from it.
+#![tactic(auto)]
+
 ghost use Rattle.std.specs.Prelude.{◌≡◌, ◌++◌, ◌+◌, ◌*◌, ◌/◌, ◌%◌, ◌≤◌, ◌<◌, length, get_or, replicate};
 ghost use Rattle.std.proofs.lemmas.List.Edits.{sets};
 ghost use Rattle.bits.specs.Word32.{rotl32, xor32};

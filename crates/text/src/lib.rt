@@ -1,5 +1,7 @@
 // Numbers as text, written to a lent buffer at a place. A writer answers the place behind what it
 // wrote.
+#![tactic(auto)]
+
 ghost use Rattle.std.specs.Prelude.{◌≡◌, ◌∷◌, [], ◌++◌, ◌+◌, ◌≤◌, ◌<◌, length};
 ghost use Rattle.std.proofs.lemmas.List.Edits.{sets};
 ghost use Rattle.text.specs.Text.{digit, decimal, hex4, hex8, Wrote};

@@ -1,5 +1,7 @@
 // UTF-8 read one byte at a time: whether it is well-formed, its UTF-16 units, and the hash that an
 // identifier has by them.
+#![tactic(auto)]
+
 ghost use Rattle.std.specs.Prelude.{◌≡◌, ◌+◌, ◌≤◌, ◌<◌, eqb, length};
 ghost use Rattle.std.proofs.lemmas.List.Edits.{sets};
 ghost use Rattle.bits.specs.Choice.{pick};

@@ -1,8 +1,8 @@
-use Prim.Native.Nat.{ℕ, ◌-◌}
+use Prim.Native.Nat.{ℕ}
 use mathlib.Core.Path.{refl}
 use native.Mathlib.Omega.{arith}
-use lib.ListN.{length, length-set, replicate, length-replicate}
-use lib.Seq.{paste, paste-zero}
+use lib.ListN.{length-set, replicate, length-replicate}
+use lib.Seq.{paste-zero}
 use Rattle.bits.proofs.WriteLaws.{zeros_more, copied_all}
 use Rattle.chains.proofs.clear.Goals as goal
 

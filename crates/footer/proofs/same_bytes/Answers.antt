@@ -1,7 +1,5 @@
-use Prim.Native.Nat.{◌-◌}
 use mathlib.Core.Path.{refl, sym, ◌∙◌}
 use native.Mathlib.Omega.{arith}
-use Rattle.footer.specs.Footer.{same}
 use Rattle.footer.proofs.FooterLaws.{same-differ, same_more, same_end}
 use Rattle.footer.proofs.same_bytes.Goals as goal
 

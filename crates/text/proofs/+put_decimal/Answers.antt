@@ -1,5 +1,4 @@
 -- The digits are written from the last to the first; what is left of the number has as many digits as there is room before them.
-use mathlib.Core.Path.{◌∙◌}
 use native.Mathlib.Omega.{arith}
 use Rattle.text.proofs.TextLaws.{one_length, more_length, put_one, put_more}
 use Rattle.text.proofs.+put_decimal.Goals as goal

@@ -1,10 +1,9 @@
-use Prim.Native.Nat.{◌-◌}
 use mathlib.Core.Path.{ap, sym, ◌∙◌, subst}
 use native.Mathlib.Omega.{arith}
 use lib.ListN.{length}
 use Rattle.utf.specs.declared.Reading.{Reading}
 use native.Mathlib.Nat.{zero-add}
-use Rattle.utf.specs.Utf8.{Small, between, units_from, utf16}
+use Rattle.utf.specs.Utf8.{Small, units_from, utf16}
 use Rattle.utf.proofs.ReadingLaws.{small-between}
 use Rattle.utf.proofs.UnitLaws.{ByteTaken, weight_turn, count_turn, units_end}
 use Rattle.utf.proofs.count_units.Goals as goal

@@ -1,9 +1,8 @@
-use Prim.Native.Nat.{◌-◌}
 use mathlib.Core.Path.{ap, sym, subst}
 use native.Mathlib.Omega.{arith}
 use Rattle.utf.specs.declared.Reading.{Reading}
 use Rattle.format.specs.Hash.{hash_from, hash_of}
-use Rattle.utf.specs.Utf8.{Small, between, units_from, utf16}
+use Rattle.utf.specs.Utf8.{Small, units_from, utf16}
 use Rattle.utf.proofs.ReadingLaws.{small-between}
 use Rattle.utf.proofs.UnitLaws.{ByteTaken, hash_turn, units_end}
 use Rattle.utf.proofs.hash_value.Goals as goal

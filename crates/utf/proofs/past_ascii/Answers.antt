@@ -1,4 +1,3 @@
-use Prim.Native.Nat.{◌-◌}
 use Rattle.utf.proofs.PieceLaws.{skip_none, skip_next}
 use Rattle.utf.proofs.past_ascii.Goals as goal
 

@@ -1,7 +1,6 @@
-use Prim.Native.Nat.{◌-◌}
 use mathlib.Core.Path.{refl, sym, ◌∙◌, subst}
 use native.Mathlib.Omega.{arith}
-use Rattle.utf.specs.Utf8.{Small, between, unit_bytes, utf16}
+use Rattle.utf.specs.Utf8.{Small, unit_bytes, utf16}
 use Rattle.utf.proofs.ReadingLaws.{small-between}
 use Rattle.utf.proofs.UnitLaws.{ByteTaken, put_turn, put-room, units_end}
 use Rattle.utf.proofs.put_units.Goals as goal
