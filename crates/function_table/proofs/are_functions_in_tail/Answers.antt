@@ -1,5 +1,6 @@
+use mathlib.Core.Path.{ap}
 use Prim.Native.Nat.{◌-◌}
-use mathlib.Core.Bool.{true}
+use mathlib.Core.Bool.{true, not}
 use native.Mathlib.Omega.{arith}
 use Rattle.bits.proofs.PassLaws.{pass_none, pass_next}
 use Rattle.sections.proofs.SectionLaws.{sectioned}
@@ -21,12 +22,12 @@ pub returns-then-not-is_function_in_tail : goal.returns-then-not-is_function_in_
 returns-then-not-is_function_in_tail c =
     let z = sectioned c.args.p c.args.image.now c.requires in
     function_fails _ _ c.loop-i.i _ (omega (arith, z.functions, c.loop-i-test.true))
-    c.is_function_in_tail.ensures c.if-not-is_function_in_tail.true
+    c.is_function_in_tail.ensures (ap not c.if-not-is_function_in_tail.true)
 
 pub loop-i-preserved : goal.loop-i-preserved
 loop-i-preserved c =
     let l = c.loop-i in
-    (omega arith, pass_next _ l.i _ c.is_function_in_tail.ensures c.if-not-is_function_in_tail.false l.invariant.1)
+    (omega arith, pass_next _ l.i _ c.is_function_in_tail.ensures (ap not c.if-not-is_function_in_tail.false) l.invariant.1)
 
 pub returns : goal.returns
 returns c =

@@ -9,10 +9,10 @@ use Rattle.function_table.proofs.function_at.Goals.{After-pointer_of, Else-is_la
 large : (c : After-pointer_of) → let a = c.args in
     LargeRead a.layout a.image.now a.i (whole c.record_of-words.result) c.pointer_of.result
 large c = record {
-      number = c.record_of-words.ensures;
-      flag = sym c.is_large.ensures ∙ c.if-is_large.true;
-      place = c.pointer_of.ensures.0;
-    }
+  number = c.record_of-words.ensures;
+  flag = sym c.is_large.ensures ∙ c.if-is_large.true;
+  place = c.pointer_of.ensures.0;
+}
 
 -- it points to none
 small : (c : Else-is_large) → let a = c.args in

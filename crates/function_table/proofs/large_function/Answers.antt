@@ -41,19 +41,18 @@ large_word-requires-in-Legacy-3 c =
     }
 
 pub returns-in-Modern : goal.returns-in-Modern
-returns-in-Modern c =
-    (
+returns-in-Modern c = (
   header_modern _ _ _ c.in-Modern.is _ _ c.large_word.ensures.0 c.large_word-in-Modern.ensures.0,
   search rules,
+)
 
 pub returns-in-Legacy : goal.returns-in-Legacy
-returns-in-Legacy c =
-    (
-      header_legacy _ _ _ _ _ c.in-Legacy.is _ _ _
-          (record {
-            begin = c.large_word-in-Legacy.ensures.0;
-            size = c.large_word-in-Legacy-2.ensures.0;
-            info = c.large_word-in-Legacy-3.ensures.0;
-          }),
-      search rules,
-    )
+returns-in-Legacy c = (
+  header_legacy _ _ _ _ _ c.in-Legacy.is _ _ _
+      (record {
+        begin = c.large_word-in-Legacy.ensures.0;
+        size = c.large_word-in-Legacy-2.ensures.0;
+        info = c.large_word-in-Legacy-3.ensures.0;
+      }),
+  search rules,
+)

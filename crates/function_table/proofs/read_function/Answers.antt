@@ -10,18 +10,18 @@ use Rattle.function_table.proofs.read_function.Goals.{After-judged_pointer-judge
 small : (c : Then-not-is_large) → let a = c.args in
     SmallRead a.p.layout a.image.now a.i (whole c.record_of-words.result)
 small c = record {
-      number = c.record_of-words.ensures;
-      flag = sym c.is_large.ensures ∙ c.if-not-is_large.true;
-    }
+  number = c.record_of-words.ensures;
+  flag = sym c.is_large.ensures ∙ c.if-not-is_large.true;
+}
 
 -- it points to one, and its pointer is judged
 judged : (c : After-judged_pointer-judged) → let a = c.args in
     PointerRead a.p.layout a.image.now a.i (whole c.record_of-words.result) c.judged_pointer-judged.result
 judged c = record {
-      number = c.record_of-words.ensures;
-      flag = sym c.is_large.ensures ∙ c.if-not-is_large.false;
-      pointer = c.judged_pointer-judged.ensures;
-    }
+  number = c.record_of-words.ensures;
+  flag = sym c.is_large.ensures ∙ c.if-not-is_large.false;
+  pointer = c.judged_pointer-judged.ensures;
+}
 
 pub returns-then-not-is_large : goal.returns-then-not-is_large
 returns-then-not-is_large c =
@@ -35,7 +35,7 @@ large_function-requires c =
     (header_there (judged (goal.at.large_function-requires c).After-judged_pointer-judged) _ c.in-At.is, c.requires.placed.fits.most)
 
 pub returns : goal.returns
-returns c =
-    (
+returns c = (
   header_found (judged (goal.at.returns c).After-judged_pointer-judged) _ c.in-At.is _ c.large_function.ensures.0,
   c.large_function.ensures.1,
+)
