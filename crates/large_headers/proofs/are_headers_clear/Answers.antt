@@ -1,5 +1,6 @@
+use mathlib.Core.Path.{ap}
 use Prim.Native.Nat.{◌-◌}
-use mathlib.Core.Bool.{true}
+use mathlib.Core.Bool.{true, not}
 use native.Mathlib.Omega.{arith}
 use Rattle.bits.proofs.PassLaws.{pass_none, pass_next}
 use Rattle.large_headers.specs.Clear.{header_clear}
@@ -18,12 +19,12 @@ is_header_clear-requires c =
 
 pub returns-then-not-is_header_clear : goal.returns-then-not-is_header_clear
 returns-then-not-is_header_clear c =
-    not_all_clear _ _ c.loop-j.j _ (omega (arith, c.requires.n_value)) c.is_header_clear.ensures c.if-not-is_header_clear.true
+    not_all_clear _ _ c.loop-j.j _ (omega (arith, c.requires.n_value)) c.is_header_clear.ensures (ap not c.if-not-is_header_clear.true)
 
 pub loop-j-preserved : goal.loop-j-preserved
 loop-j-preserved c =
     let l = c.loop-j in
-    (omega arith, pass_next _ l.j _ c.is_header_clear.ensures c.if-not-is_header_clear.false l.invariant.1)
+    (omega arith, pass_next _ l.j _ c.is_header_clear.ensures (ap not c.if-not-is_header_clear.false) l.invariant.1)
 
 pub returns : goal.returns
 returns c =

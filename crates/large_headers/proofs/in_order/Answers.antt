@@ -1,5 +1,6 @@
+use mathlib.Core.Path.{ap}
 use Prim.Native.Nat.{◌-◌}
-use mathlib.Core.Bool.{true}
+use mathlib.Core.Bool.{true, not}
 use native.Mathlib.Omega.{arith}
 use Rattle.bits.proofs.PassLaws.{pass_none}
 use Rattle.image.specs.Functions.{func_of}
@@ -14,10 +15,10 @@ turn : (c : After-is_behind) → let a = c.args in
     OrderTurn c.large_width-width.result (func_of a.layout a.image.now) c.loop-i.i
     (as_func c.function_at-f.result) c.loop-i.end c.is_behind.result
 turn c = record {
-      is = c.function_at-f.ensures.0;
-      end = c.loop-i.invariant.1;
-      test = c.is_behind.ensures;
-    }
+  is = c.function_at-f.ensures.0;
+  end = c.loop-i.invariant.1;
+  test = c.is_behind.ensures;
+}
 
 pub loop-i-init : goal.loop-i-init
 loop-i-init c =
@@ -34,7 +35,7 @@ function_at-f-requires c =
 pub returns-then-not-is_behind : goal.returns-then-not-is_behind
 returns-then-not-is_behind c =
     image_order _ _ _ _ _ c.large_width-width.ensures.0 c.requires.n_value
-    (not_behind (turn (goal.at.returns-then-not-is_behind c).After-is_behind) _ c.if-not-is_behind.true (omega arith))
+    (not_behind (turn (goal.at.returns-then-not-is_behind c).After-is_behind) _ (ap not c.if-not-is_behind.true) (omega arith))
 
 pub end_with-end-requires : goal.end_with-end-requires
 end_with-end-requires c = (c.function_at-f.ensures.1, omega arith)
@@ -48,7 +49,7 @@ loop-i-preserved c =
       first_next _ l.i _ f l.first
           _ l.invariant.2 c.first_with-first.ensures,
       bodies_next _ l.i _ f l.bodies _ l.invariant.3 c.bodies_with-bodies.ensures,
-      ascends_next (turn (goal.at.loop-i-preserved c).After-is_behind) c.if-not-is_behind.false l.invariant.4,
+      ascends_next (turn (goal.at.loop-i-preserved c).After-is_behind) (ap not c.if-not-is_behind.false) l.invariant.4,
     )
 
 pub returns : goal.returns

@@ -2,12 +2,12 @@ use borrow.Author.Tests.{not-true, not-false}
 use Rattle.large_headers.proofs.is_clear_of_header.Goals as goal
 
 pub returns-then-not-other : goal.returns-then-not-other
-returns-then-not-other c = rw (not-true c.args.other c.if-not-other.true)
+returns-then-not-other c = rw (c.if-not-other.true)
 
 pub returns-then-not-f : goal.returns-then-not-f
-returns-then-not-f c = rw (not-false c.args.other c.if-not-other.false, not-true c.args.f.large c.if-not-f.true)
+returns-then-not-f c = rw (c.if-not-other.false, not-true c.args.f.large c.if-not-f.true)
 
 pub returns : goal.returns
 returns c =
-    rw (not-false c.args.other c.if-not-other.false, not-false c.args.f.large c.if-not-f.false)
+    rw (c.if-not-other.false, not-false c.args.f.large c.if-not-f.false)
     c.are_apart.ensures

@@ -1,5 +1,6 @@
 use Prim.Native.Nat.{◌-◌}
-use mathlib.Core.Bool.{true}
+use mathlib.Core.Path.{ap}
+use mathlib.Core.Bool.{true, not}
 use native.Mathlib.Omega.{arith}
 use Rattle.bits.proofs.PassLaws.{pass_none, pass_next}
 use Rattle.function_table.specs.Functions.{as_func}
@@ -12,10 +13,10 @@ use Rattle.large_headers.proofs.is_header_clear.Goals.{After-is_clear_of, Else-n
 headed : (c : Else-not-g) → let a = c.args in
     WithHeader a.layout a.image.now a.j a.n (as_func c.function_at-g.result)
 headed c = record {
-      is = c.function_at-g.ensures.0;
-      large = c.if-not-g.false;
-      count = c.requires.n_value.0;
-    }
+  is = c.function_at-g.ensures.0;
+  large = c.if-not-g.false;
+  count = c.requires.n_value.0;
+}
 
 -- function i is tested against it
 turn : (c : After-is_clear_of) → let a = c.args in
@@ -23,12 +24,12 @@ turn : (c : After-is_clear_of) → let a = c.args in
     (as_func c.function_at-g.result) (as_func c.function_at-f.result) c.are_two.result
     c.is_clear_of.result
 turn c = record {
-      headed = headed c;
-      width = c.large_width-width.ensures.0;
-      is = c.function_at-f.ensures.0;
-      two = c.are_two.ensures;
-      test = c.is_clear_of.ensures;
-    }
+  headed = record { is = c.function_at-g.ensures.0; large = c.if-not-g.false; count = c.requires.n_value.0 };
+  width = c.large_width-width.ensures.0;
+  is = c.function_at-f.ensures.0;
+  two = c.are_two.ensures;
+  test = c.is_clear_of.ensures;
+}
 
 pub function_at-g-requires : goal.function_at-g-requires
 function_at-g-requires c =
@@ -55,12 +56,12 @@ is_clear_of-requires c = (c.function_at-g.ensures.1, c.function_at-f.ensures.1, 
 
 pub returns-then-not-is_clear_of : goal.returns-then-not-is_clear_of
 returns-then-not-is_clear_of c =
-    header-not_clear (turn (goal.at.returns-then-not-is_clear_of c).After-is_clear_of) (omega arith) c.if-not-is_clear_of.true
+    header-not_clear (turn (goal.at.returns-then-not-is_clear_of c).After-is_clear_of) (omega arith) (ap not c.if-not-is_clear_of.true)
 
 pub loop-i-preserved : goal.loop-i-preserved
 loop-i-preserved c =
     let l = c.loop-i in
-    (omega arith, pass_next _ l.i _ (clear_at_lem (turn (goal.at.loop-i-preserved c).After-is_clear_of)) c.if-not-is_clear_of.false l.invariant.1)
+    (omega arith, pass_next _ l.i _ (clear_at_lem (turn (goal.at.loop-i-preserved c).After-is_clear_of)) (ap not c.if-not-is_clear_of.false) l.invariant.1)
 
 pub returns : goal.returns
 returns c =
