@@ -19,11 +19,11 @@ turn : (c : After-completed-units) → let a = c.args in
     c.next_byte-r.result
     (same (units_at a.image.now a.start a.wide 0 (length (utf16 a.value.now))) (utf16 a.value.now))
 turn c = record {
-      known = c.loop-i-test.true;
-      read = c.next_byte-r.ensures.0;
-      units = c.completed-units.ensures;
-      left = c.loop-i.invariant.3;
-    }
+  known = c.loop-i-test.true;
+  read = c.next_byte-r.ensures.0;
+  units = c.completed-units.ensures;
+  left = c.loop-i.invariant.3;
+}
 
 pub further-r-requires : goal.further-r-requires
 further-r-requires c = tt
