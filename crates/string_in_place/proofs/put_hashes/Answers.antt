@@ -95,7 +95,7 @@ loop-due-preserved c =
     let e = c.loop-due.invariant.0 in (
       edge_next a.p a.image.now edits a.text.now a.ends.now a.from g _ _ e _ _ (met (goal.at.loop-due-preserved c).After-string_at-step) _
           c.next_edit-due-in-loop-due.ensures,
-      c.put_hash.new.out ∙ c.loop-due.invariant.1,
+      c.put_hash.auto.out ∙ c.loop-due.invariant.1,
       c.put_hash.ensures
           ∙ slotted-is a.p a.image.now _ _ _ (slotted (goal.at.loop-due-preserved c).After-string_at-step) _ c.loop-due.out
           ∙ ap (λ (x : List ℕ). hashed a.p.layout a.image.now c.loop-due.due.id x c.loop-due.out)

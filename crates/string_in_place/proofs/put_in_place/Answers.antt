@@ -8,13 +8,13 @@ use Rattle.string_in_place.proofs.put_in_place.Goals as goal
 pub put_values-requires : goal.put_values-requires
 put_values-requires c =
     let q = c.requires in
-    (q.0, c.put_bytes.new.s ∙ q.1)
+    (q.0, c.put_bytes.auto.s ∙ q.1)
 
 pub finish-requires : goal.finish-requires
 finish-requires c =
     let q = c.requires in (
       q.0.given,
-      subst⁻¹ (Finishable _) (c.put_values.new.out ∙ c.put_bytes.new.s ∙ q.1) (finishable _ _ _ _ _ _ q.0),
+      subst⁻¹ (Finishable _) (c.put_values.auto.out ∙ c.put_bytes.auto.s ∙ q.1) (finishable _ _ _ _ _ _ q.0),
     )
 
 pub returns : goal.returns

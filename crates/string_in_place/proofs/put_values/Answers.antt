@@ -100,7 +100,7 @@ loop-next-preserved c =
     let st = met_stands a.p a.image.now edits a.text.now a.ends.now a.from g _ _ e _ _ (met (goal.at.loop-next-preserved c).After-string_at-step) in (
       edge_next a.p a.image.now edits a.text.now a.ends.now a.from g _ _ e _ _ (met (goal.at.loop-next-preserved c).After-string_at-step) _
           c.next_edit-next-in-loop-next.ensures,
-      c.put_bytes.new.s ∙ c.loop-next.invariant.1,
+      c.put_bytes.auto.s ∙ c.loop-next.invariant.1,
       c.put_bytes.ensures
           ∙ over_own a.p a.image.now _ _ g.laid.placed st _ c.loop-next.out
           ∙ ap (λ (x : List ℕ). over_old a.p.layout a.image.now c.loop-next.next.id x c.loop-next.out)

@@ -12,7 +12,7 @@ put_word-requires-then-is_over c =
     pair_room a.to a.k (as_place a.place) _ c.is_over.ensures c.if-is_over.true _ c.requires.pair in
     record {
       k_lt_row_count = (omega arith, refl);
-      k_in_bounds = omega (arith, c.entry_at-pair.ensures, c.put_word.new.s, room);
+      k_in_bounds = omega (arith, c.entry_at-pair.ensures, c.put_word.auto.s, room);
     }
 
 pub put_word-requires-then-is_over-2 : goal.put_word-requires-then-is_over-2
@@ -22,7 +22,7 @@ put_word-requires-then-is_over-2 c =
     pair_room a.to a.k (as_place a.place) _ c.is_over.ensures c.if-is_over.true _ c.requires.pair in
     record {
       k_lt_row_count = (omega arith, refl);
-      k_in_bounds = omega (arith, c.entry_at-pair.ensures, c.put_word.new.s, c.put_word-then-is_over.new.s, room);
+      k_in_bounds = omega (arith, c.entry_at-pair.ensures, c.put_word.auto.s, c.put_word-then-is_over.auto.s, room);
     }
 
 pub returns-then-is_over : goal.returns-then-is_over

@@ -6,7 +6,7 @@ pub put_units-requires : goal.put_units-requires
 put_units-requires c =
     let a = c.args in
     rw
-    (made_units a.is-new a.wide a.image.now a.value.now a.at a.n _ c.is_made.ensures
+    (made_units a.is_new a.wide a.image.now a.value.now a.at a.n _ c.is_made.ensures
     c.if-is_made.true)
     c.requires.n_in_bounds_2
 
@@ -14,7 +14,7 @@ pub returns-then-is_made : goal.returns-then-is_made
 returns-then-is_made c =
     let a = c.args in
     rw
-    (← made_units a.is-new a.wide a.image.now a.value.now a.at a.n _ c.is_made.ensures
+    (← made_units a.is_new a.wide a.image.now a.value.now a.at a.n _ c.is_made.ensures
     c.if-is_made.true)
     c.put_units.ensures
 
@@ -23,7 +23,7 @@ put_bytes-requires c =
     let a = c.args in
     rw (
       c.source.ensures,
-      copied a.is-new a.wide a.image.now a.value.now a.at a.n _ c.is_made.ensures
+      copied a.is_new a.wide a.image.now a.value.now a.at a.n _ c.is_made.ensures
           c.if-is_made.false,
     )
     c.requires.n_in_bounds_2
@@ -32,7 +32,7 @@ pub returns : goal.returns
 returns c =
     let a = c.args in
     rw (
-      ← copied a.is-new a.wide a.image.now a.value.now a.at a.n _ c.is_made.ensures c.if-is_made.false,
+      ← copied a.is_new a.wide a.image.now a.value.now a.at a.n _ c.is_made.ensures c.if-is_made.false,
       ← c.source.ensures,
     )
     c.put_bytes.ensures

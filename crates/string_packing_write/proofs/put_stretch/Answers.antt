@@ -67,7 +67,7 @@ loop-c-preserved c =
     let e = c.put_string-c.ensures in (
       omega (arith, e.behind.string, l.invariant.0),
       omega (arith, e.behind.string, c.loop-c-test.true),
-      c.put_string-c.new.out ∙ l.invariant.2,
+      c.put_string-c.auto.out ∙ l.invariant.2,
       λ v w.
           let (r, on) = l.invariant.3 v w in (
             held_reached _ _ _ v _ _ _ _ _ w l.c l.invariant.0 c.loop-c-test.true r _ e.behind,

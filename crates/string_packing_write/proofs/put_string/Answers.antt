@@ -28,7 +28,7 @@ overflow_sub-place c =
 
 pub put_zeros-requires : goal.put_zeros-requires
 put_zeros-requires c =
-    rw c.put_entry.new.out (gap-room _ _ _ _ _ _ _ _ _ (due (goal.at.put_zeros-requires c).After-old-1) _ c.take_turn-t.ensures)
+    rw c.put_entry.auto.out (gap-room _ _ _ _ _ _ _ _ _ (due (goal.at.put_zeros-requires c).After-old-1) _ c.take_turn-t.ensures)
 
 pub overflow_add-to-2 : goal.overflow_add-to-2
 overflow_add-to-2 c =
@@ -40,12 +40,12 @@ put_stored-requires c =
     let t = c.take_turn-t.ensures in
     record {
       n_in_bounds = rw c.size_of-size.ensures.0 (old_in _ _ _ _ _ _ d.turn _ t);
-      n_in_bounds_2 = rw (c.size_of-size.ensures.0, c.put_zeros.new.s, c.put_entry.new.out)
+      n_in_bounds_2 = rw (c.size_of-size.ensures.0, c.put_zeros.auto.s, c.put_entry.auto.out)
           (bytes_room _ _ _ _ _ _ _ _ _ d _ t);
     }
 
 pub shape_of-out : goal.shape_of-out
-shape_of-out c = c.put_stored.new.out ∙ c.put_zeros.new.s ∙ c.put_entry.new.out
+shape_of-out c = c.put_stored.auto.out ∙ c.put_zeros.auto.s ∙ c.put_entry.auto.out
 
 pub returns : goal.returns
 returns c =

@@ -36,7 +36,7 @@ loop-c-preserved c =
     let a = c.args in
     let v = c.loop-c.invariant in
     let e = c.put_stretch-c.ensures in
-    (e.id_lt_id.1, c.put_stretch-c.new.out ∙ v.1, e.reached_2, e.laid_on a.out.now v.3)
+    (e.id_lt_id.1, c.put_stretch-c.auto.out ∙ v.1, e.reached_2, e.laid_on a.out.now v.3)
 
 pub shape_of-out : goal.shape_of-out
 shape_of-out c = c.loop-c.invariant.1

@@ -21,7 +21,7 @@ put_region-requires c =
       laid = q.asked.given.laid;
       listed = q.asked.given.listed;
       measured = q.measured;
-      room = rw c.copy_around.new.out r.0;
+      room = rw c.copy_around.auto.out r.0;
       limit = r.1;
     }
 
@@ -30,7 +30,7 @@ put_counts-requires c =
     let a = c.args in
     let edits = told a.form a.words.now in
     let q = c.requires in
-    rw (c.put_region.new.out, c.copy_around.new.out)
+    rw (c.put_region.auto.out, c.copy_around.auto.out)
     (header-room a.mode a.p a.image.now edits a.text.now a.ends.now a.from a.sizes a.tail _ q)
 
 pub relocate-requires : goal.relocate-requires
@@ -38,7 +38,7 @@ relocate-requires c =
     let a = c.args in
     let edits = told a.form a.words.now in
     let q = c.requires in
-    rw (c.put_counts.new.out, c.put_region.new.out, c.copy_around.new.out)
+    rw (c.put_counts.auto.out, c.put_region.auto.out, c.copy_around.auto.out)
     (movable a.mode a.p a.image.now edits a.text.now a.ends.now a.from a.sizes a.tail _ q)
 
 pub finish-requires : goal.finish-requires
@@ -48,10 +48,10 @@ finish-requires c =
     let q = c.requires in (
       q.asked.given,
       rw (
-        c.relocate.new.out,
-        c.put_counts.new.out,
-        c.put_region.new.out,
-        c.copy_around.new.out,
+        c.relocate.auto.out,
+        c.put_counts.auto.out,
+        c.put_region.auto.out,
+        c.copy_around.auto.out,
       )
           (ends_room a.mode a.p a.image.now edits a.text.now a.ends.now a.from a.sizes a.tail _ q),
     )
@@ -68,6 +68,6 @@ returns c =
       strings = c.put_region.ensures;
       counts = c.put_counts.ensures;
       places = c.relocate.ensures;
-      long = c.relocate.new.out ∙ c.put_counts.new.out ∙ c.put_region.new.out
-          ∙ c.copy_around.new.out;
+      long = c.relocate.auto.out ∙ c.put_counts.auto.out ∙ c.put_region.auto.out
+          ∙ c.copy_around.auto.out;
     }) _ _ c.finish.ensures
