@@ -3,10 +3,12 @@
 //
 // A frame is read into arrays that the program lends, one frame at a time, so that memory does not
 // grow with the stream and each program decides how long a buffer it takes.
+#![tactic(auto)]
+
 ghost use Rattle.std.specs.Prelude.{◌≡◌, ◌+◌, ◌*◌, ◌<◌, ◌≤◌, length};
 
 use format::Mode;
-use libc::{STDIN_FILENO, STDOUT_FILENO};
+use std::io::{Read, Write};
 
 // The bytes of a call before its buffer: its number, the buffer's length, 32 argument words.
 pub const HEAD: usize = 136;
@@ -38,8 +40,8 @@ pub struct Answer {
 }
 
 // Fills a head or a buffer with the next bytes of the stream, or answers that too few are left.
-pub fn read(bytes: &mut [u8]) -> bool {
-    io::read_full(STDIN_FILENO, bytes) == bytes.len()
+pub fn read<I: Read>(input: &mut I, bytes: &mut [u8]) -> bool {
+    input.read_exact(bytes).is_ok()
 }
 
 pub fn number(head: &[u8; HEAD]) -> u64 {
@@ -60,7 +62,13 @@ pub struct Parts {
 
 // Reads a call's buffer in two parts, into the fronts of two rooms: its first bytes, as many as are
 // asked for, and the rest. Where a room is too short, or the stream, neither part has a byte.
-pub fn read_parts(head: &[u8; HEAD], first: usize, a: &mut [u8], b: &mut [u8]) -> Parts
+pub fn read_parts<I: Read>(
+    input: &mut I,
+    head: &[u8; HEAD],
+    first: usize,
+    a: &mut [u8],
+    b: &mut [u8],
+) -> Parts
     ensures { (result.first ≤ length a.new) × (result.rest ≤ length b.new) }
 {
     let none = Parts {
@@ -80,10 +88,10 @@ pub fn read_parts(head: &[u8; HEAD], first: usize, a: &mut [u8], b: &mut [u8]) -
         return none;
     }
     // Of a part with a start, the check finds the length by itself.
-    if !read(&mut a[0..first]) {
+    if !read(input, &mut a[0..first]) {
         return none;
     }
-    if !read(&mut b[0..rest]) {
+    if !read(input, &mut b[0..rest]) {
         return none;
     }
     Parts {
@@ -226,7 +234,7 @@ fn put_results(frame: &mut [u8], results: [u32; RESULTS])
 
 // Writes an answer frame, with the buffer as the call left it, and answers whether the stream goes
 // on.
-pub fn write(answer: Answer, buffer: &[u8]) -> bool {
+pub fn write<O: Write>(output: &mut O, answer: Answer, buffer: &[u8]) -> bool {
     let status = answer.status;
     let results = answer.results;
     let mut frame = [0u8; ANSWER];
@@ -236,10 +244,10 @@ pub fn write(answer: Answer, buffer: &[u8]) -> bool {
         Status::Unknown => return false,
     };
     put_results(&mut frame, results);
-    io::write_all(STDOUT_FILENO, &frame) && io::write_all(STDOUT_FILENO, buffer)
+    output.write_all(&frame).is_ok() && output.write_all(buffer).is_ok()
 }
 
 // Writes what is left of an answer's buffer, where a call keeps its buffer in two parts.
-pub fn write_rest(bytes: &[u8]) -> bool {
-    io::write_all(STDOUT_FILENO, bytes)
+pub fn write_rest<O: Write>(output: &mut O, bytes: &[u8]) -> bool {
+    output.write_all(bytes).is_ok()
 }
