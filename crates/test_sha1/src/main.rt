@@ -3,7 +3,9 @@
 // A message is a length of 4 bytes, lowest first, and its bytes. Where the top bit of the length is
 // set, one byte follows, and the message is that byte repeated, as often as the other bits say. The
 // program stops at the end of the input, at a message cut short, and at one longer than its room.
-use libc::{STDIN_FILENO, STDOUT_FILENO};
+#![tactic(auto)]
+
+use std::io::{Read, Write};
 
 // The longest message.
 const ROOM: usize = 1048576;
@@ -18,9 +20,9 @@ enum Head {
     End,
 }
 
-fn read_head() -> Head {
+fn read_head<I: Read>(input: &mut I) -> Head {
     let mut bytes = [0u8; 4];
-    if io::read_full(STDIN_FILENO, &mut bytes) < 4 {
+    if input.read_exact(&mut bytes).is_err() {
         return Head::End;
     }
     Head::Message(bits::word(&bytes, 0))
@@ -35,30 +37,30 @@ fn fill(out: &mut [u8], b: u8) {
 }
 
 // Reads a message's bytes, or the one that is repeated, to all of `out`.
-fn read_message(out: &mut [u8], repeated: bool) -> bool {
+fn read_message<I: Read>(input: &mut I, out: &mut [u8], repeated: bool) -> bool {
     if repeated {
         let mut byte = [0u8; 1];
-        if io::read_full(STDIN_FILENO, &mut byte) < 1 {
+        if input.read_exact(&mut byte).is_err() {
             return false;
         }
         fill(out, byte[0]);
         return true;
     }
-    io::read_full(STDIN_FILENO, out) == out.len()
+    input.read_exact(out).is_ok()
 }
 
-fn print_digest(digest: [u8; 20]) -> bool {
-    let mut i = 0;
-    while i < 20 {
-        io::print_hex(STDOUT_FILENO, bits::wide(digest[i]), 2);
-        i += 1;
+fn print_digest<O: Write>(output: &mut O, digest: [u8; 20]) -> bool {
+    for byte in digest {
+        if write!(output, "{byte:02x}").is_err() {
+            return false;
+        }
     }
-    io::write_all(STDOUT_FILENO, b"\n")
+    output.write_all(b"\n").is_ok()
 }
 
 // Reads one message to `room` and prints its digest. Answers whether there can be more.
-fn answer(room: &mut [u8]) -> bool {
-    let head = read_head();
+fn answer<I: Read, O: Write>(input: &mut I, output: &mut O, room: &mut [u8]) -> bool {
+    let head = read_head(input);
     let Head::Message(word) = head else {
         return false;
     };
@@ -66,22 +68,25 @@ fn answer(room: &mut [u8]) -> bool {
     if room.len() < n {
         return false;
     }
-    if read_message(&mut room[..n], REPEATED <= word) {
-        return print_digest(sha1_hash::sha1(&room[..n]));
+    if read_message(input, &mut room[..n], REPEATED <= word) {
+        return print_digest(output, sha1_hash::sha1(&room[..n]));
     }
     false
 }
 
-// A proved loop has to end, and nothing says that the input does: the loop counts its turns down
-// from a number that no run uses up.
-fn answer_all(room: &mut [u8; ROOM]) {
-    let mut turns = u64::MAX;
-    while turns > 0 && answer(room) {
-        turns -= 1;
+// A proved loop has to end, and nothing says that the input does: its turns have a bound that no run
+// uses up.
+fn answer_all<I: Read, O: Write>(input: &mut I, output: &mut O, room: &mut [u8; ROOM]) {
+    for _ in 0..u64::MAX {
+        if !answer(input, output, room) {
+            break;
+        }
     }
 }
 
-fn main() {
+fn main(rt: HostRuntime) {
+    let mut input = rt.stdin();
+    let mut output = rt.stdout();
     let mut room = [0u8; ROOM];
-    answer_all(&mut room);
+    answer_all(&mut input, &mut output, &mut room);
 }
