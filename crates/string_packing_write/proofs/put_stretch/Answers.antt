@@ -83,4 +83,8 @@ returns c =
     let w = writing (goal.at.returns c).After-value_of-value in
     let v = c.loop-c.invariant in
     let (r, on) = v.3 _ w in
-    (r, ((omega (arith, v.1, c.loop-c-test.false, w.stretch.more), omega (arith, v.1, w.stretch.most)), on))
+    record {
+      reached_2 = r;
+      id_lt_id = (omega (arith, v.1, c.loop-c-test.false, w.stretch.more), omega (arith, v.1, w.stretch.most));
+      laid_on = on;
+    }

@@ -5,7 +5,7 @@ use lib.ListN.{length}
 use Rattle.string_packing_write.proofs.PutLaws.{Due, old_few, old_in, new_at, entry-fits, place_low, gap-room, bytes_room}
 use Rattle.string_packing_write.proofs.PutLaws.{behind, string-put}
 use Rattle.string_packing_write.proofs.put_string.Goals as goal
-use Rattle.string_packing_write.proofs.put_string.Goals.{After-old-1, After-take_turn-t}
+use Rattle.string_packing_write.proofs.put_string.Goals.{After-take_turn-t}
 
 -- what is known of the string behind its turn
 due : (c : After-take_turn-t) → let a = c.args in
@@ -13,30 +13,30 @@ due : (c : After-take_turn-t) → let a = c.args in
 due c = let q = c.requires in record { turn = q.in_turn.0; shaped = q.in_turn.1; fits = q.string_fits }
 
 pub size_of-size-requires : goal.size_of-size-requires
-size_of-size-requires c = old_few _ _ _ _ _ _ (due (goal.at.size_of-size-requires c).After-old-1).turn _ c.take_turn-t.ensures
+size_of-size-requires c = old_few _ _ _ _ _ _ (due (goal.at.size_of-size-requires c).After-take_turn-t).turn _ c.take_turn-t.ensures
 
 pub put_entry-requires : goal.put_entry-requires
-put_entry-requires c = entry-fits _ _ _ _ _ _ _ _ _ (due (goal.at.put_entry-requires c).After-old-1) _ c.take_turn-t.ensures
+put_entry-requires c = entry-fits _ _ _ _ _ _ _ _ _ (due (goal.at.put_entry-requires c).After-take_turn-t) _ c.take_turn-t.ensures
 
 pub overflow_add-to : goal.overflow_add-to
 overflow_add-to c =
-    omega (arith, gap-room _ _ _ _ _ _ _ _ _ (due (goal.at.overflow_add-to c).After-old-1) _ c.take_turn-t.ensures)
+    omega (arith, gap-room _ _ _ _ _ _ _ _ _ (due (goal.at.overflow_add-to c).After-take_turn-t) _ c.take_turn-t.ensures)
 
 pub overflow_sub-place : goal.overflow_sub-place
 overflow_sub-place c =
-    omega (arith, new_at _ _ _ _ _ _ _ _ _ (due (goal.at.overflow_sub-place c).After-old-1) _ c.take_turn-t.ensures)
+    omega (arith, new_at _ _ _ _ _ _ _ _ _ (due (goal.at.overflow_sub-place c).After-take_turn-t) _ c.take_turn-t.ensures)
 
 pub put_zeros-requires : goal.put_zeros-requires
 put_zeros-requires c =
-    rw c.put_entry.auto.out (gap-room _ _ _ _ _ _ _ _ _ (due (goal.at.put_zeros-requires c).After-old-1) _ c.take_turn-t.ensures)
+    rw c.put_entry.auto.out (gap-room _ _ _ _ _ _ _ _ _ (due (goal.at.put_zeros-requires c).After-take_turn-t) _ c.take_turn-t.ensures)
 
 pub overflow_add-to-2 : goal.overflow_add-to-2
 overflow_add-to-2 c =
-    omega (arith, place_low _ _ _ _ _ _ _ _ _ (due (goal.at.overflow_add-to-2 c).After-old-1) _ c.take_turn-t.ensures)
+    omega (arith, place_low _ _ _ _ _ _ _ _ _ (due (goal.at.overflow_add-to-2 c).After-take_turn-t) _ c.take_turn-t.ensures)
 
 pub put_stored-requires : goal.put_stored-requires
 put_stored-requires c =
-    let d = due (goal.at.put_stored-requires c).After-old-1 in
+    let d = due (goal.at.put_stored-requires c).After-take_turn-t in
     let t = c.take_turn-t.ensures in
     record {
       n_in_bounds = rw c.size_of-size.ensures.0 (old_in _ _ _ _ _ _ d.turn _ t);
@@ -52,8 +52,8 @@ returns c =
     let a = c.args in
     let t = c.take_turn-t.ensures in
     record {
-      behind = behind _ _ _ _ _ _ _ _ _ (due (goal.at.returns c).After-old-1) _ t;
-      out_after = string-put _ _ _ _ _ _ _ _ _ (due (goal.at.returns c).After-old-1) _ t _ a.out.now _ _ _
+      behind = behind _ _ _ _ _ _ _ _ _ (due (goal.at.returns c).After-take_turn-t) _ t;
+      out_after = string-put _ _ _ _ _ _ _ _ _ (due (goal.at.returns c).After-take_turn-t) _ t _ a.out.now _ _ _
           (record {
             size = c.size_of-size.ensures.0;
             entered = c.put_entry.ensures;
