@@ -1,5 +1,6 @@
 -- The info place first; the body's own function shares with itself and is let by.
-use mathlib.Core.Path.{sym, ◌∙◌}
+use mathlib.Core.Bool.{not}
+use mathlib.Core.Path.{sym, ◌∙◌, ap}
 use Rattle.function_table.specs.Functions.{as_func}
 use Rattle.function_checks.proofs.AloneLaws.{Other, alone_info, alone_own, alone_other}
 use Rattle.function_checks.proofs.leaves_alone.Goals as goal
@@ -13,11 +14,11 @@ pub returns-then-not-other : goal.returns-then-not-other
 returns-then-not-other c =
     let a = c.args in
     alone_own (as_func a.f) (as_func a.g) a.other _ c.has_info_within.ensures c.if-has_info_within.false
-    c.if-not-other.true
+    (ap not c.if-not-other.true)
 
 pub returns : goal.returns
 returns c =
     let a = c.args in
     let z : Other (as_func a.f) (as_func a.g) a.other
-    = record { info = sym c.has_info_within.ensures ∙ c.if-has_info_within.false; two = c.if-not-other.false } in
+    = record { info = sym c.has_info_within.ensures ∙ c.if-has_info_within.false; two = (ap not c.if-not-other.false) } in
     alone_other z _ c.shares_with.ensures

@@ -1,5 +1,6 @@
+use mathlib.Core.Path.{ap}
 use Prim.Native.Nat.{◌-◌}
-use mathlib.Core.Bool.{true}
+use mathlib.Core.Bool.{true, not}
 use native.Mathlib.Omega.{arith}
 use Rattle.bits.proofs.PassLaws.{pass_none, pass_next}
 use Rattle.image.proofs.CheckLaws.{headers_in_lem}
@@ -28,7 +29,7 @@ returns-then-not-leaves_alone c =
     alone_stop a.p.layout a.image.now a.id c.loop-j.j _ (omega (arith, z.functions, c.loop-j-test.true))
     (alone_is a.p.layout a.image.now a.id _ _ c.loop-j.j _ c.requires.function_is.is
     c.function_at-g.ensures.0 c.leaves_alone.ensures)
-    c.if-not-leaves_alone.true
+    (ap not c.if-not-leaves_alone.true)
 
 pub loop-j-preserved : goal.loop-j-preserved
 loop-j-preserved c =
@@ -37,7 +38,7 @@ loop-j-preserved c =
       omega arith,
       pass_next _ l.j _
           (alone_is a.p.layout a.image.now a.id _ _ l.j _ c.requires.function_is.is c.function_at-g.ensures.0
-          c.leaves_alone.ensures) c.if-not-leaves_alone.false l.invariant.1,
+          c.leaves_alone.ensures) (ap not c.if-not-leaves_alone.false) l.invariant.1,
     )
 
 pub returns : goal.returns

@@ -1,5 +1,6 @@
+use mathlib.Core.Path.{ap}
 use Prim.Native.Nat.{◌-◌}
-use mathlib.Core.Bool.{true}
+use mathlib.Core.Bool.{true, not}
 use native.Mathlib.Omega.{arith}
 use Rattle.bits.proofs.PassLaws.{pass_none, pass_next}
 use Rattle.format.specs.Move.{moved}
@@ -29,7 +30,7 @@ returns-then-not-does_fit c =
     (omega (arith, (sectioned _ _ c.requires.laid.placed).functions, c.loop-i-test.true))
     (fit_is a.p.layout a.image.now (moved a.from a.to) c.loop-i.i c.offset_field-offset.result _ _
     c.offset_field-offset.ensures.0 c.function_at-f.ensures.0 c.does_fit.ensures)
-    c.if-not-does_fit.true
+    (ap not c.if-not-does_fit.true)
 
 pub loop-i-preserved : goal.loop-i-preserved
 loop-i-preserved c =
@@ -39,7 +40,7 @@ loop-i-preserved c =
       pass_next _ l.i _
           (fit_is a.p.layout a.image.now (moved a.from a.to) l.i c.offset_field-offset.result _ _
           c.offset_field-offset.ensures.0 c.function_at-f.ensures.0 c.does_fit.ensures)
-          c.if-not-does_fit.false l.invariant.1,
+          (ap not c.if-not-does_fit.false) l.invariant.1,
     )
 
 pub returns : goal.returns
