@@ -6,7 +6,10 @@ pub entry_at-slot-requires : goal.entry_at-slot-requires
 entry_at-slot-requires c =
     let h = c.requires in
     let b = h.slot _ c.in-At.is in
-    ((omega (arith, b, h.limit), omega (arith, b, h.limit)), (omega arith, omega arith))
+    record {
+      at_bound = (omega (arith, b, h.limit), omega (arith, b, h.limit));
+      k_lt_row_count = (omega arith, omega arith);
+    }
 
 pub put_word-requires : goal.put_word-requires
 put_word-requires c =
