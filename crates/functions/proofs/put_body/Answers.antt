@@ -16,7 +16,7 @@ begun c = record {
 -- the new body is put in
 spliced : (c : After-put_spliced) → let a = c.args in
     Spliced a.layout a.image.now a.id a.body.now (length a.out.now) c.function_at-f.result
-    c.put_spliced.new.out
+    c.put_spliced.auto.out
 spliced c = record { begun = begun c; spliced = c.put_spliced.ensures }
 
 pub function_at-f-requires : goal.function_at-f-requires
@@ -34,7 +34,7 @@ returns-then-size-f c = same_size (spliced (goal.at.returns-then-size-f c).After
 
 pub relocate-requires : goal.relocate-requires
 relocate-requires c =
-    rw c.put_spliced.new.out (may_move (begun (goal.at.relocate-requires c).After-function_at-f) c.if-size-f.false)
+    rw c.put_spliced.auto.out (may_move (begun (goal.at.relocate-requires c).After-function_at-f) c.if-size-f.false)
 
 pub returns : goal.returns
 returns c = other_size (spliced (goal.at.returns c).After-put_spliced) c.if-size-f.false _ c.relocate.ensures

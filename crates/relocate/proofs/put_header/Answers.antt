@@ -16,19 +16,26 @@ put_exact-requires c =
 pub put_exact-requires-in-Modern : goal.put_exact-requires-in-Modern
 put_exact-requires-in-Modern c =
     let h = rw c.in-Modern.is at c.requires.layout_in_bounds in
-    ((search rules, search rules, c.requires.fits_words.size), rw c.put_exact.new.s (omega (arith, h)))
+    record {
+      k_lt_row_count = (search rules, search rules, c.requires.fits_words.size);
+      k_in_bounds = rw c.put_exact.auto.s (omega (arith, h));
+    }
 
 pub put_exact-requires-in-Legacy : goal.put_exact-requires-in-Legacy
 put_exact-requires-in-Legacy c =
     let h = rw c.in-Legacy.is at c.requires.layout_in_bounds in
-    ((search rules, search rules, c.requires.fits_words.size), rw c.put_exact.new.s (omega (arith, h)))
+    record {
+      k_lt_row_count = (search rules, search rules, c.requires.fits_words.size);
+      k_in_bounds = rw c.put_exact.auto.s (omega (arith, h));
+    }
 
 pub put_exact-requires-in-Legacy-2 : goal.put_exact-requires-in-Legacy-2
 put_exact-requires-in-Legacy-2 c =
-    let h = rw c.in-Legacy.is at c.requires.layout_in_bounds in (
-      (search rules, search rules, c.requires.fits_words.info),
-      rw (c.put_exact-in-Legacy.new.s, c.put_exact.new.s) (omega (arith, h)),
-    )
+    let h = rw c.in-Legacy.is at c.requires.layout_in_bounds in
+    record {
+      k_lt_row_count = (search rules, search rules, c.requires.fits_words.info);
+      k_in_bounds = rw (c.put_exact-in-Legacy.auto.s, c.put_exact.auto.s) (omega (arith, h));
+    }
 
 pub returns-in-Modern : goal.returns-in-Modern
 returns-in-Modern c =

@@ -18,7 +18,7 @@ put_debug-requires c = c.requires
 pub relocate_functions-requires : goal.relocate_functions-requires
 relocate_functions-requires c =
     record {
-      movable = rw c.put_debug.new.out c.requires;
+      movable = rw c.put_debug.auto.out c.requires;
       n_value = c.header_word-n.ensures.0;
     }
 

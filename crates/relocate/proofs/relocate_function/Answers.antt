@@ -1,5 +1,6 @@
 -- The record by its two ways, with a large header and without; the header behind it.
-use mathlib.Core.Path.{sym, ◌∙◌}
+use mathlib.Core.Bool.{not}
+use mathlib.Core.Path.{sym, ◌∙◌, ap}
 use native.Mathlib.Omega.{arith}
 use Rattle.bits.specs.Words.{whole}
 use Rattle.sections.proofs.SectionLaws.{records_few}
@@ -15,29 +16,29 @@ small-moved : (c : After-function_after-f) → let a = c.args in
     SmallMoved a.layout a.image.now a.m a.i (whole c.record_of-words.result) c.is_large.result
     (as_func c.small_function.result) (as_func c.function_after-f.result)
 small-moved c = record {
-      read = record {
-        number = c.record_of-words.ensures;
-        flag = c.is_large.ensures;
-        after = c.function_after-f.ensures;
-      };
-      without = c.if-not-is_large.true;
-      own = c.small_function.ensures.0;
-    }
+  read = record {
+    number = c.record_of-words.ensures;
+    flag = c.is_large.ensures;
+    after = c.function_after-f.ensures;
+  };
+  without = (ap not c.if-not-is_large.true);
+  own = c.small_function.ensures.0;
+}
 
 -- the function as it is read, with its large header, and as it is to be
 moved : (c : After-function_after-f-2) → let a = c.args in
     LargeMoved a.layout a.image.now a.m a.i (whole c.record_of-words.result) c.is_large.result
     (as_func c.large_function-old.result) (as_func c.function_after-f-2.result) c.pointer_of-ptr.result
 moved c = record {
-      read = record {
-        number = c.record_of-words.ensures;
-        flag = c.is_large.ensures;
-        after = c.function_after-f-2.ensures;
-      };
-      large = c.if-not-is_large.false;
-      place = c.pointer_of-ptr.ensures.0;
-      own = c.large_function-old.ensures.0;
-    }
+  read = record {
+    number = c.record_of-words.ensures;
+    flag = c.is_large.ensures;
+    after = c.function_after-f-2.ensures;
+  };
+  large = (ap not c.if-not-is_large.false);
+  place = c.pointer_of-ptr.ensures.0;
+  own = c.large_function-old.ensures.0;
+}
 
 pub record_of-words-requires : goal.record_of-words-requires
 record_of-words-requires c =
@@ -99,7 +100,7 @@ pub put_header-requires : goal.put_header-requires
 put_header-requires c =
     let held = moved (goal.at.put_header-requires c).After-function_after-f-2 in
     record {
-      layout_in_bounds = rw c.put_record-2.new.out (header_held _ _ _ _ _ _ _ _ _ held _ c.requires.movable c.requires.i_bound);
+      layout_in_bounds = rw c.put_record-2.auto.out (header_held _ _ _ _ _ _ _ _ _ held _ c.requires.movable c.requires.i_bound);
       fits_words = words_held _ _ _ _ _ _ _ _ _ held _ c.requires.movable c.requires.i_bound;
     }
 

@@ -24,7 +24,7 @@ loop-i-preserved c =
     let a = c.args in
     let l = c.loop-i in (
       omega arith,
-      c.relocate_function.new.out
+      c.relocate_function.auto.out
           ∙ l.invariant.1,
       groups_more (function_group a.layout a.image.now a.m) l.i a.out.now _ _ l.invariant.2
           c.relocate_function.ensures,
