@@ -7,7 +7,7 @@ sized : (c : Else-image-gt-SIZE_LIMIT) → LengthTested c.args.image.now
 sized c = record { least = c.if-image.false; most = c.if-image-gt-SIZE_LIMIT.false }
 
 marked : (c : Else-word64-ne-MAGIC_NUMBER) → Marked c.args.image.now
-marked c = is-marked (sized c) _ (rw c.at.ensures at c.word64.ensures)
+marked c = is-marked (record { least = c.if-image.false; most = c.if-image-gt-SIZE_LIMIT.false }) _ (rw c.at.ensures at c.word64.ensures)
     c.if-word64-ne-MAGIC_NUMBER.false
 
 pub returns-then-image : goal.returns-then-image
