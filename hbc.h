@@ -1,5 +1,5 @@
-// Nepuladrim for callers in C: the proved functions of crate `hbc`. `./hbc install DIR` puts this file and their archive, libhbc.a for
-// x86-64, below a folder; `rt staticlib hbc` writes the archive to target/staticlib.
+// Nepuladrim for callers in C: the proved functions of crate `hbc`, exported by `hbc_c`. `./hbc install DIR` puts this file and their
+// archive, libhbc.a for x86-64, below a folder; `tools/build` writes the archive to target/staticlib.
 //
 // A slice is a pointer and a length; the pointer of an empty one must not be null. What a function reads and what it writes must
 // not overlap. `layout` is 0 modern; 1 legacy, 2 with big integers, 3 with function sources, 4 both. Strings and functions go by

@@ -1,4 +1,4 @@
-// Links the archives that `rt staticlib` writes, each to the program of the same measure.
+// Links the archives that tools/archive writes, each to the program of the same measure.
 fn main() {
     let root = std::env::var("CARGO_MANIFEST_DIR").unwrap();
     for (program, library) in [("sha1", "sha1"), ("entry", "hbc")] {

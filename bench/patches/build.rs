@@ -1,4 +1,4 @@
-// Links the archive that `rt staticlib hbc` writes.
+// Links the archive that tools/archive writes of crate hbc_c.
 fn main() {
     let root = std::env::var("CARGO_MANIFEST_DIR").unwrap();
     let archive = format!("{root}/../../target/staticlib/libhbc.a");
