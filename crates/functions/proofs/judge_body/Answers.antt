@@ -1,4 +1,6 @@
 -- One way out for each condition, in the order of 01; each later one has all before it at hand.
+use mathlib.Core.Path.{ap}
+use mathlib.Core.Bool.{not}
 use native.Mathlib.Omega.{arith}
 use Rattle.functions.proofs.AdmitLaws.{least_length_lem, target_ends}
 use Rattle.functions.proofs.JudgeLaws.{Chosen, LeftAlone, Clear, Grounded, Short, Held}
@@ -11,20 +13,25 @@ use Rattle.functions.proofs.judge_body.Goals.{Else-is_from_nothing, Else-is_too_
 chosen : (c : Start) → Chosen c.args.p.layout c.args.image.now c.args.id c.args.f
 chosen c = record { admitted = c.requires.laid.admitted; known = c.requires.id_bound.0; is = c.requires.id_bound.1 }
 
-alone : (c : Else-not-stands_alone) → Here LeftAlone c
-alone c = is_alone_lem c.args.body.now (chosen c) _ c.stands_alone.ensures c.if-not-stands_alone.false
+alone : (c : Else-not-stands_alone) → LeftAlone c.args.p.layout c.args.image.now c.args.id c.args.body.now c.args.f
+alone c =
+    is_alone_lem c.args.body.now (record { admitted = c.requires.laid.admitted; known = c.requires.id_bound.0; is = c.requires.id_bound.1 }) _ c.stands_alone.ensures (ap not c.if-not-stands_alone.false)
 
-clear : (c : Else-not-is_debug_past) → Here Clear c
-clear c = is_clear (alone c) _ c.is_debug_past.ensures c.if-not-is_debug_past.false
+clear : (c : Else-not-is_debug_past) → Clear c.args.p.layout c.args.image.now c.args.id c.args.body.now c.args.f
+clear c =
+    is_clear (is_alone_lem c.args.body.now (record { admitted = c.requires.laid.admitted; known = c.requires.id_bound.0; is = c.requires.id_bound.1 }) _ c.stands_alone.ensures (ap not c.if-not-stands_alone.false)) _ c.is_debug_past.ensures (ap not c.if-not-is_debug_past.false)
 
-grounded : (c : Else-is_from_nothing) → Here Grounded c
-grounded c = is_grounded (clear c) _ c.is_from_nothing.ensures c.if-is_from_nothing.false
+grounded : (c : Else-is_from_nothing) → Grounded c.args.p.layout c.args.image.now c.args.id c.args.body.now c.args.f
+grounded c =
+    is_grounded (is_clear (is_alone_lem c.args.body.now (record { admitted = c.requires.laid.admitted; known = c.requires.id_bound.0; is = c.requires.id_bound.1 }) _ c.stands_alone.ensures (ap not c.if-not-stands_alone.false)) _ c.is_debug_past.ensures (ap not c.if-not-is_debug_past.false)) _ c.is_from_nothing.ensures c.if-is_from_nothing.false
 
-short : (c : Else-is_too_long) → Here Short c
-short c = is-short (grounded c) _ c.is_too_long.ensures c.if-is_too_long.false
+short : (c : Else-is_too_long) → Short c.args.p.layout c.args.image.now c.args.id c.args.body.now c.args.f
+short c =
+    is-short (is_grounded (is_clear (is_alone_lem c.args.body.now (record { admitted = c.requires.laid.admitted; known = c.requires.id_bound.0; is = c.requires.id_bound.1 }) _ c.stands_alone.ensures (ap not c.if-not-stands_alone.false)) _ c.is_debug_past.ensures (ap not c.if-not-is_debug_past.false)) _ c.is_from_nothing.ensures c.if-is_from_nothing.false) _ c.is_too_long.ensures c.if-is_too_long.false
 
-held : (c : Else-not-does_size_fit) → Here Held c
-held c = is_held (short c) _ c.does_size_fit.ensures c.if-not-does_size_fit.false
+held : (c : Else-not-does_size_fit) → Held c.args.p.layout c.args.image.now c.args.id c.args.body.now c.args.f
+held c =
+    is_held (is-short (is_grounded (is_clear (is_alone_lem c.args.body.now (record { admitted = c.requires.laid.admitted; known = c.requires.id_bound.0; is = c.requires.id_bound.1 }) _ c.stands_alone.ensures (ap not c.if-not-stands_alone.false)) _ c.is_debug_past.ensures (ap not c.if-not-is_debug_past.false)) _ c.is_from_nothing.ensures c.if-is_from_nothing.false) _ c.is_too_long.ensures c.if-is_too_long.false) _ c.does_size_fit.ensures (ap not c.if-not-does_size_fit.false)
 
 pub stands_alone-requires : goal.stands_alone-requires
 stands_alone-requires c =
@@ -35,14 +42,14 @@ stands_alone-requires c =
 
 pub returns-then-not-stands_alone : goal.returns-then-not-stands_alone
 returns-then-not-stands_alone c =
-    not_alone c.args.body.now (chosen (goal.at.returns-then-not-stands_alone c).Start) _ c.stands_alone.ensures c.if-not-stands_alone.true
+    not_alone c.args.body.now (chosen (goal.at.returns-then-not-stands_alone c).Start) _ c.stands_alone.ensures (ap not c.if-not-stands_alone.true)
 
 pub is_debug_past-requires : goal.is_debug_past-requires
 is_debug_past-requires c = omega (arith, least_length_lem c.args.p.layout c.args.image.now c.requires.laid.admitted)
 
 pub returns-then-not-is_debug_past : goal.returns-then-not-is_debug_past
 returns-then-not-is_debug_past c =
-    debug_before (alone (goal.at.returns-then-not-is_debug_past c).Else-not-stands_alone) _ c.is_debug_past.ensures c.if-not-is_debug_past.true
+    debug_before (alone (goal.at.returns-then-not-is_debug_past c).Else-not-stands_alone) _ c.is_debug_past.ensures (ap not c.if-not-is_debug_past.true)
 
 pub returns-then-is_from_nothing : goal.returns-then-is_from_nothing
 returns-then-is_from_nothing c =
@@ -65,7 +72,7 @@ returns-then-is_too_long c =
 
 pub returns-then-not-does_size_fit : goal.returns-then-not-does_size_fit
 returns-then-not-does_size_fit c =
-    size-beyond (short (goal.at.returns-then-not-does_size_fit c).Else-is_too_long) _ c.does_size_fit.ensures c.if-not-does_size_fit.true
+    size-beyond (short (goal.at.returns-then-not-does_size_fit c).Else-is_too_long) _ c.does_size_fit.ensures (ap not c.if-not-does_size_fit.true)
 
 pub fields_fit-requires : goal.fields_fit-requires
 fields_fit-requires c =
@@ -82,7 +89,7 @@ fields_fit-requires c =
 
 pub returns-then-not-fields_fit : goal.returns-then-not-fields_fit
 returns-then-not-fields_fit c =
-    fields_beyond (held (goal.at.returns-then-not-fields_fit c).Else-not-does_size_fit) _ c.fields_fit.ensures c.if-not-fields_fit.true
+    fields_beyond (held (goal.at.returns-then-not-fields_fit c).Else-not-does_size_fit) _ c.fields_fit.ensures (ap not c.if-not-fields_fit.true)
 
 pub overflow_sub-result : goal.overflow_sub-result
 overflow_sub-result c =
@@ -91,4 +98,4 @@ overflow_sub-result c =
     (arith, target_ends a.p.layout a.image.now c.requires.laid.admitted a.id a.f c.requires.id_bound.0 c.requires.id_bound.1)
 
 pub returns : goal.returns
-returns c = all_fit (held (goal.at.returns c).Else-not-does_size_fit) _ c.fields_fit.ensures c.if-not-fields_fit.false
+returns c = all_fit (held (goal.at.returns c).Else-not-does_size_fit) _ c.fields_fit.ensures (ap not c.if-not-fields_fit.false)

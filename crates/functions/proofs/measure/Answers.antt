@@ -8,10 +8,10 @@ use Rattle.functions.proofs.measure.Goals.{Else-p-id}
 known : (c : Else-p-id) → let a = c.args in
     FunctionKnown a.layout a.image.now a.id c.in-Laid.p
 known c = record {
-      bytes = λ i. (c.type_inv.image i).fits;
-      laid = sym c.admit-admitted.ensures ∙ c.in-Laid.is;
-      known = c.if-p-id.false;
-    }
+  bytes = λ i. (c.type_inv.image i).fits;
+  laid = sym c.admit-admitted.ensures ∙ c.in-Laid.is;
+  known = c.if-p-id.false;
+}
 
 pub returns-in_default : goal.returns-in_default
 returns-in_default c =
@@ -26,11 +26,14 @@ returns-then-p-id c =
     c.if-p-id.true
 
 pub function_at-f-requires : goal.function_at-f-requires
-function_at-f-requires c = function-asked _ _ _ c.args.body.now (known (goal.at.function_at-f-requires c).Else-p-id)
+function_at-f-requires c =
+    let asked = function-asked _ _ _ c.args.body.now (known (goal.at.function_at-f-requires c).Else-p-id) in
+    record { readable = asked.0; i_bound = asked.1 }
 
 pub judge_body-requires : goal.judge_body-requires
 judge_body-requires c =
-    body_asked _ _ _ c.args.body.now (known (goal.at.judge_body-requires c).Else-p-id) _ c.function_at-f.ensures
+    let asked = body_asked _ _ _ c.args.body.now (known (goal.at.judge_body-requires c).Else-p-id) _ c.function_at-f.ensures in
+    record { laid = asked.0; id_bound = asked.1 }
 
 pub returns : goal.returns
 returns c = body_judged _ _ _ c.args.body.now (known (goal.at.returns c).Else-p-id) _ c.judge_body.ensures

@@ -8,9 +8,9 @@ use Rattle.functions.proofs.patch_function_bytes.Goals.{Else-out-length}
 roomy : (c : Else-out-length) → let a = c.args in
     PatchRoomy a.layout a.image.now a.id a.body.now a.out.now c.in-Length.length
 roomy c = record {
-      measured = sym c.in-Length.is ∙ c.measure-measured.ensures;
-      room = c.if-out-length.false;
-    }
+  measured = sym c.in-Length.is ∙ c.measure-measured.ensures;
+  room = c.if-out-length.false;
+}
 
 pub returns-in_default : goal.returns-in_default
 returns-in_default c =

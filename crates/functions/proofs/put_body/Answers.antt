@@ -9,15 +9,15 @@ use Rattle.functions.proofs.put_body.Goals.{After-function_at-f, After-put_splic
 begun : (c : After-function_at-f) → let a = c.args in
     Begun a.layout a.image.now a.id a.body.now (length a.out.now) c.function_at-f.result
 begun c = record {
-      accepted = c.requires;
-      is = record { is = c.function_at-f.ensures.0; sized = c.function_at-f.ensures.1 };
-    }
+  accepted = c.requires;
+  is = record { is = c.function_at-f.ensures.0; sized = c.function_at-f.ensures.1 };
+}
 
 -- the new body is put in
 spliced : (c : After-put_spliced) → let a = c.args in
     Spliced a.layout a.image.now a.id a.body.now (length a.out.now) c.function_at-f.result
-    c.put_spliced.auto.out
-spliced c = record { begun = begun c; spliced = c.put_spliced.ensures }
+    c.put_spliced.new.out
+spliced c = record { begun = record { accepted = c.requires; is = record { is = c.function_at-f.ensures.0; sized = c.function_at-f.ensures.1 } }; spliced = c.put_spliced.ensures }
 
 pub function_at-f-requires : goal.function_at-f-requires
 function_at-f-requires c =
