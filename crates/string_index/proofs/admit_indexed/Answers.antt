@@ -12,12 +12,11 @@ returns-then-is_short c =
     c.if-is_short.true
 
 pub fill-requires : goal.fill-requires
-fill-requires c =
-    (
-      is-laid _ _ _ c.admit-answer.ensures _ c.in-Laid.is
-          (λ i. (c.type_inv.image i).fits),
-      long_enough _ _ _ c.is_short.ensures c.if-is_short.false,
-    )
+fill-requires c = (
+  is-laid _ _ _ c.admit-answer.ensures _ c.in-Laid.is
+      (λ i. (c.type_inv.image i).fits),
+  long_enough _ _ _ c.is_short.ensures c.if-is_short.false,
+)
 
 pub returns : goal.returns
 returns c =
