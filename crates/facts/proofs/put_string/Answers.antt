@@ -8,7 +8,7 @@ use Rattle.facts.proofs.put_string.Goals as goal
 pub facts_of_parts-facts-requires : goal.facts_of_parts-facts-requires
 facts_of_parts-facts-requires c =
     let h = c.requires in
-    (record_small _ _ h.0.0.placed _ _ c.string_at-step.ensures.string).0
+    (record_small _ _ h.laid.0.placed _ _ c.string_at-step.ensures.string).0
 
 pub returns : goal.returns
 returns c =

@@ -12,15 +12,15 @@ loop-k-init c =
     (omega arith, omega arith, c.requires.laid.1, refl, facts_none a.p.layout a.image.now a.from.id a.out.now)
 
 pub overflow_mul-k : goal.overflow_mul-k
-overflow_mul-k c = let h = c.requires in omega (arith, h.1.1)
+overflow_mul-k c = let h = c.requires in omega (arith, h.n_bound.1)
 
 pub put_string-c-requires : goal.put_string-c-requires
 put_string-c-requires c =
     let l = c.loop-k in
     let h = c.requires in
     record {
-      laid = (h.0.0, l.invariant.2);
-      id_lt_strings = (omega (arith, h.1.0, l.invariant.1), omega (arith, h.1.1, l.invariant.3));
+      laid = (h.laid.0, l.invariant.2);
+      id_lt_strings = (omega (arith, h.n_bound.0, l.invariant.1), omega (arith, h.n_bound.1, l.invariant.3));
     }
 
 pub loop-k-preserved : goal.loop-k-preserved
@@ -29,10 +29,10 @@ loop-k-preserved c =
     let e = c.put_string-c.ensures in
     let a = c.args in (
       omega arith,
-      omega (arith, e.0.1, l.invariant.1),
-      e.0.0,
-      ap length e.1 ∙ simp length-sets l.invariant.3,
-      facts_next a.p.layout a.image.now a.from.id a.out.now l.k _ l.out _ l.invariant.4 l.invariant.1 e.1,
+      omega (arith, e.cursor_of.1, l.invariant.1),
+      e.cursor_of.0,
+      ap length e.out_after ∙ simp length-sets l.invariant.3,
+      facts_next a.p.layout a.image.now a.from.id a.out.now l.k _ l.out _ l.invariant.4 l.invariant.1 e.out_after,
     )
 
 pub shape_of-out : goal.shape_of-out

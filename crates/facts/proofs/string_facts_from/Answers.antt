@@ -6,10 +6,10 @@ use Rattle.sections.specs.Places.{Laid}
 use Rattle.admission.proofs.AnswerLaws.{is-laid}
 use Rattle.facts.proofs.PassLaws.{from_refused, from_none, from_strings, least_told}
 use Rattle.facts.proofs.string_facts_from.Goals as goal
-use Rattle.facts.proofs.string_facts_from.Goals.{In-Laid-2}
+use Rattle.facts.proofs.string_facts_from.Goals.{In-Laid}
 
 -- the image is admitted
-laid : (c : In-Laid-2) → Laid c.in-Laid.p c.args.image.now
+laid : (c : In-Laid) → Laid c.in-Laid.p c.args.image.now
 laid c = is-laid _ _ _ c.admit-answer.ensures _ c.in-Laid.is (λ i. (c.type_inv.image i).fits)
 
 pub returns-in_default : goal.returns-in_default
@@ -26,7 +26,7 @@ returns-then-p-id c =
 
 pub string_from-requires : goal.string_from-requires
 string_from-requires c =
-    let here = laid (goal.at.string_from-requires c).In-Laid-2 in
+    let here = laid (goal.at.string_from-requires c).In-Laid in
     let e = c.first_string-first.ensures in
     record {
       laid = here;
@@ -39,7 +39,7 @@ put_strings-requires c =
     let e = c.string_from.ensures in
     let n = least_told _ (length a.out.now) _ c.least-n.ensures.0 in
     record {
-      laid = (laid (goal.at.put_strings-requires c).In-Laid-2, e.0);
+      laid = (laid (goal.at.put_strings-requires c).In-Laid, e.0);
       n_bound = (omega (arith, e.1, n.1, c.if-p-id.false), n.0);
     }
 
