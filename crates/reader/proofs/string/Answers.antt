@@ -4,26 +4,26 @@ use Rattle.sections.specs.Places.{Laid}
 use Rattle.admission.proofs.AnswerLaws.{is-laid}
 use Rattle.reader.proofs.ReadingLaws.{StringSought, string_refused, string-absent, string_found}
 use Rattle.reader.proofs.string.Goals as goal
-use Rattle.reader.proofs.string.Goals.{After-locate-location, In-Laid-2}
+use Rattle.reader.proofs.string.Goals.{After-locate-location, In-Laid}
 
 -- the image is admitted
-laid : (c : In-Laid-2) → Laid c.in-Laid.p c.args.image.now
+laid : (c : In-Laid) → Laid c.in-Laid.p c.args.image.now
 laid c = is-laid _ _ _ c.admit-answer.ensures _ c.in-Laid.is (λ i. (c.type_inv.image i).fits)
 
 -- the string was looked for
 sought : (c : After-locate-location) → let a = c.args in
     StringSought a.layout a.image.now a.id c.in-Laid.p c.locate-location.result
 sought c = record {
-      answer = sym c.admit-answer.ensures ∙ c.in-Laid.is;
-      laid = laid c;
-      located = c.locate-location.ensures;
-    }
+  answer = sym c.admit-answer.ensures ∙ c.in-Laid.is;
+  laid = is-laid _ _ _ c.admit-answer.ensures _ c.in-Laid.is (λ i. (c.type_inv.image i).fits);
+  located = c.locate-location.ensures;
+}
 
 pub returns-in_default : goal.returns-in_default
 returns-in_default c = string_refused _ _ _ c.admit-answer.ensures _ _ c.in_default.is _ c.number_of.ensures
 
 pub locate-location-requires : goal.locate-location-requires
-locate-location-requires c = laid (goal.at.locate-location-requires c).In-Laid-2
+locate-location-requires c = laid (goal.at.locate-location-requires c).In-Laid
 
 pub returns-in_default-location : goal.returns-in_default-location
 returns-in_default-location c =

@@ -13,16 +13,16 @@ use Rattle.string_index.specs.Filling.{Indexed}
 use Rattle.string_index.proofs.IndexLaws.{laid_there, index_there}
 use Rattle.string_reasons.proofs.AnswerLaws.{why_refused, why_absent, why_value, why_long, why_judged}
 use Rattle.string_reasons.proofs.why.Goals as goal
-use Rattle.string_reasons.proofs.why.Goals.{In-Laid-1, In-Laid-2}
+use Rattle.string_reasons.proofs.why.Goals.{In-Laid-1, In-Laid}
 
 -- the image is admitted, and the index is filled from it
-laid : (c : In-Laid-2) → Laid c.in-Laid.p
+laid : (c : In-Laid) → Laid c.in-Laid.p
     c.args.image.now
 laid c = let b : (i : ℕ) → get_or c.args.image.now i 0 < 256
     = λ i. (c.type_inv.image i).fits in
     laid_there _ _ c.args.index.now _ c.admit_indexed-admitted.ensures.0 _ c.in-Laid.is b
 
-held : (c : In-Laid-2) → let a = c.args in
+held : (c : In-Laid) → let a = c.args in
     (y : List ℕ) → y ≡ index_after a.layout a.image.now a.index.now → Indexed c.in-Laid.p a.image.now y
 held c y g = let b : (i : ℕ) → get_or c.args.image.now i 0 < 256
     = λ i. (c.type_inv.image i).fits in
@@ -60,7 +60,7 @@ returns-then-value-gt-LONGEST c =
     let a = c.args in
     let e = c.admit_indexed-admitted.ensures in (
       why_long a.mode a.layout a.image.now a.id a.value.now a.index.now _ e.0 _ c.in-Laid.is
-          c.if-p-id.false _ c.is_utf8.ensures (ap not c.if-not-is_utf8.false) (laid (goal.at.returns-then-value-gt-LONGEST c).In-Laid-2) c.if-value-gt-LONGEST.true,
+          c.if-p-id.false _ c.is_utf8.ensures (ap not c.if-not-is_utf8.false) (laid (goal.at.returns-then-value-gt-LONGEST c).In-Laid) c.if-value-gt-LONGEST.true,
       e.1,
     )
 

@@ -5,7 +5,7 @@ use Rattle.string_steps.proofs.SizeLaws.{marked-size}
 use Rattle.string_steps.proofs.marked_bytes.Goals as goal
 
 pub value_of-requires : goal.value_of-requires
-value_of-requires c = c.requires _ (omega (arith, c.if-mark-eq0.false))
+value_of-requires c = λ h. c.requires _ (omega (arith, c.if-mark-eq0.false))
 
 pub size_of-requires : goal.size_of-requires
 size_of-requires c = shape_small _ _ c.shape_of-shape.ensures c.value_of.ensures.1

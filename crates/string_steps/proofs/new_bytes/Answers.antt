@@ -9,7 +9,7 @@ pub loop-i-init : goal.loop-i-init
 loop-i-init c = (omega arith, sum_none _, omega arith)
 
 pub marked_bytes-sum-requires : goal.marked_bytes-sum-requires
-marked_bytes-sum-requires c = c.requires.0.within c.loop-i.i j (omega (arith, c.loop-i-test), e)
+marked_bytes-sum-requires c = λ j e. c.requires.0.within c.loop-i.i j (omega (arith, c.loop-i-test), e)
 
 pub overflow_add-sum : goal.overflow_add-sum
 overflow_add-sum c = omega (arith, c.marked_bytes-sum.ensures.1, c.loop-i.invariant.2, c.loop-i.invariant.0, c.requires.1)

@@ -16,7 +16,11 @@ given c = let q = c.requires in
 overwritten : (c : Then-fits_all) → let a = c.args in
     Overwritten a.p a.image.now (told a.form a.words.now) a.text.now a.ends.now
     c.first_edited-from.result
-overwritten c = record { given = given c; fits = sym c.fits_all.ensures ∙ c.if-fits_all.true }
+overwritten c = let q = c.requires in
+    record {
+      given = record { laid = q.laid.0; listed = q.laid.1; known = q.by_index; from = c.first_edited-from.ensures };
+      fits = sym c.fits_all.ensures ∙ c.if-fits_all.true;
+    }
 
 pub first_edited-from-requires : goal.first_edited-from-requires
 first_edited-from-requires c =

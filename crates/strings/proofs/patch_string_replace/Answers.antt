@@ -15,19 +15,37 @@ use Rattle.strings.proofs.patch_string_replace.Goals.{After-find-location, After
 old-tested : (c : After-is_utf8) → let a = c.args in
     OldTested a.layout a.image.now c.admit-admitted.result c.in-Laid.p a.old.now c.is_utf8.result
 old-tested c = record {
-      admits = record { is = c.admit-admitted.ensures; laid = c.in-Laid.is };
-      tested = c.is_utf8.ensures;
-    }
+  admits = record { is = c.admit-admitted.ensures; laid = c.in-Laid.is };
+  tested = c.is_utf8.ensures;
+}
 
 new-tested : (c : After-is_utf8-2) → let a = c.args in
     NewTested a.layout a.image.now c.admit-admitted.result c.in-Laid.p a.old.now a.new.now
     c.is_utf8.result c.is_utf8-2.result
-new-tested c = record { before = old-tested c; valid = (ap not c.if-not-is_utf8.false); tested = c.is_utf8-2.ensures }
+new-tested c = record {
+  before = record {
+    admits = record { is = c.admit-admitted.ensures; laid = c.in-Laid.is };
+    tested = c.is_utf8.ensures;
+  };
+  valid = ap not c.if-not-is_utf8.false;
+  tested = c.is_utf8-2.ensures;
+}
 
 sought : (c : After-find-location) → let a = c.args in
     ValueSought a.layout a.image.now c.admit-admitted.result c.in-Laid.p a.old.now a.new.now
     c.is_utf8.result c.is_utf8-2.result c.find-location.result
-sought c = record { before = new-tested c; valid = (ap not c.if-not-is_utf8-2.false); location = c.find-location.ensures }
+sought c = record {
+  before = record {
+    before = record {
+      admits = record { is = c.admit-admitted.ensures; laid = c.in-Laid.is };
+      tested = c.is_utf8.ensures;
+    };
+    valid = ap not c.if-not-is_utf8.false;
+    tested = c.is_utf8-2.ensures;
+  };
+  valid = ap not c.if-not-is_utf8-2.false;
+  location = c.find-location.ensures;
+}
 
 pub returns-in_default : goal.returns-in_default
 returns-in_default c =
@@ -56,8 +74,7 @@ returns-in_default-location c =
 pub patch_one-requires : goal.patch_one-requires
 patch_one-requires c =
     let b : (i : ℕ) → get_or c.args.image.now i 0 < 256 = λ i. (c.type_inv.image i).fits in
-    let found = located_self _ _ _ _ _ c.find-location.ensures _ _ _ c.in-At.is in
-    (
+    let found = located_self _ _ _ _ _ c.find-location.ensures _ _ _ c.in-At.is in (
       is-laid _ _ _ c.admit-admitted.ensures _ c.in-Laid.is b,
       found.0,
       sym c.is_utf8-2.ensures ∙ c.if-not-is_utf8-2.false,

@@ -12,19 +12,19 @@ use Rattle.string_edits.proofs.ToldLaws.{listed}
 use Rattle.strings.proofs.PassLaws.{no_list, list_one, list_refused, Judging, ids_known}
 use Rattle.strings.proofs.PassLaws.{not_known, given-twice, not_valid, list_known}
 use Rattle.strings.proofs.patch_strings.Goals as goal
-use Rattle.strings.proofs.patch_strings.Goals.{In-Laid-2}
+use Rattle.strings.proofs.patch_strings.Goals.{In-Laid}
 
 -- the three are a list, and the image is admitted
-judging : (c : In-Laid-2) → let a = c.args in
+judging : (c : In-Laid) → let a = c.args in
     Judging a.layout a.image.now a.ids.now a.text.now a.ends.now c.admit-admitted.result c.in-Laid.p
     c.is_list.result
 judging c = record {
-      list = c.is_list.ensures;
-      one = (ap not c.if-not-is_list.false);
-      admits = record { is = c.admit-admitted.ensures; laid = c.in-Laid.is };
-    }
+  list = c.is_list.ensures;
+  one = (ap not c.if-not-is_list.false);
+  admits = record { is = c.admit-admitted.ensures; laid = c.in-Laid.is };
+}
 
-laid : (c : In-Laid-2) → Laid c.in-Laid.p c.args.image.now
+laid : (c : In-Laid) → Laid c.in-Laid.p c.args.image.now
 laid c = let b : (i : ℕ) → get_or c.args.image.now i 0 < 256 = λ i. (c.type_inv.image i).fits in
     is-laid _ _ _ c.admit-admitted.ensures _ c.in-Laid.is b
 
@@ -44,13 +44,13 @@ returns-in_default c =
 pub returns-then-not-are_known : goal.returns-then-not-are_known
 returns-then-not-are_known c =
     let a = c.args in
-    not_known a.mode _ _ _ _ _ a.out.now _ _ _ (judging (goal.at.returns-then-not-are_known c).In-Laid-2) _ _ _
+    not_known a.mode _ _ _ _ _ a.out.now _ _ _ (judging (goal.at.returns-then-not-are_known c).In-Laid) _ _ _
     (record { there = c.are_known.ensures; twice = refl; values = refl }) (ap not c.if-not-are_known.true)
 
 pub returns-then-not-are_different : goal.returns-then-not-are_different
 returns-then-not-are_different c =
     let a = c.args in
-    given-twice a.mode _ _ _ _ _ a.out.now _ _ _ (judging (goal.at.returns-then-not-are_different c).In-Laid-2) _ _ _
+    given-twice a.mode _ _ _ _ _ a.out.now _ _ _ (judging (goal.at.returns-then-not-are_different c).In-Laid) _ _ _
     (record { there = c.are_known.ensures; twice = c.are_different.ensures; values = refl })
     (ap not c.if-not-are_known.false)
     (ap not c.if-not-are_different.true)
@@ -59,26 +59,26 @@ pub are_utf8-requires : goal.are_utf8-requires
 are_utf8-requires c =
     let a = c.args in
     let o = list_one a.mode a.layout a.image.now a.ids.now a.text.now a.ends.now
-    a.out.now _ (judging (goal.at.are_utf8-requires c).In-Laid-2).list
-    (judging (goal.at.are_utf8-requires c).In-Laid-2).one in
+    a.out.now _ (judging (goal.at.are_utf8-requires c).In-Laid).list
+    (judging (goal.at.are_utf8-requires c).In-Laid).one in
     split-within a.text.now a.ends.now o.split
 
 pub returns-then-not-are_utf8 : goal.returns-then-not-are_utf8
 returns-then-not-are_utf8 c =
     let a = c.args in
-    not_valid a.mode _ _ _ _ _ a.out.now _ _ _ (judging (goal.at.returns-then-not-are_utf8 c).In-Laid-2) _ _ _
+    not_valid a.mode _ _ _ _ _ a.out.now _ _ _ (judging (goal.at.returns-then-not-are_utf8 c).In-Laid) _ _ _
     (record { there = c.are_known.ensures; twice = c.are_different.ensures; values = c.are_utf8.ensures })
     (ap not c.if-not-are_known.false) (ap not c.if-not-are_different.false) (ap not c.if-not-are_utf8.true)
 
 pub patch_known-requires : goal.patch_known-requires
 patch_known-requires c =
     let a = c.args in
-    let j = judging (goal.at.patch_known-requires c).In-Laid-2 in
+    let j = judging (goal.at.patch_known-requires c).In-Laid in
     let o = list_one a.mode a.layout a.image.now a.ids.now a.text.now a.ends.now a.out.now _ j.list
     j.one in
     record {
       laid = (
-        laid (goal.at.patch_known-requires c).In-Laid-2,
+        laid (goal.at.patch_known-requires c).In-Laid,
         listed a.ids.now a.text.now a.ends.now o
             (sym c.are_different.ensures ∙ c.if-not-are_different.false),
       );
@@ -88,7 +88,7 @@ patch_known-requires c =
 pub returns : goal.returns
 returns c =
     let a = c.args in
-    list_known a.mode _ _ _ _ _ a.out.now _ _ _ (judging (goal.at.returns c).In-Laid-2) _ _ _
+    list_known a.mode _ _ _ _ _ a.out.now _ _ _ (judging (goal.at.returns c).In-Laid) _ _ _
     (record {
       there = c.are_known.ensures;
       twice = c.are_different.ensures;
