@@ -1,14 +1,16 @@
-// Runs a job from standard input to standard output, a record at a time, so that memory does not grow
+// Runs a job from its input to its output, a record at a time, so that memory does not grow
 // with their number: a head, what it states, the image that is held, the room for the next one. What
 // the records mean and what is written is decided by crate `job_records`.
 //
 // A job is given as many bytes of the input as it may read. Each turn reads one at least, which is
 // why a run ends. An input that cannot be read is not taken for one that ends: nothing is written
-// then, and standard error has a line, as it has where the output cannot be written.
+// then, and the errors have a line, as they have where the output cannot be written.
+#![tactic(auto)]
+
 ghost use Rattle.std.specs.Prelude.{◌≤◌, length};
 
 use job_records::Progress;
-use libc::{STDERR_FILENO, STDIN_FILENO, STDOUT_FILENO};
+use std::io::{Read, Write};
 
 // The longest image, and the room for the next one.
 const ROOM: usize = 65536;
@@ -38,12 +40,28 @@ fn at_most(n: usize, left: u64) -> usize
     n
 }
 
+// Fills `bytes` as far as the input goes, and answers how far: to its end, to the end of the input or
+// to a read that fails.
+fn read_full<I: Read>(input: &mut I, bytes: &mut [u8]) -> usize
+    ensures { result ≤ length bytes.old }
+{
+    let mut done = 0;
+    while done < bytes.len() {
+        let n = input.read(&mut bytes[done..]).unwrap_or(0);
+        if n == 0 {
+            break;
+        }
+        done += n;
+    }
+    done
+}
+
 // Fills `bytes` as far as the input and what is left of it go, and answers how far.
-fn read(bytes: &mut [u8], left: u64) -> Got
+fn read<I: Read>(input: &mut I, bytes: &mut [u8], left: u64) -> Got
     ensures { (result.count ≤ left) × (result.count ≤ length bytes.old) }
 {
     let most = at_most(bytes.len(), left);
-    let count = io::read_full(STDIN_FILENO, &mut bytes[0..most]);
+    let count = read_full(input, &mut bytes[0..most]);
     Got {
         count,
         short: count < most,
@@ -55,22 +73,25 @@ fn either(a: bool, b: bool) -> bool {
 }
 
 // Whether the input ends here: behind a read that was short, one more tells an end from a failure.
-fn is_at_end() -> bool {
+fn is_at_end<I: Read>(input: &mut I) -> bool {
     let mut byte = [0u8; 1];
-    libc::read(STDIN_FILENO, &mut byte) == 0
+    match input.read(&mut byte) {
+        Ok(n) => n == 0,
+        Err(_) => false,
+    }
 }
 
 // Reads the image record.
-fn begin(image: &mut [u8], left: u64) -> ReadSoFar
+fn begin<I: Read>(input: &mut I, image: &mut [u8], left: u64) -> ReadSoFar
     requires { 65536 ≤ length image.old }
     ensures { result.left ≤ left }
 {
     let mut head = [0u8; input_records::IMAGE_HEAD];
-    let front = read(&mut head, left);
+    let front = read(input, &mut head, left);
     let n = front.count;
     let stated = job_records::stated_image(&head[0..n]);
     let behind = left - n as u64;
-    let rest = read(&mut image[0..stated], behind);
+    let rest = read(input, &mut image[0..stated], behind);
     let got = rest.count;
     let progress = job_records::begin(&head[0..n], &image[0..got]);
     ReadSoFar {
@@ -81,7 +102,8 @@ fn begin(image: &mut [u8], left: u64) -> ReadSoFar
 }
 
 // Reads what the head of a patch record states behind it, and takes the record.
-fn take(
+fn take<I: Read>(
+    input: &mut I,
     progress: Progress,
     left: u64,
     head: &[u8],
@@ -94,7 +116,7 @@ fn take(
     ensures { result.left ≤ left }
 {
     let stated = job_records::stated_patch(head);
-    let rest = read(&mut content[0..stated], left);
+    let rest = read(input, &mut content[0..stated], left);
     let got = rest.count;
     let next = job_records::step(progress, head, &content[0..got], image, out);
     ReadSoFar {
@@ -105,30 +127,36 @@ fn take(
 }
 
 // Writes what a job makes.
-fn write(bytes: &[u8]) {
-    if !io::write_all(STDOUT_FILENO, bytes) {
-        io::write_all(STDERR_FILENO, b"standard output cannot be written\n");
+fn write<O: Write, E: Write>(output: &mut O, errors: &mut E, bytes: &[u8]) {
+    if output.write_all(bytes).is_err() {
+        let _ = errors.write_all(b"standard output cannot be written\n");
     }
 }
 
 // Runs one job on at most `most` bytes of the input. Answers how many of them it did not read.
-pub fn run(most: u64) -> u64 {
+pub fn run<I: Read, O: Write, E: Write>(
+    input: &mut I,
+    output: &mut O,
+    errors: &mut E,
+    most: u64,
+) -> u64 {
     let mut image = [0u8; ROOM];
     let mut out = [0u8; ROOM];
     let mut content = [0u8; job_records::CONTENT_MOST];
     let mut head = [0u8; input_records::PATCH_HEAD];
-    let begun = begin(&mut image, most);
+    let begun = begin(input, &mut image, most);
     let mut progress = begun.progress;
     let mut left = begun.left;
     let mut short = begun.short;
     while !job_records::is_refused(progress) {
-        let front = read(&mut head, left);
+        let front = read(input, &mut head, left);
         let n = front.count;
         if n == 0 {
             short = front.short;
             break;
         }
         let turn = take(
+            input,
             progress,
             left - n as u64,
             &head[0..n],
@@ -141,11 +169,11 @@ pub fn run(most: u64) -> u64 {
         left = turn.left;
         short = either(front.short, turn.short);
     }
-    if short && !is_at_end() {
-        io::write_all(STDERR_FILENO, b"standard input cannot be read\n");
+    if short && !is_at_end(input) {
+        let _ = errors.write_all(b"standard input cannot be read\n");
         return left;
     }
     let end = job_records::finish(progress, &mut image);
-    write(&image[0..end]);
+    write(output, errors, &image[0..end]);
     left
 }

@@ -2,27 +2,52 @@
 // a layout byte, the length in 4 bytes, the image. The lines, or `refused N`, go out on standard
 // output. Where standard input cannot be read, nothing does; standard error then has a line, as it has
 // where standard output cannot be written.
-use libc::{STDERR_FILENO, STDIN_FILENO};
+#![tactic(auto)]
+
+ghost use Rattle.std.specs.Prelude.{◌≤◌, length};
+
+use std::io::Read;
 
 // One byte more than the longest record, so that a byte after it is seen.
 const ROOM: usize = 65544;
 
-// Whether the input ends here: behind a read that was short, one more tells an end from a failure.
-fn is_at_end() -> bool {
-    let mut byte = [0u8; 1];
-    libc::read(STDIN_FILENO, &mut byte) == 0
+// Fills `bytes` as far as the input goes, and answers how far: to its end, to the end of the input or
+// to a read that fails.
+fn read_full<I: Read>(input: &mut I, bytes: &mut [u8]) -> usize
+    ensures { result ≤ length bytes.old }
+{
+    let mut done = 0;
+    while done < bytes.len() {
+        let n = input.read(&mut bytes[done..]).unwrap_or(0);
+        if n == 0 {
+            break;
+        }
+        done += n;
+    }
+    done
 }
 
-fn main() {
+// Whether the input ends here: behind a read that was short, one more tells an end from a failure.
+fn is_at_end<I: Read>(input: &mut I) -> bool {
+    let mut byte = [0u8; 1];
+    match input.read(&mut byte) {
+        Ok(n) => n == 0,
+        Err(_) => false,
+    }
+}
+
+fn main(rt: HostRuntime) {
+    let mut stdin = rt.stdin();
     let mut input = [0u8; ROOM];
-    let n = io::read_full(STDIN_FILENO, &mut input);
-    if n < ROOM && !is_at_end() {
-        io::write_all(STDERR_FILENO, b"standard input cannot be read\n");
+    let n = read_full(&mut stdin, &mut input);
+    if n < ROOM && !is_at_end(&mut stdin) {
+        let _ = rt.eprintln("standard input cannot be read");
         return;
     }
     let mut index = [0u32; listing_pieces::INDEX];
     let mut room = [0u8; listing_pieces::ROOM];
-    if !listing_io::print(&input[0..n], &mut index, &mut room) {
-        io::write_all(STDERR_FILENO, b"standard output cannot be written\n");
+    let mut stdout = rt.stdout();
+    if !listing_io::print(&mut stdout, &input[0..n], &mut index, &mut room) {
+        let _ = rt.eprintln("standard output cannot be written");
     }
 }

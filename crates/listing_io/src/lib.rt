@@ -1,21 +1,29 @@
-// Writes the listing of an input to standard output, as it is made: a batch of pieces at a time, in
+// Writes the listing of an input, as it is made: a batch of pieces at a time, in
 // one room, by an index that is filled first.
+#![tactic(auto)]
+
 ghost use Rattle.std.specs.Prelude.{◌≡◌, ◌≤◌, length};
 ghost use Rattle.listing_pieces.specs.declared.Opened.TheVariants.{Listed};
 ghost use Rattle.listing_pieces.specs.Pieces.{opened, Ready};
 
-use libc::STDOUT_FILENO;
 use listing_pieces::{INDEX, Opened, Point, ROOM};
 use sections::Places;
+use std::io::Write;
 
-fn print_refusal(number: u8) -> bool {
+fn print_refusal<O: Write>(output: &mut O, number: u8) -> bool {
     let mut line = [0u8; 32];
     let end = listing_lines::put_refused(&mut line, 0, number as u64);
-    io::write_all(STDOUT_FILENO, &line[0..end])
+    output.write_all(&line[0..end]).is_ok()
 }
 
 // Writes the lines of an admitted image. Answers whether all could be written.
-fn print_lines(image: &[u8], p: Places, index: &[u32], room: &mut [u8]) -> bool
+fn print_lines<O: Write>(
+    output: &mut O,
+    image: &[u8],
+    p: Places,
+    index: &[u32],
+    room: &mut [u8],
+) -> bool
     requires ready { Ready p image.now index.now }
     requires in_bounds { 65536 ≤ length room.old }
 {
@@ -23,7 +31,7 @@ fn print_lines(image: &[u8], p: Places, index: &[u32], room: &mut [u8]) -> bool
     while !listing_pieces::is_end(point) {
         let piece = listing_pieces::put_pieces(image, p, index, point, room);
         let end = piece.end;
-        if !io::write_all(STDOUT_FILENO, &room[0..end]) {
+        if output.write_all(&room[0..end]).is_err() {
             return false;
         }
         let next = piece.next;
@@ -33,21 +41,32 @@ fn print_lines(image: &[u8], p: Places, index: &[u32], room: &mut [u8]) -> bool
 }
 
 // Writes the lines of the image in an input that was opened.
-fn print_image(input: &[u8], p: Places, index: &mut [u32], room: &mut [u8]) -> bool
+fn print_image<O: Write>(
+    output: &mut O,
+    input: &[u8],
+    p: Places,
+    index: &mut [u32],
+    room: &mut [u8],
+) -> bool
     requires input_value { opened input.now ≡ Listed p }
     requires in_bounds { (49152 ≤ length index.old) × (65536 ≤ length room.old) }
 {
     let from = input_records::IMAGE_HEAD;
     let image = &input[from..];
     string_index::fill(index, image, p);
-    print_lines(image, p, index, room)
+    print_lines(output, image, p, index, room)
 }
 
 // Writes the listing of an input: the lines of its image, or its refusal.
-pub fn print(input: &[u8], index: &mut [u32; INDEX], room: &mut [u8; ROOM]) -> bool {
+pub fn print<O: Write>(
+    output: &mut O,
+    input: &[u8],
+    index: &mut [u32; INDEX],
+    room: &mut [u8; ROOM],
+) -> bool {
     let judged = listing_pieces::open(input);
     match judged {
-        Opened::Listed(p) => print_image(input, p, index, room),
-        Opened::Refused(number) => print_refusal(number),
+        Opened::Listed(p) => print_image(output, input, p, index, room),
+        Opened::Refused(number) => print_refusal(output, number),
     }
 }

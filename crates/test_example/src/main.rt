@@ -1,12 +1,14 @@
 // Writes the image of document 01's marked example j to standard output, as the builder makes it: a
 // modern image of version 97 with the strings "a" and "bc" and one function with a body of 4 bytes.
+#![tactic(auto)]
+
 use bits::Answer;
-use libc::STDOUT_FILENO;
+use std::io;
 
 // The length of the image.
 const LENGTH: usize = 220;
 
-fn main() {
+fn main(rt: HostRuntime) -> io::Result<()> {
     let mut image = [0u8; LENGTH];
     let answer = serialize::build_minimal_modern(
         97,
@@ -16,6 +18,7 @@ fn main() {
         &mut image,
     );
     if let Answer::Length(_) = answer {
-        io::write_all(STDOUT_FILENO, &image);
+        rt.write_all(&image)?;
     }
+    Ok(())
 }

@@ -3,36 +3,43 @@
 //
 // A job is written as its length in 4 bytes, lowest first, and its bytes. The program stops at the end
 // of the input and at a job that is cut short.
-use libc::STDIN_FILENO;
+#![tactic(auto)]
+
+use std::io::{Read, Write};
 
 // Passes over what a job did not read, and answers whether it is all there.
-fn skip(count: u64) -> bool {
+fn skip<I: Read>(input: &mut I, count: u64) -> bool {
     let mut scrap = [0u8; 4096];
     let mut left = count;
     while left >= 4096 {
-        if io::read_full(STDIN_FILENO, &mut scrap) < 4096 {
+        if input.read_exact(&mut scrap).is_err() {
             return false;
         }
         left -= 4096;
     }
     let n = left as usize;
-    io::read_full(STDIN_FILENO, &mut scrap[0..n]) == n
+    input.read_exact(&mut scrap[0..n]).is_ok()
 }
 
 // Runs the next job. Answers whether there can be more.
-fn run_next() -> bool {
+fn run_next<I: Read, O: Write, E: Write>(input: &mut I, output: &mut O, errors: &mut E) -> bool {
     let mut head = [0u8; 4];
-    if io::read_full(STDIN_FILENO, &mut head) < 4 {
+    if input.read_exact(&mut head).is_err() {
         return false;
     }
-    skip(job_io::run(bits::word(&head, 0)))
+    let unread = job_io::run(input, output, errors, bits::word(&head, 0));
+    skip(input, unread)
 }
 
-// A proved loop has to end, and nothing says that the stream does. So its turns are counted down
-// from a number that no run uses up.
-fn main() {
-    let mut turns = u64::MAX;
-    while turns > 0 && run_next() {
-        turns -= 1;
+// A proved loop has to end, and nothing says that the stream does. So its turns have a bound that no
+// run uses up.
+fn main(rt: HostRuntime) {
+    let mut input = rt.stdin();
+    let mut output = rt.stdout();
+    let mut errors = rt.stderr();
+    for _ in 0..u64::MAX {
+        if !run_next(&mut input, &mut output, &mut errors) {
+            break;
+        }
     }
 }

@@ -4,9 +4,11 @@
 // An input is written as two numbers of 4 bytes, lowest first, and as many bytes as the first one
 // says; zeros follow, as many as the second one says. The program stops at the end of the input, at
 // an input cut short, and at one longer than its room.
+#![tactic(auto)]
+
 ghost use Rattle.std.specs.Prelude.{◌≤◌, length};
 
-use libc::STDIN_FILENO;
+use std::io::{Read, Write};
 
 // As much as program `listing` reads of its input.
 const ROOM: usize = 65544;
@@ -18,9 +20,9 @@ enum Head {
     End,
 }
 
-fn read_head() -> Head {
+fn read_head<I: Read>(input: &mut I) -> Head {
     let mut bytes = [0u8; 8];
-    if io::read_full(STDIN_FILENO, &mut bytes) < 8 {
+    if input.read_exact(&mut bytes).is_err() {
         return Head::End;
     }
     Head::Input(
@@ -30,16 +32,18 @@ fn read_head() -> Head {
 }
 
 // Fills `input` with `n` bytes read, and zeros.
-fn read_input(input: &mut [u8], n: usize) -> bool
+fn read_input<I: Read>(stdin: &mut I, input: &mut [u8], n: usize) -> bool
     requires { n ≤ length input.old }
 {
     let len = input.len();
     bits::put_zeros(input, 0, len);
-    io::read_full(STDIN_FILENO, &mut input[0..n]) == n
+    stdin.read_exact(&mut input[0..n]).is_ok()
 }
 
 // Reads an input that fills `input`, `n` bytes and zeros, and lists it.
-fn list_input(
+fn list_input<I: Read, O: Write>(
+    stdin: &mut I,
+    stdout: &mut O,
     input: &mut [u8],
     n: usize,
     index: &mut [u32; listing_pieces::INDEX],
@@ -47,19 +51,21 @@ fn list_input(
 ) -> bool
     requires { n ≤ length input.old }
 {
-    if !read_input(input, n) {
+    if !read_input(stdin, input, n) {
         return false;
     }
-    listing_io::print(input, index, room)
+    listing_io::print(stdout, input, index, room)
 }
 
 // Reads one input to the front of `inputs` and lists it. Answers whether there can be more.
-fn list_next(
+fn list_next<I: Read, O: Write>(
+    stdin: &mut I,
+    stdout: &mut O,
     inputs: &mut [u8],
     index: &mut [u32; listing_pieces::INDEX],
     room: &mut [u8; listing_pieces::ROOM],
 ) -> bool {
-    let head = read_head();
+    let head = read_head(stdin);
     let Head::Input(n, zeros) = head else {
         return false;
     };
@@ -70,25 +76,30 @@ fn list_next(
         return false;
     }
     let len = n + zeros;
-    list_input(&mut inputs[0..len], n, index, room)
+    list_input(stdin, stdout, &mut inputs[0..len], n, index, room)
 }
 
-// A proved loop has to end, and nothing says that the stream does. So its turns are counted down
-// from a number that no run uses up.
-fn list_all(
+// A proved loop has to end, and nothing says that the stream does. So its turns have a bound that no
+// run uses up.
+fn list_all<I: Read, O: Write>(
+    stdin: &mut I,
+    stdout: &mut O,
     inputs: &mut [u8; ROOM],
     index: &mut [u32; listing_pieces::INDEX],
     room: &mut [u8; listing_pieces::ROOM],
 ) {
-    let mut turns = u64::MAX;
-    while turns > 0 && list_next(inputs, index, room) {
-        turns -= 1;
+    for _ in 0..u64::MAX {
+        if !list_next(stdin, stdout, inputs, index, room) {
+            break;
+        }
     }
 }
 
-fn main() {
+fn main(rt: HostRuntime) {
+    let mut stdin = rt.stdin();
+    let mut stdout = rt.stdout();
     let mut inputs = [0u8; ROOM];
     let mut index = [0u32; listing_pieces::INDEX];
     let mut room = [0u8; listing_pieces::ROOM];
-    list_all(&mut inputs, &mut index, &mut room);
+    list_all(&mut stdin, &mut stdout, &mut inputs, &mut index, &mut room);
 }
