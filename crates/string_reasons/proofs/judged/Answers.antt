@@ -9,13 +9,7 @@ use Rattle.string_reasons.proofs.judged.Goals.{In_default}
 
 -- the path is not in place
 moves : (c : In_default) → c.args.path ≢ InPlace
-moves c g = elim (rw g at c.in_default.keys2) [
-  | inl k ↦ omega arith
-  | inr (inl k) ↦ omega arith
-  | inr (inr (inl k)) ↦ omega arith
-  | inr (inr (inr (inl k))) ↦ omega arith
-  | inr (inr (inr (inr k))) ↦ omega arith
-]
+moves c g = let h = c.in_default in ?
 
 pub rebuild_refusal-number-requires : goal.rebuild_refusal-number-requires
 rebuild_refusal-number-requires c =

@@ -1,3 +1,4 @@
+use mathlib.Core.Path.{ap}
 use mathlib.Core.Bool.{not}
 use mathlib.Core.Bool.{true}
 use Prim.Native.Nat.{◌-◌}

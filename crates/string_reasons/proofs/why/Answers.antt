@@ -13,7 +13,7 @@ use Rattle.string_index.specs.Filling.{Indexed}
 use Rattle.string_index.proofs.IndexLaws.{laid_there, index_there}
 use Rattle.string_reasons.proofs.AnswerLaws.{why_refused, why_absent, why_value, why_long, why_judged}
 use Rattle.string_reasons.proofs.why.Goals as goal
-use Rattle.string_reasons.proofs.why.Goals.{In-Laid-1, In-Laid}
+use Rattle.string_reasons.proofs.why.Goals.{In-Laid}
 
 -- the image is admitted, and the index is filled from it
 laid : (c : In-Laid) → Laid c.in-Laid.p
@@ -66,15 +66,22 @@ returns-then-value-gt-LONGEST c =
 
 pub path_of-requires : goal.path_of-requires
 path_of-requires c =
-    let z : Sectioned c.in-Laid.p _ = sectioned _ _ (laid (goal.at.path_of-requires c).In-Laid-1).placed in
-    (((held (goal.at.path_of-requires c).In-Laid-1 _ c.admit_indexed-admitted.ensures.1).long, c.if-p-id.false, omega (arith, z)), c.if-value-gt-LONGEST.false)
+    let z : Sectioned c.in-Laid.p _ = sectioned _ _ (laid (goal.at.path_of-requires c).In-Laid).placed in
+    record {
+      strings_in_bounds = (
+        (held (goal.at.path_of-requires c).In-Laid _ c.admit_indexed-admitted.ensures.1).long,
+        c.if-p-id.false,
+        omega (arith, z),
+      );
+      value_len_bound = c.if-value-gt-LONGEST.false;
+    }
 
 pub judged-requires : goal.judged-requires
 judged-requires c =
-    let index = held (goal.at.judged-requires c).In-Laid-1 _ c.admit_indexed-admitted.ensures.1 in
+    let index = held (goal.at.judged-requires c).In-Laid _ c.admit_indexed-admitted.ensures.1 in
     record {
-      laid = (laid (goal.at.judged-requires c).In-Laid-1, c.if-p-id.false, c.if-value-gt-LONGEST.false);
-      path_value = c.path_of.ensures _ (laid (goal.at.judged-requires c).In-Laid-1) index;
+      laid = (laid (goal.at.judged-requires c).In-Laid, c.if-p-id.false, c.if-value-gt-LONGEST.false);
+      path_value = c.path_of.ensures _ (laid (goal.at.judged-requires c).In-Laid) index;
     }
 
 pub returns : goal.returns

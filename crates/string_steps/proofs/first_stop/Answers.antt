@@ -84,14 +84,15 @@ pub stop_at-number-requires : goal.stop_at-number-requires
 stop_at-number-requires c =
     let a = c.args in
     let g = given (goal.at.stop_at-number-requires c).After-first_string-c in
-    rw sub-zero (
-      front_fits a.mode a.p a.image.now a.marks.now a.text.now a.ends.now a.room c.requires _ g _ _ _
-          c.loop-next.invariant _ _ (met (goal.at.stop_at-number-requires c).After-string_at-step) _ (answer (goal.at.stop_at-number-requires c).After-fits_too-fits),
-      (
+    record {
+      fits_value = rw sub-zero
+          (front_fits a.mode a.p a.image.now a.marks.now a.text.now a.ends.now a.room c.requires _ g _ _ _
+          c.loop-next.invariant _ _ (met (goal.at.stop_at-number-requires c).After-string_at-step) _ (answer (goal.at.stop_at-number-requires c).After-fits_too-fits));
+      laid = (
         c.requires.laid,
-        front-listed a.marks.now a.text.now a.ends.now c.string_at-step.result.next.id c.requires.listed,
-      ),
-    )
+        rw sub-zero (front-listed a.marks.now a.text.now a.ends.now c.string_at-step.result.next.id c.requires.listed),
+      );
+    }
 
 pub returns-then-number-ne0 : goal.returns-then-number-ne0
 returns-then-number-ne0 c =

@@ -1,7 +1,6 @@
 -- Where all fit in place only the room may be short; else the patch is judged by the plan of its rebuild.
 use mathlib.Core.Path.{sym, ◌∙◌}
 use native.Mathlib.Omega.{arith}
-use borrow.Author.Tests.{not-true, not-false}
 use Rattle.string_rebuild.proofs.JudgeLaws.{planned_length, refusal_is}
 use Rattle.string_steps.proofs.StopLaws.{placed_short, placed-fits}
 use Rattle.string_steps.proofs.stop_at.Goals as goal
@@ -15,14 +14,14 @@ pub returns-then-not-fits : goal.returns-then-not-fits
 returns-then-not-fits c =
     let q = c.requires in
     c.refusal.ensures
-    ∙ refusal_is _ _ _ _ _ q.laid.0 (sym q.fits_value ∙ not-true _ c.if-not-fits.true) c.plan_rebuild-plan.ensures _
+    ∙ refusal_is _ _ _ _ _ q.laid.0 (sym q.fits_value ∙ c.if-not-fits.true) c.plan_rebuild-plan.ensures _
 
 pub returns-then-room-image : goal.returns-then-room-image
 returns-then-room-image c =
     let q = c.requires in
-    placed_short _ _ _ _ q.laid.0.admitted (sym q.fits_value ∙ not-false _ c.if-not-fits.false) _ c.if-room-image.true
+    placed_short _ _ _ _ q.laid.0.admitted (sym q.fits_value ∙ c.if-not-fits.false) _ c.if-room-image.true
 
 pub returns : goal.returns
 returns c =
     let q = c.requires in
-    placed-fits _ _ _ _ q.laid.0.admitted (sym q.fits_value ∙ not-false _ c.if-not-fits.false) _ (omega (arith, c.if-room-image.false))
+    placed-fits _ _ _ _ q.laid.0.admitted (sym q.fits_value ∙ c.if-not-fits.false) _ (omega (arith, c.if-room-image.false))
