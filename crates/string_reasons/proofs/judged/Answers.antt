@@ -1,22 +1,15 @@
 -- In place no number is met; else the rebuild's decides.
-use mathlib.Core.Logic.{inl, inr, ◌≢◌}
 use native.Mathlib.Omega.{arith}
 use Rattle.sections.proofs.SectionLaws.{Sectioned, sectioned}
-use Rattle.string_reasons.specs.declared.Reason.TheVariants.{InPlace}
 use Rattle.string_reasons.proofs.AnswerLaws.{path_moves, judged_none, judged_some, judged_in_place}
 use Rattle.string_reasons.proofs.judged.Goals as goal
-use Rattle.string_reasons.proofs.judged.Goals.{In_default}
-
--- the path is not in place
-moves : (c : In_default) → c.args.path ≢ InPlace
-moves c g = let h = c.in_default in ?
 
 pub rebuild_refusal-number-requires : goal.rebuild_refusal-number-requires
 rebuild_refusal-number-requires c =
     let a = c.args in
     record {
       laid = c.requires.laid;
-      value_value = path_moves a.p.layout a.image.now a.id a.value.now _ c.requires.path_value (moves (goal.at.rebuild_refusal-number-requires c).In_default);
+      value_value = path_moves a.p.layout a.image.now a.id a.value.now _ c.requires.path_value c.in_default.not-InPlace;
     }
 
 pub returns-then-number-eq0 : goal.returns-then-number-eq0

@@ -28,14 +28,13 @@ pub loop-i-smaller : goal.loop-i-smaller
 loop-i-smaller c = omega (arith, c.loop-i-test.true)
 
 pub loop-i-preserved : goal.loop-i-preserved
-loop-i-preserved c =
-    (
-      omega (arith, c.loop-i-test.true),
-      λ s laid ix.
-          apart_next _ s laid _ _ _ _ (c.string_in-own.ensures.by_index s laid ix).place
-          (c.string_in-other.ensures.by_index s laid ix).place _
-          c.is_apart.ensures (c.loop-i.invariant.1 s laid ix) (ap not c.if-not-is_apart.false),
-    )
+loop-i-preserved c = (
+  omega (arith, c.loop-i-test.true),
+  λ s laid ix.
+      apart_next _ s laid _ _ _ _ (c.string_in-own.ensures.by_index s laid ix).place
+      (c.string_in-other.ensures.by_index s laid ix).place _
+      c.is_apart.ensures (c.loop-i.invariant.1 s laid ix) (ap not c.if-not-is_apart.false),
+)
 
 pub returns : goal.returns
 returns c =
