@@ -46,4 +46,4 @@ returns-in-Length c =
       turn = record { under = c.in-Under.is; part = c.least-held.ensures.0; answers = c.apply-answer.ensures };
       long = c.in-Length.is;
       room = c.requires;
-    }) _ _ c.wrapping_add_u64.ensures c.put_bytes.ensures
+    }) _ _ c.wrapping_add_u64.ensures.value c.put_bytes.ensures
