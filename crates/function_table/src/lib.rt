@@ -1,5 +1,7 @@
 // The functions of an image: their records, their large headers and what lies in the tail. Here the
 // part of refusal 6 is judged that speaks of one function at a time.
+#![tactic(auto)]
+
 ghost use Rattle.std.specs.Prelude.{◌≡◌, true, not, ◌+◌, ◌≤◌, ◌<◌, ◌^◌, eqb, length};
 ghost use Rattle.bits.specs.Choice.{implies};
 ghost use Rattle.bits.specs.Words.{whole};

@@ -4,6 +4,8 @@
 // slot, edits fields that the table of crate format places, and stores it. No leaf relies on a check
 // by its caller: a slot, word or header buffer that is too short is refused with number 1, and a
 // shift whose sum is below 0 or has more bits than its place with 12; the buffer stays as it is.
+#![tactic(auto)]
+
 pub mod headers;
 
 ghost use Rattle.std.specs.Prelude.{◌≡◌, false};

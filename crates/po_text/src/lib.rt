@@ -1,5 +1,7 @@
 // The text of a translators' file as it is written (02, No. 1), code point by code point. A writer
 // answers the place behind what it wrote.
+#![tactic(auto)]
+
 ghost use Rattle.std.specs.Prelude.{◌≡◌, ◌∷◌, [], ◌+◌, ◌≤◌, ◌<◌, length};
 ghost use Rattle.text.specs.Text.{Wrote};
 ghost use Rattle.utf.specs.Utf16.{bytes_of_point};

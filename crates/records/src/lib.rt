@@ -1,6 +1,8 @@
 // A function record in two words: its fields by the table, its large pointer, and their shifts.
 //
 // These are the inner functions of crate header_write; they take what their `requires` say.
+#![tactic(auto)]
+
 ghost use Rattle.std.specs.Prelude.{◌≡◌, true, false, ◌<◌, ◌≤◌, ◌^◌};
 ghost use Rattle.bits.specs.Words.{whole};
 ghost use Rattle.format.specs.declared.Layout.TheVariants.{Modern, Legacy};

@@ -1,5 +1,7 @@
 // Where the sections of an image stand, as its header says. The record of places is derived anew per
 // call: nothing here trusts that an image was looked at before.
+#![tactic(auto)]
+
 ghost use Rattle.std.specs.Prelude.{◌≡◌, ◌+◌, ◌*◌, ◌≤◌, ◌<◌, length};
 ghost use Rattle.format.specs.Table.{row_of, row_count, header_length, place_in, debug_row};
 ghost use Rattle.format.specs.Number.{number_held, entry_at};

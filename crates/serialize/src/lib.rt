@@ -3,6 +3,8 @@
 //
 // The strings come as one text and their end places: string i is the text from the end before it to
 // its own. Everything is judged before the first byte is written.
+#![tactic(auto)]
+
 ghost use Rattle.std.specs.Prelude.{◌≡◌, true, false, ◌+◌, ◌≤◌, ◌<◌, ◌^◌, length};
 ghost use Rattle.std.proofs.lemmas.List.Edits.{sets};
 ghost use Rattle.bits.specs.Bytes.{bytes_of};

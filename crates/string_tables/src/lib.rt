@@ -1,5 +1,7 @@
 // The tables of strings: kinds, small entries, overflow pairs and storage, as an image has them.
 // Here refusals 4 and 5 are judged, each in one pass.
+#![tactic(auto)]
+
 ghost use Rattle.std.specs.Prelude.{◌≡◌, true, ◌+◌, ◌*◌, ◌≤◌, ◌<◌, length};
 ghost use Rattle.format.specs.Table.{kind_entry, overflow_entry};
 ghost use Rattle.format.specs.Number.{entry_at, entry_in};

@@ -1,6 +1,8 @@
 // The strings of an admitted image, one by one. A pass over all of them has one cursor, which carries
 // the count of overflow entries and the run of kinds along; a single id is located by bringing the
 // cursor to it from the tables' starts. So there is one record of a string, however it is found.
+#![tactic(auto)]
+
 ghost use Rattle.std.specs.Prelude.{◌≡◌, true, List, ℕ, ◌+◌, ◌-◌, ◌*◌, ◌≤◌, ◌<◌, length};
 ghost use Rattle.bits.specs.Bytes.{word_at};
 ghost use Rattle.image.specs.Strings.{small_in, unit_size};

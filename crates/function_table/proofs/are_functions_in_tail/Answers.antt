@@ -1,10 +1,8 @@
 use mathlib.Core.Path.{ap}
-use Prim.Native.Nat.{◌-◌}
-use mathlib.Core.Bool.{true, not}
+use mathlib.Core.Bool.{not}
 use native.Mathlib.Omega.{arith}
 use Rattle.bits.proofs.PassLaws.{pass_none, pass_next}
 use Rattle.sections.proofs.SectionLaws.{sectioned}
-use Rattle.function_table.specs.Functions.{function_in}
 use Rattle.function_table.proofs.TailLaws.{function_fails, functions_end}
 use Rattle.function_table.proofs.are_functions_in_tail.Goals as goal
 

@@ -1,5 +1,3 @@
-use Prim.Native.Nat.{◌-◌}
-use mathlib.Core.Bool.{true}
 use native.Mathlib.Omega.{arith}
 use Rattle.bits.proofs.TestLaws.{all_none}
 use Rattle.serialize.proofs.BuilderLaws.{small, far, long, fits, all_fit}

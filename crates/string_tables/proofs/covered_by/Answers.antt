@@ -1,7 +1,5 @@
-use Prim.Native.Nat.{◌-◌}
 use mathlib.Core.Path.{◌≡◌}
 use native.Mathlib.Omega.{arith}
-use Rattle.image.specs.Kinds.{covered, identified}
 use Rattle.format.specs.Table.{kind_entry}
 use Rattle.format.specs.Number.{entry_in}
 use Rattle.string_tables.proofs.KindLaws.{none-covered, covered_next, identified_next}

@@ -1,4 +1,3 @@
-use Prim.Native.Nat.{◌-◌}
 use native.Mathlib.Omega.{arith}
 use Rattle.string_walk.proofs.RunLaws.{RunIn, more_runs, next_run_of, next_reaches}
 use Rattle.string_walk.proofs.run_of.Goals as goal

@@ -1,10 +1,9 @@
-use Prim.Native.Nat.{◌-◌}
 use mathlib.Core.Path.{◌≡◌, refl, ◌∙◌}
 use mathlib.Core.Bool.{true}
 use native.Mathlib.Nat.{add-zero}
 use native.Mathlib.Omega.{arith}
 use lib.ListN.{length}
-use Rattle.header_write.specs.Headers.{run, is_header_word}
+use Rattle.header_write.specs.Headers.{is_header_word}
 use Rattle.header_write.proofs.HeaderLaws.{row_at, word_width, word_fits, place_le, run-next, run_end}
 use Rattle.header_write.proofs.headers.put_rows.Goals as goal
 use Rattle.header_write.proofs.headers.put_rows.Goals.{After-get}
