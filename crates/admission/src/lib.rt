@@ -1,5 +1,7 @@
 // Admission: whether bytes are an image of a layout, and where its parts stand. Everything above goes
 // by what is admitted here. The tests of one number all come before those of the next.
+#![tactic(auto)]
+
 ghost use Rattle.std.specs.Prelude.{◌≡◌};
 ghost use Rattle.sections.specs.Places.{Placed};
 ghost use Rattle.admission.specs.Admission.{admission, number_of, laid_out, strings_judged, functions_judged};

@@ -1,5 +1,7 @@
 // What is known of an image and of its strings, as numbers at the front of a lent buffer: for callers
 // that tell people about them.
+#![tactic(auto)]
+
 ghost use Rattle.std.specs.Prelude.{◌≡◌, ◌+◌, ◌*◌, ◌≤◌, ◌<◌, length};
 ghost use Rattle.std.proofs.lemmas.List.Edits.{sets};
 ghost use Rattle.bits.specs.Outcome.{made, roomed, Answers};

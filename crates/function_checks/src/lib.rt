@@ -1,5 +1,7 @@
 // What is judged of a body and of what takes its place: the refusals 9, 10 and 11, and the part of 12
 // that speaks of the body's size.
+#![tactic(auto)]
+
 ghost use Rattle.std.specs.Prelude.{◌≡◌, true, not, ◌+◌, ◌-◌, ◌≤◌, ◌<◌, leb, ltb, eqb, length};
 ghost use Rattle.bits.specs.Choice.{both, either, implies};
 ghost use Rattle.format.specs.Table.{row_of, header_length};

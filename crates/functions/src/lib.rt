@@ -1,5 +1,7 @@
 // Body patches: a port of the Rust's patch/functions.rs, `patch_function_bytes`. Everything is judged
 // before the first byte is written, and the image is hashed once.
+#![tactic(auto)]
+
 ghost use Rattle.std.specs.Prelude.{◌≡◌, ◌<◌, length};
 ghost use Rattle.bits.specs.Choice.{judge};
 ghost use Rattle.bits.specs.Outcome.{made, answered, roomed, Answers};

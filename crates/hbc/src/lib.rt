@@ -1,5 +1,7 @@
 // The product for callers in C and in Rust: numbers and slices in, one number out. Each function here
 // hands on to the one that it is named for.
+#![tactic(auto)]
+
 ghost use Rattle.std.specs.Prelude.{◌≡◌, [], ◌∷◌, ◌+◌, ◌≤◌, length};
 ghost use Rattle.bits.specs.Bytes.{bytes_at};
 ghost use Rattle.bits.specs.Outcome.{made, roomed, Answers};

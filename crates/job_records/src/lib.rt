@@ -1,6 +1,8 @@
 // The job: an image, then patches of it, as records. The definition of a job stands in specs/Job, and
 // in specs/Pieces the same in the pieces in which a program reads it. A program only reads and writes:
 // what a record means and what is written at the end is decided here.
+#![tactic(auto)]
+
 ghost use Rattle.std.specs.Prelude.{◌≡◌, ◌≤◌, length};
 ghost use Rattle.bits.specs.Outcome.{Answers};
 ghost use Rattle.text.specs.Text.{Wrote};

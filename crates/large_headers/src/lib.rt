@@ -1,6 +1,8 @@
 // Large headers against each other and against bodies: the part of refusal 6 that compares functions.
 // Functions that lie as compilers lay them out are judged in one pass over them; where they lie
 // otherwise, each large header is compared with every function.
+#![tactic(auto)]
+
 ghost use Rattle.std.specs.Prelude.{◌≡◌, not, ◌+◌, ◌≤◌, ◌<◌, eqb};
 ghost use Rattle.format.specs.Table.{large_row, legacy_large};
 ghost use Rattle.image.specs.Sections.{functions_in};

@@ -1,5 +1,7 @@
 // The lines of the listing, written to a lent buffer at a place. Each writer answers the place behind
 // what it wrote, and needs room for the longest line of its kind.
+#![tactic(auto)]
+
 ghost use Rattle.std.specs.Prelude.{◌≡◌, ◌∷◌, [], ◌++◌, ◌+◌, ◌*◌, ◌≤◌, length};
 ghost use Rattle.bits.specs.Choice.{pick};
 ghost use Rattle.image.specs.Strings.{unit_size};

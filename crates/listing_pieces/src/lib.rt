@@ -1,6 +1,8 @@
 // The listing of an image, a piece at a time: what is printed can be far larger than the image, since
 // strings may share storage. A piece goes to a lent buffer, and a point says where the listing goes
 // on. Strings are looked up in an index (02, No. 13), so that a point is no more than a few numbers.
+#![tactic(auto)]
+
 ghost use Rattle.std.specs.Prelude.{◌≡◌, true, List, ℕ, ◌+◌, ◌-◌, ◌≤◌, ◌<◌, length, take, drop};
 ghost use Rattle.bits.specs.Outcome.{Answers};
 ghost use Rattle.sections.specs.Places.{Placed, Laid};

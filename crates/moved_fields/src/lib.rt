@@ -1,4 +1,6 @@
 // Places that move, and refusal 12: whether the records can hold them.
+#![tactic(auto)]
+
 ghost use Rattle.std.specs.Prelude.{◌≡◌, true, not, ◌<◌};
 ghost use Rattle.bits.specs.Choice.{both, either};
 ghost use Rattle.format.specs.Table.{row_of, legacy_info};

@@ -1,5 +1,7 @@
 // The lines of a translators' file: where each ends, what it is, and its quoted text without the
 // escapes.
+#![tactic(auto)]
+
 ghost use Rattle.std.specs.Prelude.{◌≡◌, ◌+◌, ◌≤◌, ◌<◌, length};
 ghost use Rattle.po_lines.specs.Lines.{is_ended};
 ghost use Rattle.po_lines.specs.Quoted.{is_escape, meant, quote_next, is_closed, Stepped, PutText};

@@ -1,5 +1,7 @@
 // The reader of a translators' file: the order of its lines, its values in lent room, and its pairs
 // in chains by their msgids, so that a msgid given twice is found as it is entered.
+#![tactic(auto)]
+
 ghost use Rattle.std.specs.Prelude.{◌≡◌, true, ◌+◌, ◌/◌, ◌≤◌, ◌<◌, length};
 ghost use Rattle.footer.specs.Footer.{same};
 ghost use Rattle.string_edits.specs.Lists.{value_in, Within};

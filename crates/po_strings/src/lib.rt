@@ -1,5 +1,7 @@
 // Strings of an image as text, where they stand: their units hashed, compared, and read as code points,
 // which are judged, counted and written as a translators' file has them (02, No. 1).
+#![tactic(auto)]
+
 ghost use Rattle.std.specs.Prelude.{◌≡◌, true, ◌+◌, ◌*◌, ◌≤◌, ◌<◌, ltb, length};
 ghost use Rattle.bits.specs.Choice.{both};
 ghost use Rattle.format.specs.Hash.{hash_of};

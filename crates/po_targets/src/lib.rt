@@ -1,6 +1,8 @@
 // The pairs of a translators' file, looked up among the plain strings of an image: each string is hashed
 // where it stands, and the chain of its bucket is walked. A string that a pair goes to is marked, and
 // each pair that is to be applied must be found.
+#![tactic(auto)]
+
 ghost use Rattle.std.specs.Prelude.{◌≡◌, not, ℕ, suc, ◌+◌, ◌*◌, ◌≤◌, ◌<◌, eqb, length, get_or};
 ghost use Rattle.bits.specs.Choice.{implies};
 ghost use Rattle.format.specs.Hash.{hash_of};

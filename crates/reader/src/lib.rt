@@ -1,6 +1,8 @@
 // The reader: strings and bodies of an image, by id. `string` and `body` take any bytes and admit them
 // anew; the others go by an image that is admitted already. Reading is what an image means: the
 // answers are those of the definitions of crate `image`.
+#![tactic(auto)]
+
 ghost use Rattle.std.specs.Prelude.{◌≡◌, ◌+◌, ◌≤◌, ◌<◌, length};
 ghost use Rattle.footer.specs.Footer.{footer_length};
 ghost use Rattle.image.specs.Functions.{func_of};

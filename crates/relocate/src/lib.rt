@@ -2,6 +2,8 @@
 // the new one: no law about reading what was just written is needed, and no record is read twice.
 // Every place and size that it writes fits where it goes, and is not cut: whoever calls it has tested
 // that before (refusals 11 and 12).
+#![tactic(auto)]
+
 ghost use Rattle.std.specs.Prelude.{◌≡◌, [], ◌∷◌, ◌+◌, ◌-◌, ◌≤◌, ◌<◌, length};
 ghost use Rattle.std.proofs.lemmas.List.Edits.{sets};
 ghost use Rattle.bits.specs.Words.{whole};

@@ -1,6 +1,8 @@
 // Edits of strings: the values as one text, where each value ends in it, and words that tell which
 // string gets which. What is judged of a list of ids, and which edit comes next in the order of ids:
 // nothing is sorted or copied.
+#![tactic(auto)]
+
 ghost use Rattle.std.specs.Prelude.{◌≡◌, ℕ, suc, ◌≤◌, ◌<◌, length, get_or};
 ghost use Rattle.string_edits.specs.Lists.{start_in, value_in, is_split, is_list, all_known, is_new, all_differ, all_utf8};
 ghost use Rattle.string_edits.specs.Lists.{Within, NearestOf};

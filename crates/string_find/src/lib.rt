@@ -1,5 +1,7 @@
 // The lowest string that has the UTF-16 units of a value. Neither is decoded into a buffer: counts
 // are compared first, then unit by unit.
+#![tactic(auto)]
+
 ghost use Rattle.std.specs.Prelude.{◌≡◌, ◌+◌, ◌*◌, ◌≤◌, ◌<◌, length};
 ghost use Rattle.refusals.specs.Numbers as refusals;
 ghost use Rattle.footer.specs.Footer.{same};

@@ -1,5 +1,7 @@
 // Strings of an admitted image get other values: what becomes of the image is defined here, and the
 // case in which every value goes over its string's own bytes.
+#![tactic(auto)]
+
 ghost use Rattle.std.specs.Prelude.{◌≡◌, true, ℕ, ◌<◌, length};
 ghost use Rattle.bits.specs.Outcome.{Answers, made, roomed};
 ghost use Rattle.utf.specs.Utf8.{utf16};

@@ -1,6 +1,8 @@
 // An index of the strings of an image (02, No. 13): for each id its offset in storage, its length and
 // its flags, in three runs of lent words. One pass over the tables fills it; a look-up reads three
 // words, where the walk goes over the tables from their starts.
+#![tactic(auto)]
+
 ghost use Rattle.std.specs.Prelude.{◌≡◌, List, ℕ, ◌+◌, ◌≤◌, ◌<◌, ltb, length};
 ghost use Rattle.std.proofs.lemmas.List.Edits.{sets};
 ghost use Rattle.sections.specs.Places.{Laid};

@@ -1,4 +1,6 @@
 // Whether a string shares storage with another: then its bytes are not its own to change.
+#![tactic(auto)]
+
 ghost use Rattle.std.specs.Prelude.{◌≡◌, not, eqb};
 ghost use Rattle.bits.specs.Choice.{implies};
 ghost use Rattle.sections.specs.Places.{Laid};

@@ -1,4 +1,6 @@
 // The strings of an image, some of them with other values: what each is, and how much room they take.
+#![tactic(auto)]
+
 ghost use Rattle.std.specs.Prelude.{◌≡◌, List, ℕ, ◌+◌, ◌*◌, ◌≤◌, ◌<◌};
 ghost use Rattle.bits.specs.Bytes.{up4};
 ghost use Rattle.format.specs.declared.Mode.{Mode};

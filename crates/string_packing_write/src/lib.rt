@@ -1,5 +1,7 @@
 // The tables and the storage of an image's strings, written anew: one pass over the old image, with
 // the new values at their ids.
+#![tactic(auto)]
+
 ghost use Rattle.std.specs.Prelude.{◌≡◌, ◌+◌, ◌≤◌, ◌<◌, length};
 ghost use Rattle.std.proofs.lemmas.List.Edits.{sets};
 ghost use Rattle.bits.specs.Choice.{both};

@@ -1,5 +1,7 @@
 // Why a string patch takes the path that it takes (02, No. 6): it is refused, it goes in place, or one thing
 // keeps it from that, and all strings are packed anew. The path is that of `patch_string_by_id` with room enough.
+#![tactic(auto)]
+
 ghost use Rattle.std.specs.Prelude.{◌≡◌, false, List, ℕ, ◌≤◌, ◌<◌, length};
 ghost use Rattle.bits.specs.Choice.{judge};
 ghost use Rattle.sections.specs.Places.{Laid};

@@ -1,6 +1,8 @@
 // Strings of an admitted image get values that do not all fit in place: the strings are packed anew,
 // and what lies behind them moves. What is refused is judged before the first byte is written, by a plan:
 // so a patch may also be judged without being made.
+#![tactic(auto)]
+
 ghost use Rattle.std.specs.Prelude.{◌≡◌, ◌*◌, ◌≤◌, length};
 ghost use Rattle.bits.specs.Outcome.{Answers, made, roomed};
 ghost use Rattle.footer.specs.Finalize.{size_limit};

@@ -1,5 +1,7 @@
 // The single string patches by which strings get their values, one after the other in id order: judged
 // without being made, and made in one pass. Each is judged as the one patch of all strings up to its own.
+#![tactic(auto)]
+
 ghost use Rattle.std.specs.Prelude.{◌≡◌, ℕ, suc, ◌*◌, ◌≤◌, ◌<◌, length};
 ghost use Rattle.bits.specs.Choice.{both};
 ghost use Rattle.bits.specs.Outcome.{Answers, roomed};

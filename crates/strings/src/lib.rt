@@ -1,5 +1,7 @@
 // String patches: a label that is read gets another value, by its id or by what it was; or many of
 // them, by their ids, in one pass.
+#![tactic(auto)]
+
 ghost use Rattle.std.specs.Prelude.{◌≡◌, true, ℕ, ◌<◌, length};
 ghost use Rattle.bits.specs.Outcome.{Answers, roomed};
 ghost use Rattle.sections.specs.Places.{Laid};

@@ -1,5 +1,7 @@
 // A translators' file and an image: every plain string that a pair is of gets its msgstr. The file is all
 // or nothing.
+#![tactic(auto)]
+
 ghost use Rattle.std.specs.Prelude.{◌≡◌, true, ◌≤◌, length};
 ghost use Rattle.bits.specs.Outcome.{Answers};
 ghost use Rattle.image.specs.Sections.{strings_in};

@@ -8,12 +8,11 @@ use Rattle.listing_lines.proofs.put_refused.Goals as goal
 
 pub returns : goal.returns
 unfolding refused_line spaced
-returns c =
-    (
-      wrote_then c.args.out.now c.put_text-a.new.out c.put_number.new.out
-          (spaced ((0x72 ∷ 0x65 ∷ 0x66 ∷ 0x75 ∷ 0x73 ∷ 0x65 ∷ 0x64 ∷ []) ∷ []))
-          (decimal c.args.number ++ (10 ∷ []))
-          c.args.at c.put_text-a.result c.put_number.result c.put_text-a.ensures
-          c.put_number.ensures.0,
-      omega arith,
-    )
+returns c = (
+  wrote_then c.args.out.now c.put_text-a.new.out c.put_number.new.out
+      (spaced ((0x72 ∷ 0x65 ∷ 0x66 ∷ 0x75 ∷ 0x73 ∷ 0x65 ∷ 0x64 ∷ []) ∷ []))
+      (decimal c.args.number ++ (10 ∷ []))
+      c.args.at c.put_text-a.result c.put_number.result c.put_text-a.ensures
+      c.put_number.ensures.0,
+  omega arith,
+)
