@@ -1,4 +1,3 @@
-use Prim.Native.Nat.{◌-◌}
 use native.Mathlib.Omega.{arith}
 use Rattle.string_edits.proofs.ToldLaws.{mark_next, mark_skip, mark_none}
 use Rattle.string_edits.proofs.next_marked.Goals as goal

@@ -1,4 +1,3 @@
-use Prim.Native.Nat.{◌-◌}
 use native.Mathlib.Omega.{arith}
 use Rattle.string_walk.proofs.WalkLaws.{pass_visits}
 use Rattle.string_find.proofs.FindLaws.{find_none, found_at, find_next, found_none}

@@ -1,5 +1,3 @@
-use mathlib.Core.Bool.{true}
-use Prim.Native.Nat.{◌-◌}
 use native.Mathlib.Omega.{arith}
 use Rattle.bits.proofs.PassLaws.{pass_none}
 use Rattle.string_overlap.proofs.OverlapLaws.{lies_low, not_in_row, row_next, row_end, row_all}

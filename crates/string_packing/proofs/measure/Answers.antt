@@ -1,4 +1,3 @@
-use Prim.Native.Nat.{◌-◌}
 use native.Mathlib.Omega.{arith}
 use Rattle.string_packing.proofs.PassLaws.{measured}
 use Rattle.string_packing.proofs.measure.Goals as goal

@@ -1,7 +1,5 @@
 use mathlib.Core.Path.{refl, ◌∙◌}
-use Prim.Native.Nat.{◌-◌}
 use native.Mathlib.Omega.{arith}
-use Rattle.edits.specs.Packing.{packed}
 use Rattle.string_edits.specs.Told.{told, values_in}
 use Rattle.string_packing.specs.Strings.{string_with}
 use Rattle.string_packing_write.proofs.RegionLaws.{laid_none}
