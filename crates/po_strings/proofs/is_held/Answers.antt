@@ -1,7 +1,6 @@
 use mathlib.Core.Path.{sym, ◌∙◌}
 use Prim.Native.Nat.{◌-◌}
 use native.Mathlib.Omega.{arith}
-use borrow.Author.Tests.{not-true, not-false}
 use Rattle.string_find.proofs.FindLaws.{length_at}
 use Rattle.po_strings.specs.Texts.{units_in}
 use Rattle.po_strings.proofs.UnitLaws.{left_all, left_end}
@@ -29,17 +28,18 @@ is_good-requires c = tt
 pub returns-then-not-is_good : goal.returns-then-not-is_good
 returns-then-not-is_good c =
     held_stop _ _ _ c.next_point-point.ensures.0 _ _ c.is_good.ensures c.loop-i.invariant.1
-    (not-true _ c.if-not-is_good.true)
+    c.if-not-is_good.true
 
 pub loop-i-smaller : goal.loop-i-smaller
 loop-i-smaller c = omega (arith, c.next_point-point.ensures.1, c.next_point-point.ensures.2)
 
 pub loop-i-preserved : goal.loop-i-preserved
-loop-i-preserved c = (
-  c.next_point-point.ensures.2,
-  held_turn _ _ _ c.next_point-point.ensures.0 _ _ c.is_good.ensures c.loop-i.invariant.1
-      (not-false _ c.if-not-is_good.false),
-)
+loop-i-preserved c =
+    (
+      c.next_point-point.ensures.2,
+      held_turn _ _ _ c.next_point-point.ensures.0 _ _ c.is_good.ensures c.loop-i.invariant.1
+          c.if-not-is_good.false,
+    )
 
 pub returns : goal.returns
 returns c =

@@ -11,8 +11,8 @@ pub returns-then-next-t : goal.returns-then-next-t
 returns-then-next-t c =
     let a = c.args in
     let q = c.requires in (
-      rw (left_next a.image.now a.t a.i q.0.1, ← q.1.0)
-          (high_last a.high _ q.1.1 q.1.2 (left_end a.image.now a.t (a.i + 1) (omega arith))),
+      rw (left_next a.image.now a.t a.i q.inside.1, ← q.high_value.0)
+          (high_last a.high _ q.high_value.1 q.high_value.2 (left_end a.image.now a.t (a.i + 1) (omega arith))),
       omega arith,
       omega arith,
     )
@@ -22,8 +22,8 @@ returns-then-low-lt56320 c =
     let a = c.args in
     let q = c.requires in
     let e = left_next a.image.now a.t (a.i + 1) (omega arith) in (
-      rw (left_next a.image.now a.t a.i q.0.1, ← q.1.0)
-          (high_alone a.high _ q.1.1 q.1.2 c.unit_of-low.result (units_left a.image.now a.t (a.i + 1 + 1))
+      rw (left_next a.image.now a.t a.i q.inside.1, ← q.high_value.0)
+          (high_alone a.high _ q.high_value.1 q.high_value.2 c.unit_of-low.result (units_left a.image.now a.t (a.i + 1 + 1))
           (rw c.unit_of-low.ensures.0 e) (inl c.if-low-lt56320.true)),
       omega arith,
       omega arith,
@@ -34,8 +34,8 @@ returns-then-low-ge57344 c =
     let a = c.args in
     let q = c.requires in
     let e = left_next a.image.now a.t (a.i + 1) (omega arith) in (
-      rw (left_next a.image.now a.t a.i q.0.1, ← q.1.0)
-          (high_alone a.high _ q.1.1 q.1.2 c.unit_of-low.result (units_left a.image.now a.t (a.i + 1 + 1))
+      rw (left_next a.image.now a.t a.i q.inside.1, ← q.high_value.0)
+          (high_alone a.high _ q.high_value.1 q.high_value.2 c.unit_of-low.result (units_left a.image.now a.t (a.i + 1 + 1))
           (rw c.unit_of-low.ensures.0 e) (inr c.if-low-ge57344.true)),
       omega arith,
       omega arith,
@@ -46,8 +46,8 @@ returns c =
     let a = c.args in
     let q = c.requires in
     let e = left_next a.image.now a.t (a.i + 1) (omega arith) in (
-      rw (left_next a.image.now a.t a.i q.0.1, ← q.1.0)
-          (pair_point a.high _ q.1.1 q.1.2 c.unit_of-low.result (units_left a.image.now a.t (a.i + 1 + 1))
+      rw (left_next a.image.now a.t a.i q.inside.1, ← q.high_value.0)
+          (pair_point a.high _ q.high_value.1 q.high_value.2 c.unit_of-low.result (units_left a.image.now a.t (a.i + 1 + 1))
           (rw c.unit_of-low.ensures.0 e) c.if-low-lt56320.false
           c.if-low-ge57344.false),
       omega arith,
