@@ -1,5 +1,5 @@
-use mathlib.Core.Path.{◌≡◌, refl, ◌∙◌}
-use mathlib.Core.Bool.{true}
+use mathlib.Core.Path.{◌≡◌, refl, ap, ◌∙◌}
+use mathlib.Core.Bool.{true, not}
 use Prim.Native.Nat.{◌-◌}
 use native.Mathlib.Numerals.{add-one}
 use native.Mathlib.Omega.{arith}
@@ -37,7 +37,7 @@ returns-then-not-is_new c =
     let a = c.args in
     record {
       value = pass_stop (is_new (id_in a.text.now a.ends.now)) a.pairs c.loop-q.q _ c.loop-q-test.true
-          c.is_new.ensures c.if-not-is_new.true;
+          c.is_new.ensures (ap not c.if-not-is_new.true);
       chained_pairs_2 = λ e. never e;
     }
 
@@ -59,8 +59,8 @@ loop-q-preserved c =
     let b = c.bucket_of-bucket.ensures in
     let bucket = bucket_in a.text.now a.ends.now a.m in (
       omega arith,
-      c.enter.new.work ∙ l.invariant.1,
-      pass_next (is_new (id_in a.text.now a.ends.now)) l.q _ c.is_new.ensures c.if-not-is_new.false l.invariant.2,
+      c.enter.auto.work ∙ l.invariant.1,
+      pass_next (is_new (id_in a.text.now a.ends.now)) l.q _ c.is_new.ensures (ap not c.if-not-is_new.false) l.invariant.2,
       rw add-one (chained_enter (λ j. true) bucket a.m l.q l.work l.invariant.3 (rw b.0 at b.1)
           (omega (arith, q.1, q.2, l.invariant.1)) refl _ (rw b.0 at c.enter.ensures)),
     )

@@ -9,7 +9,7 @@ use Rattle.po_pairs.proofs.PairLaws.{given_before, not_before, SameId, one_bucke
 use Rattle.po_pairs.proofs.is_new.Goals as goal
 
 pub word_at-c-requires : goal.word_at-c-requires
-word_at-c-requires c = let q = c.requires in omega (arith, q.0, q.1.1)
+word_at-c-requires c = let q = c.requires in omega (arith, q.all_within.2, q.bucket_value.1)
 
 pub loop-c-init : goal.loop-c-init
 loop-c-init c =
@@ -23,10 +23,10 @@ loop-c-init c =
 pub overflow_add-j : goal.overflow_add-j
 overflow_add-j c =
     let q = c.requires in
-    omega (arith, c.loop-c.invariant.low, q.0.1, q.0.3)
+    omega (arith, c.loop-c.invariant.low, q.all_within.1, q.all_within.3)
 
 pub overflow_add-q : goal.overflow_add-q
-overflow_add-q c = let q = c.requires in omega (arith, q.0.1, q.0.3)
+overflow_add-q c = let q = c.requires in omega (arith, q.all_within.1, q.all_within.3)
 
 pub same_values-requires : goal.same_values-requires
 same_values-requires c =
@@ -43,12 +43,12 @@ returns-then-same_values c =
 pub overflow_add-m : goal.overflow_add-m
 overflow_add-m c =
     let q = c.requires in
-    omega (arith, c.loop-c.invariant.low, q.0.1, q.0.2)
+    omega (arith, c.loop-c.invariant.low, q.all_within.1, q.all_within.2)
 
 pub word_at-c-requires-in-loop-c : goal.word_at-c-requires-in-loop-c
 word_at-c-requires-in-loop-c c =
     let q = c.requires in
-    omega (arith, c.loop-c.invariant.low, q.0.1, q.0.2)
+    omega (arith, c.loop-c.invariant.low, q.all_within.1, q.all_within.2)
 
 pub loop-c-smaller : goal.loop-c-smaller
 loop-c-smaller c =

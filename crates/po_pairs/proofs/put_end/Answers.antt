@@ -15,7 +15,7 @@ overflow_sub-ends c = c.requires.n_in_bounds.1 (rw c.in-More.is)
 pub bounds-ends-n-in-More : goal.bounds-ends-n-in-More
 bounds-ends-n-in-More c =
     let q = c.requires in
-    omega (arith, q.0.1, q.1.1 (rw c.in-More.is))
+    omega (arith, q.to_bound.1, q.n_in_bounds.1 (rw c.in-More.is))
 
 pub returns-in-Msgid : goal.returns-in-Msgid
 returns-in-Msgid c = rw c.in-Msgid.is (refl, refl)

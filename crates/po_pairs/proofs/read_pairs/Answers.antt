@@ -25,10 +25,11 @@ pub pair_up-requires : goal.pair_up-requires
 pair_up-requires c =
     let q = c.requires in
     let h = rw c.in-Held.is at c.read_values-found.ensures in
-    let n = c.read_values-found.new.ends.1.0 in (
-      (λ j k. h.2.within j (omega (arith, h.1)), omega (arith, h.1, h.2.many), omega (arith, n, q.0.words, q.0.low)),
-      (omega (arith, n, q.0.words), omega (arith, n, q.1)),
-    )
+    let n = c.read_values-found.auto.ends in
+    record {
+      all_within = (λ j k. h.2.within j (omega (arith, h.1)), omega (arith, h.1, h.2.many), omega (arith, n, q.0.words, q.0.low));
+      ends_nonzero = (omega (arith, n, q.0.words), omega (arith, n, q.1));
+    }
 
 pub returns : goal.returns
 returns c =
@@ -37,4 +38,4 @@ returns c =
     let h = rw c.in-Held.is at c.read_values-found.ensures in
     file-answered a.file.now (sym c.is_utf8.ensures ∙ c.if-not-is_utf8.false)
     (sym c.is_ended.ensures
-    ∙ c.if-not-is_ended.false) h.0 _ _ _ h.2 _ h.1 _ p.0 p.1
+    ∙ c.if-not-is_ended.false) h.0 _ _ _ h.2 _ h.1 _ p.value p.chained_pairs

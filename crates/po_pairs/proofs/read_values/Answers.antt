@@ -20,10 +20,10 @@ pub is_astray-requires : goal.is_astray-requires
 is_astray-requires c = tt
 
 pub shape_of-text-then-is_astray : goal.shape_of-text-then-is_astray
-shape_of-text-then-is_astray c = c.take_turn-next.new.text ∙ c.loop-p.invariant.0
+shape_of-text-then-is_astray c = c.take_turn-next.auto.text ∙ c.loop-p.invariant.0
 
 pub shape_of-ends-then-is_astray : goal.shape_of-ends-then-is_astray
-shape_of-ends-then-is_astray c = c.take_turn-next.new.ends.0 ∙ c.loop-p.invariant.1
+shape_of-ends-then-is_astray c = c.take_turn-next.auto.ends ∙ c.loop-p.invariant.1
 
 pub returns-then-is_astray : goal.returns-then-is_astray
 returns-then-is_astray c = c.take_turn-next.ensures.faulty (sym c.is_astray.ensures ∙ c.if-is_astray.true)
@@ -36,8 +36,8 @@ loop-p-smaller c =
 pub loop-p-preserved : goal.loop-p-preserved
 loop-p-preserved c =
     let l = c.loop-p in (
-      c.take_turn-next.new.text ∙ l.invariant.0,
-      c.take_turn-next.new.ends.0 ∙ l.invariant.1,
+      c.take_turn-next.auto.text ∙ l.invariant.0,
+      c.take_turn-next.auto.ends ∙ l.invariant.1,
       c.take_turn-next.ensures.sound (sym c.is_astray.ensures ∙ c.if-is_astray.false),
     )
 

@@ -31,13 +31,16 @@ put_end-values-requires c =
     let a = c.args in
     let line = rw c.in-Sound.is at c.take_line-taken.ensures in
     let ok = sym (rw c.follow-stand.ensures at c.is_astray.ensures) ∙ c.if-is_astray.false in
-    let fits = more_fits a.file.now a.text.now a.ends.now a.p c.requires.1 _ _ line c.requires.0 ok in (
-      (
+    record {
+      to_bound = (
         end_fits a.file.now a.text.now a.ends.now a.p c.requires.1 _ _ line c.requires.0,
         words_fit a.file.now a.text.now a.ends.now a.p c.requires.1 _ _ line c.requires.0,
-      ),
-      (opens_fit a.file.now a.text.now a.ends.now a.p c.requires.1 _ _ line c.requires.0, fits),
-    )
+      );
+      n_in_bounds = (
+        opens_fit a.file.now a.text.now a.ends.now a.p c.requires.1 _ _ line c.requires.0,
+        more_fits a.file.now a.text.now a.ends.now a.p c.requires.1 _ _ line c.requires.0 ok,
+      );
+    }
 
 pub returns : goal.returns
 returns c =

@@ -34,12 +34,11 @@ pub loop-i-smaller : goal.loop-i-smaller
 loop-i-smaller c = omega (arith, c.next_point-point.ensures.1, c.next_point-point.ensures.2)
 
 pub loop-i-preserved : goal.loop-i-preserved
-loop-i-preserved c =
-    (
-      c.next_point-point.ensures.2,
-      held_turn _ _ _ c.next_point-point.ensures.0 _ _ c.is_good.ensures c.loop-i.invariant.1
-          c.if-not-is_good.false,
-    )
+loop-i-preserved c = (
+  c.next_point-point.ensures.2,
+  held_turn _ _ _ c.next_point-point.ensures.0 _ _ c.is_good.ensures c.loop-i.invariant.1
+      c.if-not-is_good.false,
+)
 
 pub returns : goal.returns
 returns c =

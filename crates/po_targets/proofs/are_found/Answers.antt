@@ -1,4 +1,5 @@
-use mathlib.Core.Bool.{true}
+use mathlib.Core.Path.{ap}
+use mathlib.Core.Bool.{true, not}
 use Prim.Native.Nat.{◌-◌}
 use native.Mathlib.Omega.{arith}
 use Rattle.bits.proofs.PassLaws.{pass_none, pass_next, pass_stop, pass_end}
@@ -25,14 +26,14 @@ pub returns-then-not-is_settled : goal.returns-then-not-is_settled
 returns-then-not-is_settled c =
     let a = c.args in
     pass_stop (settled a.text.now a.ends.now a.m a.work.now) _ c.loop-q.q _ c.loop-q-test.true
-    (rw c.word_at.ensures.0 at c.is_settled.ensures) c.if-not-is_settled.true
+    (rw c.word_at.ensures.0 at c.is_settled.ensures) (ap not c.if-not-is_settled.true)
 
 pub loop-q-preserved : goal.loop-q-preserved
 loop-q-preserved c =
     let a = c.args in (
       omega arith,
       pass_next (settled a.text.now a.ends.now a.m a.work.now) c.loop-q.q _
-          (rw c.word_at.ensures.0 at c.is_settled.ensures) c.if-not-is_settled.false c.loop-q.invariant.1,
+          (rw c.word_at.ensures.0 at c.is_settled.ensures) (ap not c.if-not-is_settled.false) c.loop-q.invariant.1,
     )
 
 pub returns : goal.returns

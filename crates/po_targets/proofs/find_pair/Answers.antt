@@ -24,7 +24,7 @@ linked c = let q = c.requires.entered.0 in
 pub hash_units-requires : goal.hash_units-requires
 hash_units-requires c =
     let q = c.requires in
-    units_inside _ _ q.0.0 _ _ q.0.1 _ (omega arith)
+    units_inside _ _ q.placed.0 _ _ q.placed.1 _ (omega arith)
 
 pub nonzero_rem-bucket : goal.nonzero_rem-bucket
 nonzero_rem-bucket c = c.requires.entered.0.some
@@ -41,8 +41,8 @@ loop-c-init c =
     let h = c.hash_units in
     down_from (id_in a.text.now a.ends.now) (str_in a.text.now a.ends.now)
     (units_of (string_of a.p.layout a.image.now a.id)) a.m a.pairs (h.result % a.m) _
-    (string_bucket _ _ q.0.0 _ _ q.0.1 a.m _ h.ensures)
-    (c.word_at-c.ensures.0 ∙ q.1.0.chained.heads (h.result % a.m) (mod-lt h.result q.1.0.some))
+    (string_bucket _ _ q.placed.0 _ _ q.placed.1 a.m _ h.ensures)
+    (c.word_at-c.ensures.0 ∙ q.entered.0.chained.heads (h.result % a.m) (mod-lt h.result q.entered.0.some))
 
 pub is_pair-requires : goal.is_pair-requires
 is_pair-requires c =
@@ -50,8 +50,8 @@ is_pair-requires c =
     let w = c.loop-c.invariant.low in
     let t = c.loop-c-test.true in
     record {
-      placed = q.0;
-      within = (q.1.0.within _ (omega arith), q.1.0.within _ (omega arith), omega (arith, q.1.0.few, q.1.0.most));
+      placed = q.placed;
+      within = (q.entered.0.within _ (omega arith), q.entered.0.within _ (omega arith), omega (arith, q.entered.0.few, q.entered.0.most));
     }
 
 pub returns-then-is_pair : goal.returns-then-is_pair

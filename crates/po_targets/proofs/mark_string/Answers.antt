@@ -8,22 +8,22 @@ pub target_of-target-requires : goal.target_of-target-requires
 target_of-target-requires c =
     let q = c.requires in
     record {
-      placed = (q.0.0, q.0.1);
-      entered = (q.1.entered, omega (arith, q.1.marked.long));
+      placed = (q.placed.0, q.placed.1);
+      entered = (q.looked.entered, omega (arith, q.looked.marked.long));
     }
 
 pub returns-then-target-eq0 : goal.returns-then-target-eq0
 returns-then-target-eq0 c =
     let q = c.requires in
-    looked_skip _ _ _ _ _ _ _ _ q.1 _ c.target_of-target.ensures.0 c.if-target-eq0.true
+    looked_skip _ _ _ _ _ _ _ _ q.looked _ c.target_of-target.ensures.0 c.if-target-eq0.true
 
 pub bounds-work-m-2 : goal.bounds-work-m-2
 bounds-work-m-2 c =
     let q = c.requires in
-    simp length-set (omega (arith, q.0.2, q.1.marked.long))
+    simp length-set (omega (arith, q.placed.2, q.looked.marked.long))
 
 pub returns : goal.returns
 returns c =
     let q = c.requires in
     let e = c.target_of-target.ensures in
-    looked_put _ _ _ _ _ _ _ _ q.1 _ e.0 c.if-target-eq0.false e.1 q.0.2
+    looked_put _ _ _ _ _ _ _ _ q.looked _ e.0 c.if-target-eq0.false e.1 q.placed.2
