@@ -21,14 +21,14 @@ put_kept-to-requires c =
     let q = c.requires in
     let l = c.loop-j in
     record {
-      laid = (q.0.0, q.0.1, c.loop-j-test.true);
+      laid = (q.laid.0, q.laid.1, c.loop-j-test.true);
       j_in_bounds = omega (
         arith,
         l.invariant.1,
         l.invariant.2,
-        q.1,
+        q.image_in_bounds,
         length_most a.p.layout a.image.now l.j a.p.strings c.loop-j-test.true,
-        ap length (file_all a.p a.image.now q.0.0.placed),
+        ap length (file_all a.p a.image.now q.laid.0.placed),
       );
     }
 

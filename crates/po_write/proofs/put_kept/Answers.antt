@@ -44,8 +44,9 @@ pub put_entry-requires : goal.put_entry-requires
 put_entry-requires c =
     let a = c.args in
     let q = c.requires.laid in
-    text_kept a.p a.image.now a.work.now q.1 a.j q.2
-    (λ e. c.if-word_at-eq0.false (c.word_at.ensures.0 ∙ e)) _ c.text_at.ensures a.at _ c.requires.j_in_bounds
+    let k = text_kept a.p a.image.now a.work.now q.1 a.j q.2
+    (λ e. c.if-word_at-eq0.false (c.word_at.ensures.0 ∙ e)) _ c.text_at.ensures a.at _ c.requires.j_in_bounds in
+    record { inside = k.0; t_in_bounds = k.1 }
 
 pub returns : goal.returns
 returns c =

@@ -1,5 +1,5 @@
 -- Just what is asked for is lent further, and cleared when it is back; what stands behind it is never lent.
-use mathlib.Core.Path.{ap, ◌∙◌}
+use mathlib.Core.Path.{◌≡◌, ap, ◌∙◌}
 use Prim.Native.Nat.{ℕ, ◌+◌, ◌*◌, ◌≤◌}
 use mathlib.Core.List.{List, ◌++◌}
 use native.Mathlib.Omega.{arith}
@@ -14,6 +14,13 @@ use Rattle.translate.proofs.apply_in.Goals.{After-words_for-words}
 
 strings_few : (p : Places) (s : List ℕ) → Laid p s → p.strings ≤ 16777216
 strings_few p s l = let z : Sectioned p s = sectioned p s l.placed in omega arith
+
+-- what is lent is enough, by the number of words that was counted
+record Counted (file strings words text ends work : ℕ) : Type 0 where
+  is : words ≡ words_for file
+  in_text : file ≤ text
+  in_ends : words ≤ ends
+  in_work : words * 3 + strings ≤ work
 
 counted : (c : After-words_for-words) → let a = c.args in
     Counted (length a.file.now) a.p.strings c.words_for-words.result (length a.text.now) (length a.ends.now)
@@ -52,8 +59,8 @@ put_zeros-requires c =
     let a = c.args in
     omega (
       arith,
-      part_within a.text.now c.apply-answer.new.ends.1.1.1.0 (length a.file.now)
-          (counted (goal.at.put_zeros-requires c).After-words_for-words).in_text c.apply-answer.new.ends.1.1.1.0,
+      part_within a.text.now c.apply-answer.new.text (length a.file.now)
+          (counted (goal.at.put_zeros-requires c).After-words_for-words).in_text c.apply-answer.auto.text,
     )
 
 pub clear-requires : goal.clear-requires
@@ -61,8 +68,8 @@ clear-requires c =
     let a = c.args in
     omega (
       arith,
-      part_within a.ends.now c.apply-answer.new.ends.1.1.1.1.0 c.words_for-words.result
-          (counted (goal.at.clear-requires c).After-words_for-words).in_ends c.apply-answer.new.ends.1.1.1.1.0,
+      part_within a.ends.now c.apply-answer.new.ends c.words_for-words.result
+          (counted (goal.at.clear-requires c).After-words_for-words).in_ends c.apply-answer.auto.ends,
     )
 
 pub clear-requires-2 : goal.clear-requires-2
@@ -70,26 +77,26 @@ clear-requires-2 c =
     let a = c.args in
     omega (
       arith,
-      part_within a.work.now c.apply-answer.last.1.1.1.1.1.1.0
-          (c.words_for-words.result * 3 + a.p.strings) (counted (goal.at.clear-requires-2 c).After-words_for-words).in_work c.apply-answer.kept.1.1.1.1.1.1.0,
+      part_within a.work.now c.apply-answer.new.work
+          (c.words_for-words.result * 3 + a.p.strings) (counted (goal.at.clear-requires-2 c).After-words_for-words).in_work c.apply-answer.auto.work,
     )
 
 pub returns : goal.returns
 returns c =
     let a = c.args in
     let k = counted (goal.at.returns c).After-words_for-words in
-    let e = c.apply-answer.new.ends.1.1.1 in
-    let w = c.apply-answer.new.ends.1.1.1 in
+    let e = c.apply-answer.auto in
+    let w = c.apply-answer.new in
     let n = c.words_for-words.result in
     record {
       answers = c.apply-answer.ensures;
       leaves_space = record {
-        of_text = part_cleared a.text.now w.0 (length a.file.now) k.in_text e.0 _ c.put_zeros.ensures;
+        of_text = part_cleared a.text.now w.text (length a.file.now) k.in_text e.text _ c.put_zeros.ensures;
         of_ends =
-            part_cleared a.ends.now w.1.0 n k.in_ends e.1.0 _ c.clear.ensures
+            part_cleared a.ends.now w.ends n k.in_ends e.ends _ c.clear.ensures
             ∙ ap (λ (x : ℕ). replicate x 0 ++ drop x a.ends.now) k.is;
         of_work =
-            part_cleared a.work.now w.1.1.0 (n * 3 + a.p.strings) k.in_work e.1.1.0 _ c.clear-2.ensures
+            part_cleared a.work.now w.work (n * 3 + a.p.strings) k.in_work e.work _ c.clear-2.ensures
             ∙ ap (λ (x : ℕ). replicate (x * 3 + a.p.strings) 0 ++ drop (x * 3 + a.p.strings) a.work.now) k.is;
       };
     }

@@ -1,9 +1,9 @@
 -- 1 to 6, then 13 for the space that is lent; what is enough is lent further.
-use mathlib.Core.Path.{sym, ◌∙◌}
+use mathlib.Core.Path.{ap, sym, ◌∙◌}
+use mathlib.Core.Bool.{not}
 use Prim.Native.Nat.{ℕ, ◌<◌}
 use native.Mathlib.Omega.{arith}
 use lib.ListN.{get_or}
-use borrow.Author.Tests.{not-false}
 use Rattle.sections.specs.Places.{Laid}
 use Rattle.sections.proofs.SectionLaws.{Sectioned, sectioned}
 use Rattle.admission.proofs.AnswerLaws.{is-laid}
@@ -31,15 +31,15 @@ pub returns-then-not-is_enough : goal.returns-then-not-is_enough
 returns-then-not-is_enough c =
     let a = c.args in
     too_short a.mode a.layout a.image.now a.file.now a.text.now a.ends.now a.work.now a.out.now _
-    c.admit-admitted.ensures _ c.in-Laid.is (laid (goal.at.returns-then-not-is_enough c).In-Laid-2) _ c.is_enough.ensures c.if-not-is_enough.true
+    c.admit-admitted.ensures _ c.in-Laid.is (laid (goal.at.returns-then-not-is_enough c).In-Laid-2) _ c.is_enough.ensures (ap not c.if-not-is_enough.true)
 
 pub apply_in-requires : goal.apply_in-requires
 apply_in-requires c =
-    (laid (goal.at.apply_in-requires c).In-Laid-2, sym c.is_enough.ensures ∙ not-false _ c.if-not-is_enough.false)
+    (laid (goal.at.apply_in-requires c).In-Laid-2, sym c.is_enough.ensures ∙ c.if-not-is_enough.false)
 
 pub returns : goal.returns
 returns c =
     let a = c.args in
     is_read_lem a.mode a.layout a.image.now a.file.now a.text.now a.ends.now a.work.now a.out.now _
     c.admit-admitted.ensures _ c.in-Laid.is (laid (goal.at.returns c).In-Laid-2) _ c.is_enough.ensures
-    c.if-not-is_enough.false _ _ _ _ _ c.apply_in.ensures
+    (ap not c.if-not-is_enough.false) _ _ _ _ _ c.apply_in.ensures
