@@ -7,8 +7,8 @@ pub mark_strings-requires : goal.mark_strings-requires
 mark_strings-requires c =
     let q = c.requires in
     record {
-      laid = q.0;
-      looked = looked_none _ _ _ _ _ _ _ _ q.1.0.0 q.1.0.1 c.clear.ensures;
+      laid = q.laid;
+      looked = looked_none _ _ _ _ _ _ _ _ q.entered.0 q.entered.1 c.clear.ensures;
     }
 
 pub returns : goal.returns
@@ -16,6 +16,6 @@ returns c =
     let q = c.requires in
     let g = c.mark_strings.ensures in
     record {
-      value = c.are_found.ensures ∙ looked_found _ _ _ _ _ _ _ g q.0.placed q.1.1;
+      value = c.are_found.ensures ∙ looked_found _ _ _ _ _ _ _ g q.laid.placed q.different;
       by_index = looked_marks _ _ _ _ _ _ _ g;
     }

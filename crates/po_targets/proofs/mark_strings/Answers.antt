@@ -8,7 +8,7 @@ pub loop-c-init : goal.loop-c-init
 loop-c-init c =
     let e = c.first_string-c.ensures in
     let q = c.requires in
-    (omega (arith, e.1), e.0 _ _ q.0.placed, rw e.1 q.1)
+    (omega (arith, e.1), e.0 _ _ q.laid.placed, rw e.1 q.looked)
 
 pub string_at-step-requires : goal.string_at-step-requires
 string_at-step-requires c =
