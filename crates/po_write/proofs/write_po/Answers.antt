@@ -7,10 +7,10 @@ use Rattle.sections.proofs.SectionLaws.{Sectioned, sectioned}
 use Rattle.admission.proofs.AnswerLaws.{is-laid}
 use Rattle.po_write.proofs.WriteLaws.{lent-words, image_refused, work_short, file_made}
 use Rattle.po_write.proofs.write_po.Goals as goal
-use Rattle.po_write.proofs.write_po.Goals.{In-Laid-2}
+use Rattle.po_write.proofs.write_po.Goals.{In-Laid}
 
 -- the image is admitted
-laid : (c : In-Laid-2) → Laid c.in-Laid.p c.args.image.now
+laid : (c : In-Laid) → Laid c.in-Laid.p c.args.image.now
 laid c = let b : (i : ℕ) → get_or c.args.image.now i 0 < 256 = λ i. (c.type_inv.image i).fits in
     is-laid _ _ _ c.admit-admitted.ensures _ c.in-Laid.is b
 
@@ -23,7 +23,7 @@ returns-in_default c =
 
 pub overflow_mul-words : goal.overflow_mul-words
 overflow_mul-words c =
-    let z : Sectioned c.in-Laid.p _ = sectioned _ _ (laid (goal.at.overflow_mul-words c).In-Laid-2).placed in
+    let z : Sectioned c.in-Laid.p _ = sectioned _ _ (laid (goal.at.overflow_mul-words c).In-Laid).placed in
     omega arith
 
 pub returns-then-work-words : goal.returns-then-work-words
@@ -35,7 +35,7 @@ returns-then-work-words c =
 pub write_known-requires : goal.write_known-requires
 write_known-requires c =
     let a = c.args in
-    (laid (goal.at.write_known-requires c).In-Laid-2, lent-words _ a.work.now c.if-work-words.false)
+    (laid (goal.at.write_known-requires c).In-Laid, lent-words _ a.work.now c.if-work-words.false)
 
 pub returns : goal.returns
 returns c =
