@@ -3,17 +3,15 @@
 use mathlib.Core.Path.{◌≡◌, refl, ap, sym, ◌∙◌, subst⁻¹}
 use mathlib.Core.Bool.{Bool, true, false}
 use mathlib.Core.Logic.{inl, inr}
-use mathlib.Core.List.{List, [], ◌∷◌, ◌++◌}
-use Prim.Native.Nat.{ℕ, ◌+◌, ◌*◌, ◌/◌, ◌%◌, ◌≤◌, ◌<◌}
+use mathlib.Core.List.{List, [], ◌∷◌}
+use Prim.Native.Nat.{ℕ, ◌+◌, ◌/◌, ◌%◌, ◌≤◌, ◌<◌}
 use native.Mathlib.Nat.{zero-add}
 use native.Mathlib.Omega.{arith}
-use borrow.Author.Tests.{lt-ltb, le-ltb, le-leb, lt-leb, ltb-true, ltb-false, ne_eqb}
+use borrow.Author.Tests.{lt-ltb, le-ltb, le-leb, lt-leb, ltb-false, ne_eqb}
 use lib.Dec.{ltb, eqb}
 use lib.ListN.{length, get_or}
 use lib.Seq.{sets, sets-eq, length-sets}
-use Rattle.refusals.specs.Numbers as refusals
 use Rattle.bits.specs.Choice.{pick, check, judge}
-use Rattle.bits.specs.Outcome.{outcome_for, written}
 use Rattle.bits.proofs.JudgeLaws.{judge_pass}
 use Rattle.bits.proofs.TestLaws.{below_or, is_found, is-refused}
 use Rattle.format.specs.declared.Layout.{Layout}
@@ -22,7 +20,6 @@ use Rattle.format.specs.Table.{if_set}
 use Rattle.image.specs.Sections.{strings_in, storage_in}
 use Rattle.image.specs.Strings.{place_at, size_of}
 use Rattle.image.specs.Kinds.{is_identifier}
-use Rattle.image.specs.Admission.{checks, refusal}
 use Rattle.sections.specs.declared.Places.{Places}
 use Rattle.sections.specs.Places.{places_of, Placed}
 use Rattle.sections.specs.Places as places
@@ -33,7 +30,7 @@ use Rattle.admission.specs.Admission.{admission, number_of}
 use Rattle.admission.proofs.AnswerLaws.{is-laid, judged_none, refused_is, refused_then, laid-is, laid_then, laid_layout}
 use Rattle.string_tables.specs.Strings.{as_place}
 use Rattle.string_walk.specs.declared.StringRecord.{StringRecord}
-use Rattle.string_walk.specs.Records.{is_ranked, rank_in, record_of}
+use Rattle.string_walk.specs.Records.{record_of}
 use Rattle.string_walk.specs.Places.{Stands}
 use Rattle.string_walk.proofs.RankLaws.{ranked_flag}
 use Rattle.string_walk.proofs.RecordLaws.{record_is}

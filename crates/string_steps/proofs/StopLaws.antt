@@ -9,7 +9,7 @@ use borrow.Author.Tests.{le-ltb, lt-ltb, ne_eqb, not-true, not-false}
 use lib.Dec.{eqb}
 use lib.ListN.{length, take}
 use Rattle.bits.specs.Choice.{pick, both, judge}
-use Rattle.bits.specs.Outcome.{Answers, refused, made, roomed}
+use Rattle.bits.specs.Outcome.{Answers, made, roomed}
 use Rattle.bits.specs.declared.Answer.TheVariants.{Refused}
 use Rattle.bits.proofs.TestLaws.{below_or, both-none}
 use Rattle.format.specs.declared.Layout.{Layout}

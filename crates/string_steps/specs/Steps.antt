@@ -4,7 +4,7 @@
 use Rattle.std.specs.Prelude.{◌≡◌, Bool, true, false, ◌⊎◌, List, [], ◌∷◌, ◌++◌, ℕ, suc, ◌≤◌, ◌<◌, get_or, ltb, eqb}
 use Rattle.std.proofs.Math.Option.{Option, none, some}
 use Rattle.bits.specs.Choice.{pick, all_below}
-use Rattle.bits.specs.Outcome.{Outcome, refused, made, roomed}
+use Rattle.bits.specs.Outcome.{Outcome, made, roomed}
 use Rattle.format.specs.declared.Layout.{Layout}
 use Rattle.format.specs.declared.Mode.{Mode}
 use Rattle.footer.specs.Finalize.{lengthed, sealed}

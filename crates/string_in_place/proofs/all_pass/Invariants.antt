@@ -1,5 +1,5 @@
 -- Each edit before the cursor passes the test.
-use mathlib.Core.Path.{◌≡◌, ap}
+use mathlib.Core.Path.{◌≡◌}
 use mathlib.Core.Bool.{true}
 use Prim.Native.Nat.{◌-◌}
 use Rattle.string_edits.specs.Values.{all_edited}

@@ -1,6 +1,6 @@
 use mathlib.Core.Path.{refl, ap, sym, ◌∙◌, subst⁻¹}
 use mathlib.Core.List.{List}
-use Prim.Native.Nat.{ℕ, ◌-◌}
+use Prim.Native.Nat.{ℕ}
 use native.Mathlib.Omega.{arith}
 use lib.ListN.{length}
 use Rattle.string_edits.specs.Told.{told}

@@ -1,5 +1,4 @@
 use mathlib.Core.Path.{refl, ◌∙◌}
-use Prim.Native.Nat.{◌-◌}
 use native.Mathlib.Omega.{arith}
 use Rattle.string_index.specs.Index.{entry_of}
 use Rattle.string_index.proofs.RunLaws.{put-none, put_next}

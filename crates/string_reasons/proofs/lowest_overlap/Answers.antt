@@ -1,10 +1,7 @@
 use mathlib.Core.Path.{ap}
 use mathlib.Core.Bool.{not}
-use mathlib.Core.Bool.{true}
-use Prim.Native.Nat.{◌-◌}
 use native.Mathlib.Omega.{arith}
 use Rattle.bits.proofs.PassLaws.{pass_none}
-use Rattle.string_overlap.specs.Overlap.{is_apart}
 use Rattle.string_reasons.proofs.PathLaws.{overlaps_here, apart_next, overlaps_none}
 use Rattle.string_reasons.proofs.lowest_overlap.Goals as goal
 

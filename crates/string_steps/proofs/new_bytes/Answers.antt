@@ -1,4 +1,3 @@
-use Prim.Native.Nat.{◌-◌}
 use native.Mathlib.Omega.{arith}
 use Rattle.string_edits.specs.Told.{told, values_in}
 use Rattle.string_edits.specs.declared.Form.TheVariants.{Marks}
