@@ -1,4 +1,5 @@
-use mathlib.Core.Path.{refl, ◌∙◌}
+use mathlib.Core.Path.{refl, ap, ◌∙◌}
+use mathlib.Core.Bool.{not}
 use native.Mathlib.Nat.{sub-zero}
 use native.Mathlib.Omega.{arith}
 use Rattle.listing_pieces.proofs.PointLaws.{batch-falls}
@@ -24,13 +25,17 @@ returns-then-limit-at c =
 
 pub put_pieces-piece-requires : goal.put_pieces-piece-requires
 put_pieces-piece-requires c =
-    (c.requires.ready, (c.loop-p.invariant.0.good, omega (arith, c.requires.in_bounds.0, c.loop-p.invariant.1)))
+    record {
+      ready = c.requires.ready;
+      good = c.loop-p.invariant.0.good;
+      in_bounds = omega (arith, c.requires.in_bounds, c.loop-p.invariant.1);
+    }
 
 pub slice_bounds-put_rest-end : goal.slice_bounds-put_rest-end
-slice_bounds-put_rest-end c = omega (arith, c.put_pieces-piece.ensures.most, c.put_pieces-piece.auto.1.1.1.1.0)
+slice_bounds-put_rest-end c = omega (arith, c.put_pieces-piece.ensures.most, c.put_pieces-piece.auto.out)
 
 pub put_rest-at-requires : goal.put_rest-at-requires
-put_rest-at-requires c = (c.loop-p.invariant.0.room, omega (arith, c.requires.in_bounds.1, c.loop-p.invariant.0.same))
+put_rest-at-requires c = (c.loop-p.invariant.0.room, omega (arith, c.requires.limit_in_bounds, c.loop-p.invariant.0.same))
 
 pub less-skip-requires : goal.less-skip-requires
 less-skip-requires c = tt
@@ -38,7 +43,7 @@ less-skip-requires c = tt
 pub loop-p-smaller : goal.loop-p-smaller
 loop-p-smaller c =
     let w = c.put_pieces-piece in
-    batch-falls _ _ _ _ c.loop-p.point w.result w.ensures _ c.is_end.ensures c.loop-p-test.true
+    batch-falls _ _ _ _ c.loop-p.point w.result w.ensures _ c.is_end.ensures (ap not c.loop-p-test.true)
 
 pub loop-p-preserved : goal.loop-p-preserved
 loop-p-preserved c =
@@ -46,9 +51,9 @@ loop-p-preserved c =
     let w = c.put_pieces-piece in
     let v = c.put_rest-at in (
       rw c.less-skip.ensures (copying_next c.args.p c.args.image.now _ _ _ l.out l.point l.skip l.at l.invariant.0
-          l.room w.new.1.1.1.1.0 v.new.1.1.0 w.result v.result
-          (record { made = w.ensures; same = v.auto.1.1.0; wrote = rw sub-zero at v.ensures })),
-      w.auto.1.1.1.1.0 ∙ l.invariant.1,
+          l.room w.new.out v.new.out w.result v.result
+          (record { made = w.ensures; same = v.auto.out; wrote = rw sub-zero at v.ensures })),
+      w.auto.out ∙ l.invariant.1,
     )
 
 pub shape_of-room : goal.shape_of-room
@@ -61,4 +66,4 @@ pub returns : goal.returns
 returns c =
     let l = c.loop-p in
     copying_last c.args.p c.args.image.now _ _ _ l.out l.point l.skip l.at l.invariant.0 _
-    c.is_end.ensures c.loop-p-test.false
+    c.is_end.ensures (ap not c.loop-p-test.false)

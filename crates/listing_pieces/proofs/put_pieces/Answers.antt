@@ -4,12 +4,16 @@ use Rattle.listing_pieces.proofs.PointLaws.{going_first, going_next, going_last}
 use Rattle.listing_pieces.proofs.put_pieces.Goals as goal
 
 pub loop-i-init : goal.loop-i-init
-loop-i-init c = let h = c.requires in going_first _ _ _ _ h.1.1 h.1.0
+loop-i-init c = let h = c.requires in going_first _ _ _ _ h.in_bounds h.good
 
 pub put_piece-piece-requires : goal.put_piece-piece-requires
 put_piece-piece-requires c =
     let g = c.loop-i.invariant in
-    (c.requires.ready, (g.good, omega (arith, g.room, c.loop-i-test.true)))
+    record {
+      ready = c.requires.ready;
+      good = g.good;
+      at_in_bounds = omega (arith, g.room, c.loop-i-test.true);
+    }
 
 pub overflow_add-i : goal.overflow_add-i
 overflow_add-i c = omega (arith, c.loop-i-test.true)
@@ -22,7 +26,7 @@ loop-i-preserved c =
     let l = c.loop-i in
     let w = c.put_piece-piece in
     going_next c.args.p c.args.image.now _ _ l.out l.point l.at l.i l.invariant
-    c.loop-i-test.true w.new.1.1.1.1.0 w.result w.ensures
+    c.loop-i-test.true w.new.out w.result w.ensures
 
 pub shape_of-out : goal.shape_of-out
 shape_of-out c = c.loop-i.invariant.same

@@ -10,16 +10,26 @@ line : (c : After-string_in-string) → let a = c.args in
     InLine a.p a.image.now a.turn c.string_in-string.result
 line c = let h = c.requires in
     record {
-      laid = h.0.laid;
-      known = h.1.0.0;
-      counted = h.1.0.1;
-      tells = c.string_in-string.ensures.by_index _ h.0.laid h.0.index;
+      laid = h.ready.laid;
+      known = h.good.0;
+      counted = h.good.1;
+      tells = c.string_in-string.ensures.by_index _ h.ready.laid h.ready.index;
     }
 
 -- the units that are to be put
 units : (c : After-least-n) → let a = c.args in
     Chunk a.p a.image.now a.turn c.string_in-string.result a.unit c.least-n.result
-units c = record { line = line c; some = c.if-count-unit.false; least = c.least-n.ensures.0 }
+units c = let h = c.requires in
+    record {
+      line = record {
+        laid = h.ready.laid;
+        known = h.good.0;
+        counted = h.good.1;
+        tells = c.string_in-string.ensures.by_index _ h.ready.laid h.ready.index;
+      };
+      some = c.if-count-unit.false;
+      least = c.least-n.ensures.0;
+    }
 
 pub slot_of-slot-requires : goal.slot_of-slot-requires
 slot_of-slot-requires c =
@@ -49,7 +59,7 @@ put_units-end-requires c =
     let x = units (goal.at.put_units-end-requires c).After-least-n in
     let u = least_units x in
     record {
-      n_in_bounds = omega (arith, u.0, c.requires.good.1);
+      n_in_bounds = omega (arith, u.0, c.requires.at_in_bounds);
       wide_in_bounds = units_in_lem x.line c.args.unit c.least-n.result u.1;
     }
 
