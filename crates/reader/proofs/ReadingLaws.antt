@@ -1,5 +1,5 @@
 -- The answers of the reader: one law for each way out, over the number of a reading by id.
-use mathlib.Core.Path.{◌≡◌, refl, ◌∙◌, ap}
+use mathlib.Core.Path.{◌≡◌, refl, sym, ◌∙◌, ap}
 use mathlib.Core.List.{List, [], ◌∷◌, ◌++◌}
 use Prim.Native.Nat.{ℕ, ◌≤◌, ◌<◌}
 use native.Mathlib.Omega.{arith}
@@ -37,11 +37,16 @@ use Rattle.reader.specs.Reading.{id_refusal, string_read, body_read}
 
 -- ---- a reading by id
 
+-- the number is judged of the image's checks and, behind them, of the id
+pub judged_behind : (l : Layout) (s : List ℕ) (count id : ℕ)
+    → id_refusal l s count id ≡ judge (checks l s ++ (check 7 (leb count id) ∷ []))
+unfolding id_refusal
+judged_behind l s count id = refl
+
 -- what is not refused is an admitted image's, and the id is one of it
 pub read_is : (l : Layout) (s : List ℕ) (count id : ℕ) → id_refusal l s count id ≡ 0 → (refusal l s ≡ 0) × (id < count)
-unfolding id_refusal
 read_is l s count id e =
-    let (z, q) = judged_none l s (check 7 (leb count id) ∷ []) e in
+    let (z, q) = judged_none l s (check 7 (leb count id) ∷ []) (sym (judged_behind l s count id) ∙ e) in
     (z, leb-false count id (judge_pass (check 7 (leb count id)) [] (omega arith) q).0)
 
 module _ (l : Layout) (s : List ℕ) (count id : ℕ) {A : Type 0} (found : A) (refused : ℕ → A) where
@@ -50,9 +55,9 @@ module _ (l : Layout) (s : List ℕ) (count id : ℕ) {A : Type 0} (found : A) (
 
   pub not_admitted : (r : Admission) → r ≡ admission l s → (k : ℕ) → r ≡ Refused k → (n : ℕ) → n ≡ number_of r
       → refused n ≡ answered
-  unfolding id_refusal
   not_admitted r e k f n g =
-      let i : judge (checks l s ++ (check 7 (leb count id) ∷ [])) ≡ k = refused_then l s r e k f (check 7 (leb count id) ∷ []) in
+      let i : id_refusal l s count id ≡ k
+      = judged_behind l s count id ∙ refused_then l s r e k f (check 7 (leb count id) ∷ []) in
       let h : 0 < k = (refused_is l s r e k f).1 in
       let j : n ≡ k = g ∙ ap number_of f in
       rw (i, ne_eqb k 0 (λ y. omega arith)) (ap refused j)
@@ -62,12 +67,12 @@ module _ (l : Layout) (s : List ℕ) (count id : ℕ) {A : Type 0} (found : A) (
     own = laid_then l s (admission l s) refl p f (check 7 (leb count id) ∷ [])
 
     pub no_such_id : count ≤ id → refused 7 ≡ answered
-    unfolding id_refusal judge
-    no_such_id h = rw (own, le-leb count id h)
+    unfolding judge
+    no_such_id h = rw (judged_behind l s count id ∙ own, le-leb count id h)
 
     pub id_found : id < count → found ≡ answered
-    unfolding id_refusal judge
-    id_found h = rw (own, lt-leb count id h)
+    unfolding judge
+    id_found h = rw (judged_behind l s count id ∙ own, lt-leb count id h)
 
 -- ---- strings, bodies, the debug offset
 

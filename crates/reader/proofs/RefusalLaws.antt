@@ -13,12 +13,12 @@ use Rattle.image.specs.Admission.{refusal}
 use Rattle.image.proofs.FaultLaws.{refusal_most}
 use Rattle.admission.proofs.AnswerLaws.{judged_then}
 use Rattle.reader.specs.Reading.{id_refusal}
-use Rattle.reader.proofs.ReadingLaws.{read_is}
+use Rattle.reader.proofs.ReadingLaws.{judged_behind, read_is}
 
 module _ (l : Layout) (s : List ℕ) (count id : ℕ) where
   number : id_refusal l s count id ≡ pick (eqb (refusal l s) 0) (pick (leb count id) 7 0) (refusal l s)
-  unfolding id_refusal judge
-  number = judged_then l s (check 7 (leb count id) ∷ [])
+  unfolding judge
+  number = judged_behind l s count id ∙ judged_then l s (check 7 (leb count id) ∷ [])
 
   pub found_exactly : id_refusal l s count id ≡ 0 ↔ ((refusal l s ≡ 0) × (id < count))
   found_exactly = (read_is l s count id, λ x. number ∙ rw (x.0, lt-leb count id x.1))
