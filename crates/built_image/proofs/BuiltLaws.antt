@@ -33,7 +33,8 @@ use Rattle.footer.specs.Finalize.{size_limit, lengthed, sealed}
 use Rattle.header_write.proofs.HeaderLaws.{length-modern_header}
 use Rattle.header_write.proofs.ReadLaws.{Headed, header_below, header_read}
 use Rattle.serialize.specs.Parts as builder
-use Rattle.serialize.specs.Parts.{start_of, place_of, storage_of, storage_at, large_header, header_of, record_of, small_table, tail_of, minimal}
+use Rattle.serialize.specs.Parts.{start_of, place_of, storage_of, storage_at, large_header, header_of, record_of, small_table}
+use Rattle.serialize.specs.Parts.{tail_of, minimal}
 use Rattle.serialize.specs.Builder.{all_small, built}
 use Rattle.serialize.proofs.PartLaws.{length-large_header, large_offset_lem, large_size, large_below}
 use Rattle.serialize.proofs.BuilderLaws.{BuildAccepted, accepted, ascends-at}
@@ -146,7 +147,8 @@ module _ (v : ℕ) (text ends code : List ℕ) where
 
     length_head : length p.header ≡ table.header_length
     unfolding header_of
-    length_head = length-modern_header v (replicate (table.source_hash_row).width 0) 1 1 0 n (length store) (replicate table.header_length 0)
+    length_head = length-modern_header v (replicate (table.source_hash_row).width 0) 1 1 0 n (length store)
+        (replicate table.header_length 0)
 
     front-is : length (front p) ≡ 144
     front-is = length_front p ∙ rw (length_head, length-bytes_of 12 (record_of far)) refl

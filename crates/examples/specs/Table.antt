@@ -21,7 +21,8 @@ use Rattle.sha1_hash.specs.BigEndian.{big_bytes}
 use Rattle.sha1_hash.specs.Sha1.{digest_bytes, digest}
 use Rattle.footer.specs.Footer.{footed}
 use Rattle.footer.specs.Finalize.{lengthed, sealed}
-use Rattle.serialize.specs.Parts.{start_of, storage_of, header_of, record_of, small_table, sections, large_header, tail_of, all_but_footer, minimal}
+use Rattle.serialize.specs.Parts.{start_of, storage_of, header_of, record_of, small_table, sections, large_header, tail_of}
+use Rattle.serialize.specs.Parts.{all_but_footer, minimal}
 use Rattle.serialize.specs.Builder as builder
 use Rattle.image.specs.Sections.{kinds_at, hashes_at, small_at, over_at, storage_at, tail_at}
 use Rattle.image.specs.Strings.{over_before, place_of, locate, small_in, over_in, place_at, string_of}
@@ -130,12 +131,15 @@ all_marked (r ∷ rs) = both (eqb r.given r.marked) (all_marked rs)
 
 -- the claim
 pub marked : T (all_marked rows)
-unfolding rows all_marked small_word entry with_field field_of pointer moved hash_of hash_from hash_step mixed add32 xor_n all_but_footer sections
+unfolding rows all_marked small_word entry with_field field_of pointer moved hash_of hash_from hash_step mixed add32 xor_n all_but_footer
+    sections
     header_of modern_header identity put_all record_of put_pointer small_table start_of tail_of large_header bytes_of bytes_at number
     minimal sealed lengthed footed digest digest_bytes big_bytes kinds_at hashes_at small_at over_at storage_at tail_at over_before place_of
     locate small_in over_in place_at string_of function.small function.header function.record_in function.func_of is_large splice
-    write_all groups put_small pointed put_header record_group header_group edit store_of packing.start_of smalls pair_of pairs overs region padded
-    rebuild is_apart is_alone in_turn as_string string_with strings_with fits_in_place fits_all changed ascii all_below sum_below judge kind_in covered
+    write_all groups put_small pointed put_header record_group header_group edit store_of packing.start_of smalls pair_of pairs overs
+    region padded
+    rebuild is_apart is_alone in_turn as_string string_with strings_with fits_in_place fits_all changed ascii all_below sum_below judge
+    kind_in covered
     identified overflows_counted overflows_numbered strings_stored bytes_narrow strings_narrow headers_in bodies_in infos_in debug_in_tail
     headers_apart bodies_apart checks fields_fit utf8.is_utf8 utf8.reading_of utf8.next_byte utf8.opens new_length patch_fits by_id_refusal
     builder.checks builder.ends_ascend builder.ends_within builder.all_small utf8.utf16 utf8.units_from utf8.units_of_point

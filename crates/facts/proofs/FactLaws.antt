@@ -121,4 +121,5 @@ module _ (l : Layout) (s : List ℕ) (id room : ℕ) (old : List ℕ) where
   unfolding string_facts
   the_facts q c f facts g a new w =
       let (z, p, v) = string-at l s id (string_read l s id) refl q c f in
-      found_read (id_refusal l s (strings_in s) id) facts (facts_of_string l s id) (roomed room) a old new z (g ∙ parts_are l s id q c p v) w
+      found_read (id_refusal l s (strings_in s) id) facts (facts_of_string l s id) (roomed room) a old new z
+      (g ∙ parts_are l s id q c p v) w

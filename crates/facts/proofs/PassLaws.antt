@@ -69,7 +69,8 @@ module _ (l : Layout) (s : List ℕ) (id : ℕ) where
         → next ≡ sets out (k * string_fact_count) (facts_of_string l s i) → next ≡ sets old 0 (facts_from l s id (k + 1))
     unfolding facts_from
     facts_next k i out next e f g =
-        sets_then old out next (facts_from l s id k) (facts_of_string l s (id + k)) 0 (k * string_fact_count) e (omega (arith, facts_length k))
+        sets_then old out next (facts_from l s id k) (facts_of_string l s (id + k)) 0 (k * string_fact_count) e
+        (omega (arith, facts_length k))
         (g ∙ ap (λ (j : ℕ). sets out (k * string_fact_count) (facts_of_string l s j)) f)
         ∙ rw (add-one k)
 

@@ -37,7 +37,8 @@ use Rattle.admission.specs.Admission.{admission, number_of}
 use Rattle.admission.proofs.AnswerLaws.{judged_then, judged_none, refused_is, laid-is, is-laid}
 use Rattle.function_table.specs.declared.Function.{Function}
 use Rattle.function_table.specs.Functions.{as_func, WordSized, Readable}
-use Rattle.function_checks.specs.Checks.{threshold, body_alone, infos_outside, debug_past, from_nothing, moved_past_body, size_fits, FunctionIs}
+use Rattle.function_checks.specs.Checks.{threshold, body_alone, infos_outside, debug_past, from_nothing, moved_past_body}
+use Rattle.function_checks.specs.Checks.{size_fits, FunctionIs}
 use Rattle.functions.specs.Patch.{bodied, patched_body, body_checks, body_refusal, patch_body, answer_for}
 use Rattle.functions.specs.Stages.{Accepted}
 use Rattle.functions.proofs.AdmitLaws.{readable, body_ends, body_starts, layout_is, functions_are}
@@ -129,7 +130,8 @@ module _ (l : Layout) (s : List ℕ) (id : ℕ) (body : List ℕ) where
   later =
       pick (not (debug_past l s id)) 9
       (pick (from_nothing (func_of l s id).size (length body)) 10
-      (pick (ltb size_limit len) 11 (pick (not (size_fits l s id body)) 12 (pick (not (fields_fit l s (moved_past_body l s id body))) 12 0))))
+      (pick (ltb size_limit len) 11 (pick (not (size_fits l s id body)) 12
+      (pick (not (fields_fit l s (moved_past_body l s id body))) 12 0))))
 
 module _ {l : Layout} {s : List ℕ} {id : ℕ} {f : Function} (body : List ℕ) (z : Chosen l s id f) where
   new_length_lem : length s - f.size + length body ≡ len l s id body

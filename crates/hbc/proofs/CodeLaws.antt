@@ -166,7 +166,13 @@ module _ (l : Layout) (s : List ℕ) (bytes : (i : ℕ) → get_or s i 0 < 256) 
   short_string id = short_judged (id_refusal l s (strings_in s) id) (string_of l s id).bytes (λ e.
       let (z, h) = read_is l s (strings_in s) id e in
       let a : Admitted l s = admitted l s bytes z in
-      omega (arith, length-bytes_at s (storage_at l s + (place_at l s id).at) (size_of (place_at l s id)), string-in a id h, a.room, a.most))
+      omega (
+        arith,
+        length-bytes_at s (storage_at l s + (place_at l s id).at) (size_of (place_at l s id)),
+        string-in a id h,
+        a.room,
+        a.most,
+      ))
 
   pub short_body : (id : ℕ) → Short (body_reading l s id)
   unfolding body_reading body_of

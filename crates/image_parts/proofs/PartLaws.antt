@@ -218,7 +218,8 @@ module _ (l : Layout) (x : Parts) (ok : PartsFit l x) where
   storage_is = header-number 60 4 (omega arith) (λ h. omega arith) ∙ ok.storage
 
   pub debug-is : debug_in l s ≡ debug_in l x.header
-  debug-is = header-number (table.place_in l (table.debug_row l)) (table.debug_row l).width (debug-at l) (λ h. omega (arith, debug_past_lem l))
+  debug-is = header-number (table.place_in l (table.debug_row l)) (table.debug_row l).width (debug-at l)
+      (λ h. omega (arith, debug_past_lem l))
 
   -- ---- the places of the sections
 

@@ -1,5 +1,7 @@
 -- The end of a job: what the buffer holds is what is written.
-use Rattle.std.proofs.Common.{◌≡◌, ℕ, ◌-◌, ◌≤◌, Bool, true, false, ltb, List, [], ◌++◌, length, take, drop, sym, refl, ap, ◌∙◌, append-nil, zero-add, arith, take-append-drop, drop_of_length-le, length-take-le, ltb-false, eq-eqb, ne_eqb}
+use Rattle.std.proofs.Common.{◌≡◌, ℕ, ◌-◌, ◌≤◌, Bool, true, false, ltb, List, [], ◌++◌, length, take, drop, sym, refl, ap, ◌∙◌}
+use Rattle.std.proofs.Common.{append-nil, zero-add, arith, take-append-drop, drop_of_length-le, length-take-le, ltb-false, eq-eqb}
+use Rattle.std.proofs.Common.{ne_eqb}
 use mathlib.Core.Path.{subst⁻¹}
 use native.Mathlib.Nat.{sub-zero}
 use lib.Seq.{sets-eq}

@@ -1,5 +1,7 @@
 -- What the functions on records answer, in the words of the definitions.
-use Rattle.std.proofs.Common.{◌≡◌, ℕ, ◌+◌, ◌-◌, ◌^◌, ◌<◌, ◌≤◌, Bool, true, false, ltb, leb, List, length, get_or, take, drop, sym, refl, ap, ◌∙◌, inl, inr, zero-add, arith, length-take-le, take_all, ltb-false, le-ltb, lt-ltb, ne_eqb, leb-true}
+use Rattle.std.proofs.Common.{◌≡◌, ℕ, ◌+◌, ◌-◌, ◌^◌, ◌<◌, ◌≤◌, Bool, true, false, ltb, leb, List, length, get_or, take, drop, sym}
+use Rattle.std.proofs.Common.{refl, ap, ◌∙◌, inl, inr, zero-add, arith, length-take-le, take_all, ltb-false, le-ltb, lt-ltb}
+use Rattle.std.proofs.Common.{ne_eqb, leb-true}
 use mathlib.Core.Path.{subst⁻¹}
 use native.Mathlib.Nat.{sub-zero}
 use lib.Seq.{sets, sets-eq, take-append_seam}

@@ -28,7 +28,8 @@ begun_image l n number = pick (number == 0) (Under l n 1) (Refused 0 number)
 
 -- 15 comes before all others for its record
 abbrev pub begun_head : ImageHead → List ℕ → Progress
-begun_head (head-is.Image l n) image = pick (nat_lt (length image) n) (Refused 0 refusals.job) (begun_image l (length image) (refusal l image))
+begun_head (head-is.Image l n) image = pick (nat_lt (length image) n) (Refused 0 refusals.job)
+    (begun_image l (length image) (refusal l image))
 begun_head (head-is.Refused m) image = Refused 0 m
 
 unfoldable pub begun : List ℕ → List ℕ → Progress

@@ -37,7 +37,8 @@ slot_word None = letter 0x2D
 
 -- the line of a string by its units and its slot
 unfoldable pub string_line : ℕ → Bool → Bool → List ℕ → Slot → List ℕ
-string_line id wide identifier units slot = line (string_words id wide identifier (length units) ++ (units_word units ∷ [])) (slot_word slot)
+string_line id wide identifier units slot = line (string_words id wide identifier (length units) ++ (units_word units ∷ []))
+    (slot_word slot)
 
 -- what stands between so many units and the last field: the dash in place of none, and a space
 abbrev pub gap : ℕ → List ℕ

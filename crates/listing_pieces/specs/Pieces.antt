@@ -92,7 +92,8 @@ abbrev pub piece_at : Layout → List ℕ → Spot → List ℕ
 piece_at l s counts = counts_line (length s) (strings_in s) (functions_in s)
 piece_at l s (strings i) = pick (ltb i (strings_in s)) (string_start l s i) []
 piece_at l s (units i j) =
-    pick (ltb j (length (units_in l s i))) (hexes (take chunk (drop j (units_in l s i)))) (closing (length (units_in l s i)) (slot_of l s i))
+    pick (ltb j (length (units_in l s i))) (hexes (take chunk (drop j (units_in l s i))))
+    (closing (length (units_in l s i)) (slot_of l s i))
 piece_at l s (functions i) = pick (ltb i (functions_in s)) (function_line_in l s i) []
 piece_at l s end = []
 

@@ -111,7 +111,8 @@ module _ (l : Layout) (s : List ℕ) (room : ℕ) where
   own_shows (in_pass m e k) =
       (λ t. let (j, h, x) = (known_decide e k (strings_in s)).wrong (not-true (all_known (λ j. (e j).id) k (strings_in s)) t) in
       no_string_of m e k j h x)
-      also (λ t. let (j, h, (i, g, x)) = (differ_decide e k).wrong (not-true (all_differ (λ j. (e j).id) k) t) in given_twice m e k i j g h x)
+      also (λ t. let (j, h, (i, g, x)) = (differ_decide e k).wrong (not-true (all_differ (λ j. (e j).id) k) t) in given_twice m e k i j g
+      h x)
       also (λ t. let (j, h, x) = (utf8_decide e k).wrong (not-true (all_utf8 (λ j. (e j).value) k) t) in bad_value_of m e k j h x)
       also result_shows m (values_of e k) (in_pass m e k) refl
   own_shows (to_body id body) =
@@ -159,7 +160,8 @@ module _ (l : Layout) (s : List ℕ) (room : ℕ) where
   own_gives p n (bad_new m old new h) = given_last n (checks l s) _ (simp (h, either_true))
   own_gives p n (shares id body j h d x) = given_last n (checks l s) _ (rw (alone_failed l s id (j, h, d, inl x)))
   own_gives p n (within id body j h d z x y) = given_last n (checks l s) _ (rw (alone_failed l s id (j, h, d, inr (z, x, y))))
-  own_gives p n (info_inside id body j h x y) = given_last n (checks l s) _ (simp ((infos_decide l s id).failed (j, h, (x, y)), either_true))
+  own_gives p n (info_inside id body j h x y) = given_last n (checks l s) _
+      (simp ((infos_decide l s id).failed (j, h, (x, y)), either_true))
   own_gives p n (debug_below id body x y) = given_last n (checks l s) _ (simp ((debug_decide l s id).failed (x, y), either_true))
   own_gives p n (was_empty id body x y) = given_last n (checks l s) _ (rw (eq-eqb (func_of l s id).size 0 x, lt-ltb 0 (length body) y))
   own_gives p n (absent m old new h) = given_last n (checks l s) _ (rw (le-leb (strings_in s) _ (find_none l s (utf16 old) h)))

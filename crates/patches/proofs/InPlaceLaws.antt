@@ -78,7 +78,8 @@ module _ (l : Layout) (s : List ℕ) (id : ℕ) (value : List ℕ) (fit : fits_i
   last = both_1 (ascii value) (both (eqb (length value) (size_of (place_at l s id))) (is_alone l s id)) others
 
   pub sized : length value ≡ size_of (place_at l s id)
-  sized = eqb-true (length value) (size_of (place_at l s id)) (both_0 (eqb (length value) (size_of (place_at l s id))) (is_alone l s id) last)
+  sized = eqb-true (length value) (size_of (place_at l s id))
+      (both_0 (eqb (length value) (size_of (place_at l s id))) (is_alone l s id) last)
 
   pub alone : (j : ℕ) → j < strings_in s → j ≢ id → overlap (place_at l s id) (place_at l s j) ≡ false
   unfolding is_alone is_apart

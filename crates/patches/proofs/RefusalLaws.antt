@@ -225,7 +225,11 @@ module _ (l : Layout) (s : List ℕ) (id : ℕ) (body : List ℕ) where
   size-wrong e =
       let b : Bool = beyond (size_row l) (length body) in (
         either_0 (func_of l s id).large (not b) e,
-        omega (arith, leb-true (2 ^ (size_row l).width) (length body) (not-false b (either_1 (func_of l s id).large (not b) e)), size_bits l),
+        omega (
+          arith,
+          leb-true (2 ^ (size_row l).width) (length body) (not-false b (either_1 (func_of l s id).large (not b) e)),
+          size_bits l,
+        ),
       )
 
   pub size_failed : (func_of l s id).large ≡ false → size_most l < length body → size_fits l s id body ≡ false

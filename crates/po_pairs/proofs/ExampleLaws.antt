@@ -26,13 +26,15 @@ two_pairs =
 two_pairs_lem : read_file two_pairs
     ≡ pairs (record { msgid = []; msgstr = [] }
     ∷ record { msgid = 97 ∷ 10 ∷ 195 ∷ 169 ∷ []; msgstr = 34 ∷ 120 ∷ 92 ∷ [] } ∷ [])
-unfolding read_file different all_below same in_subset is_utf8 reading_of next_byte opens stand_after values_in values_of continued read_lines
+unfolding read_file different all_below same in_subset is_utf8 reading_of next_byte opens stand_after values_in values_of continued
+    read_lines
     lines_of last_of line_of kind_of marked_as begins is_printable quote_end quote_next unescaped given paired
 two_pairs_lem = refl
 
 -- the last line feed is missing
 no_feed : read_file (msgid_mark ++ (done ++ (msgstr_mark ++ (34 ∷ [])))) ≡ outside
-unfolding read_file different all_below same in_subset is_utf8 reading_of next_byte opens stand_after values_in values_of continued read_lines
+unfolding read_file different all_below same in_subset is_utf8 reading_of next_byte opens stand_after values_in values_of continued
+    read_lines
     lines_of last_of line_of kind_of marked_as begins is_printable quote_end quote_next unescaped given paired
 no_feed = refl
 
@@ -40,6 +42,7 @@ no_feed = refl
 given-twice : read_file (msgid_mark ++ ((97 ∷ 98 ∷ []) ++ (done ++ (msgstr_mark ++ (done
     ++ (msgid_mark ++ ((97 ∷ []) ++ (done ++ ((34 ∷ 98 ∷ []) ++ (done ++ (msgstr_mark ++ done)))))))))))
     ≡ outside
-unfolding read_file different all_below same in_subset is_utf8 reading_of next_byte opens stand_after values_in values_of continued read_lines
+unfolding read_file different all_below same in_subset is_utf8 reading_of next_byte opens stand_after values_in values_of continued
+    read_lines
     lines_of last_of line_of kind_of marked_as begins is_printable quote_end quote_next unescaped given paired
 given-twice = refl

@@ -1,5 +1,6 @@
 -- The values of a file in lent room: one behind the other in a text, with the place where each ends.
-use Rattle.std.specs.Prelude.{◌≡◌, Bool, true, false, ◌⊎◌, List, [], ◌∷◌, ◌++◌, ℕ, suc, ◌+◌, ◌-◌, ◌*◌, ◌/◌, ◌%◌, ◌≤◌, ◌<◌, length, get_or, set, drop}
+use Rattle.std.specs.Prelude.{◌≡◌, Bool, true, false, ◌⊎◌, List, [], ◌∷◌, ◌++◌, ℕ, suc, ◌+◌, ◌-◌, ◌*◌, ◌/◌, ◌%◌, ◌≤◌, ◌<◌, length}
+use Rattle.std.specs.Prelude.{get_or, set, drop}
 use Rattle.bits.specs.Choice.{pick}
 use Rattle.format.specs.Hash.{hash_of}
 use Rattle.utf.specs.Utf8.{utf16}

@@ -61,7 +61,8 @@ length-large_header begin size = simp length-sets
 length-sections : (v : ℕ) (storage ends : List ℕ) (p : ℕ)
     → length (sections v storage ends p) ≡ body_at (length ends) (length storage)
 unfolding sections
-length-sections v storage ends p = simp (length-append, length-header_of, length-bytes_of, length-small_table, length-zeros_to4) (omega arith)
+length-sections v storage ends p = simp (length-append, length-header_of, length-bytes_of, length-small_table, length-zeros_to4)
+    (omega arith)
 
 length-tail_of : (begin : ℕ) (body : List ℕ)
     → begin + length (tail_of begin body) ≡ large_at begin (length body) + (table.modern_large_whole).width
@@ -260,7 +261,8 @@ module _ (v : ℕ) (storage ends body : List ℕ) where
       → o2 ≡ sets o 0 (all_but_footer v storage ends body)
   unfolding all_but_footer
   all_laid o o1 o2 e1 e2 =
-      sets_then o o1 o2 (sections v storage ends large) (tail_of begin body) 0 begin e1 (omega (arith, length-sections v storage ends large))
+      sets_then o o1 o2 (sections v storage ends large) (tail_of begin body) 0 begin e1
+      (omega (arith, length-sections v storage ends large))
       e2
 
   -- what is laid, with any bytes for the footer, finalized

@@ -48,7 +48,8 @@ large_at begin size = up4 (begin + size)
 
 -- the header: one function, one kind, no identifier, and a source hash of zeros
 unfoldable pub header_of : ℕ → ℕ → ℕ → List ℕ
-header_of version n storage = modern_header version (replicate (table.source_hash_row).width 0) 1 1 0 n storage (replicate table.header_length 0)
+header_of version n storage = modern_header version (replicate (table.source_hash_row).width 0) 1 1 0 n storage
+    (replicate table.header_length 0)
 
 -- the record of the function: nothing but the flag and the pointer of its large header
 unfoldable pub record_of : ℕ → ℕ

@@ -17,7 +17,13 @@ begun c = record {
 spliced : (c : After-put_spliced) → let a = c.args in
     Spliced a.layout a.image.now a.id a.body.now (length a.out.now) c.function_at-f.result
     c.put_spliced.new.out
-spliced c = record { begun = record { accepted = c.requires; is = record { is = c.function_at-f.ensures.0; sized = c.function_at-f.ensures.1 } }; spliced = c.put_spliced.ensures }
+spliced c = record {
+  begun = record {
+    accepted = c.requires;
+    is = record { is = c.function_at-f.ensures.0; sized = c.function_at-f.ensures.1 };
+  };
+  spliced = c.put_spliced.ensures;
+}
 
 pub function_at-f-requires : goal.function_at-f-requires
 function_at-f-requires c =

@@ -46,7 +46,8 @@ pub returns-then-count-unit : goal.returns-then-count-unit
 returns-then-count-unit c =
     let a = c.args in
     let w = c.put_closing in
-    gives_closing (line (goal.at.returns-then-count-unit c).After-string_in-string) a.unit c.if-count-unit.true c.slot_of-slot.result c.slot_of-slot.ensures
+    gives_closing (line (goal.at.returns-then-count-unit c).After-string_in-string) a.unit c.if-count-unit.true c.slot_of-slot.result
+    c.slot_of-slot.ensures
     a.out.now w.new.out a.at w.result w.ensures.0 w.ensures.1 _ c.next_turn.ensures
 
 pub overflow_add-start : goal.overflow_add-start

@@ -9,7 +9,8 @@ use Rattle.po_lines.proofs.put_unescaped.Given as goal
 
 abbrev pub invariant-loop-i : goal.invariant-loop-i
 invariant-loop-i l =
-    (l.i ≤ length l.text) × (length l.out ≡ length l.initial.out) × (l.to ≤ l.at + l.i) × (quote_end l.quote (drop l.i l.text) ≡ quote_end Open l.text)
+    (l.i ≤ length l.text) × (length l.out ≡ length l.initial.out) × (l.to ≤ l.at + l.i)
+    × (quote_end l.quote (drop l.i l.text) ≡ quote_end Open l.text)
     × (l.to + length (unescaped l.quote (drop l.i l.text)) ≡ l.at + length (unescaped Open l.text))
     × (sets l.out l.to (unescaped l.quote (drop l.i l.text)) ≡ sets l.initial.out l.at (unescaped Open l.text))
 

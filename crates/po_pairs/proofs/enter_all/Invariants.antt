@@ -9,7 +9,8 @@ use Rattle.po_pairs.proofs.enter_all.Given as goal
 
 abbrev pub invariant-loop-q : goal.invariant-loop-q
 invariant-loop-q l =
-    (l.q ≤ l.pairs) × (length l.work ≡ length l.initial.work) × (all_new (id_in l.text l.ends) l.q ≡ true) × ChainedPairs l.text l.ends l.m l.q l.work
+    (l.q ≤ l.pairs) × (length l.work ≡ length l.initial.work) × (all_new (id_in l.text l.ends) l.q ≡ true)
+    × ChainedPairs l.text l.ends l.m l.q l.work
 
 abbrev pub decreases-loop-q : goal.decreases-loop-q
 decreases-loop-q l = l.pairs - l.q

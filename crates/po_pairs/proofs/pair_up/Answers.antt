@@ -15,7 +15,13 @@ enter_all-requires c =
     let a = c.args in
     let q = c.requires in
     record {
-      all_within = (λ j h. q.all_within.0 j (omega arith), omega (arith, q.all_within.1), omega (arith, q.ends_nonzero.1, c.clear.auto.work), q.ends_nonzero.0, q.all_within.2);
+      all_within = (
+        λ j h. q.all_within.0 j (omega arith),
+        omega (arith, q.all_within.1),
+        omega (arith, q.ends_nonzero.1, c.clear.auto.work),
+        q.ends_nonzero.0,
+        q.all_within.2,
+      );
       chained_pairs = chained_clear (λ j. true) (bucket_in a.text.now a.ends.now (length a.ends.now)) (length a.ends.now) a.work.now _
           (omega (arith, q.ends_nonzero.1)) c.clear.ensures;
     }

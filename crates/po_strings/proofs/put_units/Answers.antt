@@ -20,8 +20,16 @@ next_point-point-requires c = (c.requires.inside.0, c.loop-i-test.true)
 pub put_point-to-requires : goal.put_point-to-requires
 put_point-to-requires c =
     let f = c.next_point-point.ensures.0 in
-    let l = c.loop-i in
-    (point_there _ _ _ f l.invariant.2, omega (arith, c.requires.t_in_bounds, l.invariant.1, l.invariant.3, length_parts _ _ _ f l.invariant.2))
+    let l = c.loop-i in (
+      point_there _ _ _ f l.invariant.2,
+      omega (
+        arith,
+        c.requires.t_in_bounds,
+        l.invariant.1,
+        l.invariant.3,
+        length_parts _ _ _ f l.invariant.2,
+      ),
+    )
 
 pub loop-i-smaller : goal.loop-i-smaller
 loop-i-smaller c = let q = c.next_point-point.ensures in omega (arith, q.1, q.2)

@@ -13,7 +13,8 @@ abbrev pub invariant-loop-i : goal.invariant-loop-i
 invariant-loop-i l =
     (l.i ≤ l.t.count) × (length l.out ≡ length l.initial.out) × (is_utf16 (units_left l.image l.t l.i) ≡ true)
     × (l.to + length (escaped (utf8_of (units_left l.image l.t l.i))) ≡ l.at + length (escaped (utf8_of (units_in l.image l.t))))
-    × (sets l.out l.to (escaped (utf8_of (units_left l.image l.t l.i))) ≡ sets l.initial.out l.at (escaped (utf8_of (units_in l.image l.t))))
+    × (sets l.out l.to (escaped (utf8_of (units_left l.image l.t l.i)))
+    ≡ sets l.initial.out l.at (escaped (utf8_of (units_in l.image l.t))))
 
 abbrev pub decreases-loop-i : goal.decreases-loop-i
 decreases-loop-i l = l.t.count - l.i

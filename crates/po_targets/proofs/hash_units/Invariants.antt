@@ -7,7 +7,8 @@ use Rattle.po_targets.proofs.hash_units.Given as goal
 
 abbrev pub invariant-loop-i : goal.invariant-loop-i
 invariant-loop-i l =
-    (l.i ≤ l.count) × (hash_from l.h (units_at l.image l.start l.wide l.i (l.count - l.i)) ≡ hash_of (units_at l.image l.start l.wide 0 l.count))
+    (l.i ≤ l.count) × (hash_from l.h (units_at l.image l.start l.wide l.i (l.count - l.i))
+    ≡ hash_of (units_at l.image l.start l.wide 0 l.count))
 
 abbrev pub decreases-loop-i : goal.decreases-loop-i
 decreases-loop-i l = l.count - l.i

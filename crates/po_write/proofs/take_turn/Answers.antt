@@ -22,7 +22,12 @@ written : (c : After-is_first) → let a = c.args in
 written c = let a = c.args in
     let e = found_flag a.p a.image.now a.id a.string c.requires.laid.2 _ c.is_identifier.ensures in
     let q = c.requires.laid in
-    let f : Found a.p a.image.now a.id a.string c.text_of-t.result = record { laid = q.0; known = q.1; stands = q.2; text = c.text_of-t.ensures } in
+    let f : Found a.p a.image.now a.id a.string c.text_of-t.result = record {
+      laid = q.0;
+      known = q.1;
+      stands = q.2;
+      text = c.text_of-t.ensures;
+    } in
     let h = found_held _ _ _ _ _ f _ c.is_held.ensures in
     c.is_first.ensures ∙ sym (first_written a.p.layout a.image.now a.id (sym e ∙ c.if-is_identifier.false)
     (sym h ∙ c.if-not-is_held.false))
@@ -71,7 +76,8 @@ pub returns-then-not-is_first : goal.returns-then-not-is_first
 returns-then-not-is_first c =
     let a = c.args in
     let q = c.requires in
-    turn_off a.p a.image.now a.id _ q.filled q.laid.1 (sym (written (goal.at.returns-then-not-is_first c).After-is_first) ∙ c.if-not-is_first.true)
+    turn_off a.p a.image.now a.id _ q.filled q.laid.1
+    (sym (written (goal.at.returns-then-not-is_first c).After-is_first) ∙ c.if-not-is_first.true)
 
 pub keep-requires : goal.keep-requires
 keep-requires c =
@@ -90,7 +96,8 @@ written_length-requires c =
     let f = found (goal.at.written_length-requires c).After-text_of-t in (
       found_inside _ _ _ _ _ f,
       omega (arith, (found_small _ _ _ _ _ f).1),
-      found_valid a.p a.image.now a.id _ q.filled q.laid.1 _ _ f (sym (written (goal.at.written_length-requires c).After-is_first) ∙ c.if-not-is_first.false),
+      found_valid a.p a.image.now a.id _ q.filled q.laid.1 _ _ f
+          (sym (written (goal.at.written_length-requires c).After-is_first) ∙ c.if-not-is_first.false),
     )
 
 pub overflow_add-result : goal.overflow_add-result

@@ -27,7 +27,8 @@ locate-location-requires c = laid (goal.at.locate-location-requires c).In-Laid
 
 pub returns-in_default-location : goal.returns-in_default-location
 returns-in_default-location c =
-    string-absent (sought (goal.at.returns-in_default-location c).After-locate-location) _ c.in_default-location.is _ c.number_of-in_default-location.ensures
+    string-absent (sought (goal.at.returns-in_default-location c).After-locate-location) _ c.in_default-location.is _
+    c.number_of-in_default-location.ensures
 
 pub returns : goal.returns
 returns c = string_found (sought (goal.at.returns c).After-locate-location) _ _ _ c.in-At.is

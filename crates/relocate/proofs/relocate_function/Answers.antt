@@ -52,7 +52,8 @@ function_after-f-requires c = (c.small_function.ensures.1, omega (arith, c.requi
 
 pub small_record-requires : goal.small_record-requires
 small_record-requires c =
-    fields_held _ _ _ _ _ _ _ _ (small-moved (goal.at.small_record-requires c).After-function_after-f) _ c.requires.movable c.requires.i_bound
+    fields_held _ _ _ _ _ _ _ _ (small-moved (goal.at.small_record-requires c).After-function_after-f) _ c.requires.movable
+    c.requires.i_bound
 
 pub put_record-requires : goal.put_record-requires
 put_record-requires c =
@@ -85,7 +86,8 @@ pub large_record-record-requires : goal.large_record-record-requires
 large_record-record-requires c =
     record {
       value = c.pointer_of-ptr.ensures.0;
-      bound = (words_held _ _ _ _ _ _ _ _ _ (moved (goal.at.large_record-record-requires c).After-function_after-f-2) _ c.requires.movable c.requires.i_bound).ptr;
+      bound = (words_held _ _ _ _ _ _ _ _ _ (moved (goal.at.large_record-record-requires c).After-function_after-f-2) _
+          c.requires.movable c.requires.i_bound).ptr;
     }
 
 pub put_record-requires-2 : goal.put_record-requires-2

@@ -8,7 +8,8 @@ use Rattle.relocate.proofs.relocate_functions.Given as goal
 
 abbrev pub invariant-loop-i : goal.invariant-loop-i
 invariant-loop-i l =
-    (l.i ≤ l.n) × (length l.out ≡ length l.initial.out) × (l.out ≡ write_all (groups l.i (function_group l.layout l.image l.m)) l.initial.out)
+    (l.i ≤ l.n) × (length l.out ≡ length l.initial.out)
+    × (l.out ≡ write_all (groups l.i (function_group l.layout l.image l.m)) l.initial.out)
 
 abbrev pub decreases-loop-i : goal.decreases-loop-i
 decreases-loop-i l = l.n - l.i

@@ -15,12 +15,18 @@ ordered : (c : Else-given-size) → EndsOrdered c.args.text.now c.args.ends.now
 ordered c = record { ascends = sym c.ends_ascend.ensures ∙ c.if-not-ends_ascend.false; last = omega arith }
 
 current : (c : Else-version-lt-LEAST_VERSION) → Current c.args.version c.args.text.now c.args.ends.now
-current c = record { ordered = record { ascends = sym c.ends_ascend.ensures ∙ c.if-not-ends_ascend.false; last = omega arith }; version = c.if-version-lt-LEAST_VERSION.false }
+current c = record {
+  ordered = record { ascends = sym c.ends_ascend.ensures ∙ c.if-not-ends_ascend.false; last = omega arith };
+  version = c.if-version-lt-LEAST_VERSION.false;
+}
 
 plain : (c : Else-not-ascii) → AsciiStrings c.args.version c.args.text.now c.args.ends.now
 plain c = let a = c.args in
     record {
-      current = record { ordered = record { ascends = sym c.ends_ascend.ensures ∙ c.if-not-ends_ascend.false; last = omega arith }; version = c.if-version-lt-LEAST_VERSION.false };
+      current = record {
+        ordered = record { ascends = sym c.ends_ascend.ensures ∙ c.if-not-ends_ascend.false; last = omega arith };
+        version = c.if-version-lt-LEAST_VERSION.false;
+      };
       plain =
           ascii-is a.text.now a.ends.now c.start_of-size.result _ _ c.start_of-size.ensures.0
           c.ascii.ensures c.if-not-ascii.false;
@@ -40,7 +46,8 @@ returns-then-given-size c =
 pub returns-then-version-lt-LEAST_VERSION : goal.returns-then-version-lt-LEAST_VERSION
 returns-then-version-lt-LEAST_VERSION c =
     let a = c.args in
-    old_version a.version a.text.now a.ends.now a.body.now (ordered (goal.at.returns-then-version-lt-LEAST_VERSION c).Else-given-size) c.if-version-lt-LEAST_VERSION.true
+    old_version a.version a.text.now a.ends.now a.body.now (ordered (goal.at.returns-then-version-lt-LEAST_VERSION c).Else-given-size)
+    c.if-version-lt-LEAST_VERSION.true
 
 pub returns-then-not-ascii : goal.returns-then-not-ascii
 returns-then-not-ascii c =

@@ -8,7 +8,10 @@ pub put_sections-requires : goal.put_sections-requires
 put_sections-requires c =
     record {
       storage_in_bounds = search rules;
-      large_at_in_bounds = (omega (arith, c.up4-large_at.ensures, c.body_at-begin.ensures, c.requires.image_len), c.requires.image_len_bound);
+      large_at_in_bounds = (
+        omega (arith, c.up4-large_at.ensures, c.body_at-begin.ensures, c.requires.image_len),
+        c.requires.image_len_bound,
+      );
       ends_value = c.requires.ends_value;
     }
 

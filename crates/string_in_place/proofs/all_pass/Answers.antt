@@ -66,7 +66,8 @@ returns-then-not-passes c =
     let a = c.args in
     let edits = told a.form a.words.now in
     test_stop a.p a.image.now edits a.text.now a.ends.now a.from c.requires _ _ c.loop-next.invariant.0 _ _
-    (met (goal.at.returns-then-not-passes c).After-string_at-step) (tested a.overlaps a.p.layout a.image.now) _ (answer (goal.at.returns-then-not-passes c).After-passes) (ap not c.if-not-passes.true)
+    (met (goal.at.returns-then-not-passes c).After-string_at-step) (tested a.overlaps a.p.layout a.image.now) _
+    (answer (goal.at.returns-then-not-passes c).After-passes) (ap not c.if-not-passes.true)
 
 pub next_edit-next-requires-in-loop-next : goal.next_edit-next-requires-in-loop-next
 next_edit-next-requires-in-loop-next c =
@@ -95,10 +96,13 @@ loop-next-preserved c =
     let a = c.args in
     let edits = told a.form a.words.now in
     let e = c.loop-next.invariant.0 in (
-      edge_next a.p a.image.now edits a.text.now a.ends.now a.from c.requires _ _ e _ _ (met (goal.at.loop-next-preserved c).After-string_at-step) _
+      edge_next a.p a.image.now edits a.text.now a.ends.now a.from c.requires _ _ e _ _
+          (met (goal.at.loop-next-preserved c).After-string_at-step) _
           c.next_edit-next-in-loop-next.ensures,
-      test_next a.p a.image.now edits a.text.now a.ends.now a.from c.requires _ _ e _ _ (met (goal.at.loop-next-preserved c).After-string_at-step)
-          (tested a.overlaps a.p.layout a.image.now) _ (answer (goal.at.loop-next-preserved c).After-passes) (ap not c.if-not-passes.false) c.loop-next.invariant.1,
+      test_next a.p a.image.now edits a.text.now a.ends.now a.from c.requires _ _ e _ _
+          (met (goal.at.loop-next-preserved c).After-string_at-step)
+          (tested a.overlaps a.p.layout a.image.now) _ (answer (goal.at.loop-next-preserved c).After-passes)
+          (ap not c.if-not-passes.false) c.loop-next.invariant.1,
     )
 
 pub returns : goal.returns

@@ -101,7 +101,8 @@ loop-due-preserved c =
           ∙ ap (λ (x : List ℕ). hashed a.p.layout a.image.now c.loop-due.due.id x c.loop-due.out)
           c.value_of.ensures.0
           ∙ ap (hashed a.p.layout a.image.now c.loop-due.due.id _) c.loop-due.invariant.2
-          ∙ sym (turn_met a.p a.image.now edits a.text.now a.ends.now a.from g _ _ e _ _ (met (goal.at.loop-due-preserved c).After-string_at-step)
+          ∙ sym (turn_met a.p a.image.now edits a.text.now a.ends.now a.from g _ _ e _ _
+          (met (goal.at.loop-due-preserved c).After-string_at-step)
           (hashed a.p.layout a.image.now) a.out.now),
     )
 

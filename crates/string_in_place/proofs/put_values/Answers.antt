@@ -60,7 +60,8 @@ put_bytes-requires c =
     let value = coming_in a.text.now a.ends.now n in
     let st = met_stands _ _ _ _ _ _ g _ _ e _ _ (met (goal.at.put_bytes-requires c).After-string_at-step) in
     let x = value-size a.p.layout a.image.now (values_in edits a.text.now a.ends.now) q.0.fits n.id value
-    (met_known _ _ _ _ _ _ g _ _ e _ _ (met (goal.at.put_bytes-requires c).After-string_at-step)) (met_gets _ _ _ _ _ _ g _ _ e _ _ (met (goal.at.put_bytes-requires c).After-string_at-step)) in
+    (met_known _ _ _ _ _ _ g _ _ e _ _ (met (goal.at.put_bytes-requires c).After-string_at-step))
+    (met_gets _ _ _ _ _ _ g _ _ e _ _ (met (goal.at.put_bytes-requires c).After-string_at-step)) in
     omega (
       arith,
       own_within a.p a.image.now n.id c.string_at-step.result.string g.laid.placed st value x,
@@ -97,7 +98,8 @@ loop-next-preserved c =
     let edits = told a.form a.words.now in
     let g = c.requires.0.given in
     let e = c.loop-next.invariant.0 in
-    let st = met_stands a.p a.image.now edits a.text.now a.ends.now a.from g _ _ e _ _ (met (goal.at.loop-next-preserved c).After-string_at-step) in (
+    let st = met_stands a.p a.image.now edits a.text.now a.ends.now a.from g _ _ e _ _
+    (met (goal.at.loop-next-preserved c).After-string_at-step) in (
       edge_next a.p a.image.now edits a.text.now a.ends.now a.from g _ _ e _ _ (met (goal.at.loop-next-preserved c).After-string_at-step) _
           c.next_edit-next-in-loop-next.ensures,
       c.put_bytes.auto.s ∙ c.loop-next.invariant.1,
@@ -106,7 +108,8 @@ loop-next-preserved c =
           ∙ ap (λ (x : List ℕ). over_old a.p.layout a.image.now c.loop-next.next.id x c.loop-next.out)
           c.value_of.ensures.0
           ∙ ap (over_old a.p.layout a.image.now c.loop-next.next.id _) c.loop-next.invariant.2
-          ∙ sym (turn_met a.p a.image.now edits a.text.now a.ends.now a.from g _ _ e _ _ (met (goal.at.loop-next-preserved c).After-string_at-step)
+          ∙ sym (turn_met a.p a.image.now edits a.text.now a.ends.now a.from g _ _ e _ _
+          (met (goal.at.loop-next-preserved c).After-string_at-step)
           (over_old a.p.layout a.image.now) a.out.now),
     )
 

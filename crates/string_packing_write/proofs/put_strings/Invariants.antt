@@ -13,7 +13,8 @@ abbrev pub invariant-loop-c : goal.invariant-loop-c
 invariant-loop-c l =
     (l.c.old.id ≤ l.p.strings) × (length l.out ≡ length l.initial.out)
     × Reached l.mode l.p l.image (string_with l.p.layout l.image (values_in (told l.form l.words) l.text l.ends)) l.c
-    × (l.out ≡ region_put l.to l.c.old.id (packed l.mode (string_with l.p.layout l.image (values_in (told l.form l.words) l.text l.ends)) l.c.old.id)
+    × (l.out ≡ region_put l.to l.c.old.id (packed l.mode (string_with l.p.layout l.image (values_in (told l.form l.words) l.text l.ends))
+    l.c.old.id)
     l.initial.out)
 
 abbrev pub decreases-loop-c : goal.decreases-loop-c

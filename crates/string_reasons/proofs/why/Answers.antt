@@ -60,7 +60,8 @@ returns-then-value-gt-LONGEST c =
     let a = c.args in
     let e = c.admit_indexed-admitted.ensures in (
       why_long a.mode a.layout a.image.now a.id a.value.now a.index.now _ e.0 _ c.in-Laid.is
-          c.if-p-id.false _ c.is_utf8.ensures (ap not c.if-not-is_utf8.false) (laid (goal.at.returns-then-value-gt-LONGEST c).In-Laid) c.if-value-gt-LONGEST.true,
+          c.if-p-id.false _ c.is_utf8.ensures (ap not c.if-not-is_utf8.false) (laid (goal.at.returns-then-value-gt-LONGEST c).In-Laid)
+          c.if-value-gt-LONGEST.true,
       e.1,
     )
 

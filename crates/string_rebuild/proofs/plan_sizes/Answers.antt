@@ -15,7 +15,8 @@ overflow_sub-length c =
 
 pub overflow_add-length : goal.overflow_add-length
 overflow_add-length c =
-    let b = low_sum _ _ c.requires.placed _ c.requires.overflows_le_size_limit.0 c.requires.overflows_le_size_limit.1 _ c.new_tail-tail.ensures in
+    let b = low_sum _ _ c.requires.placed _ c.requires.overflows_le_size_limit.0 c.requires.overflows_le_size_limit.1 _
+    c.new_tail-tail.ensures in
     omega arith
 
 pub returns : goal.returns

@@ -77,7 +77,8 @@ pub slice_bounds-stop_at-end : goal.slice_bounds-stop_at-end
 slice_bounds-stop_at-end c =
     omega (
       arith,
-      met_most _ _ _ _ _ _ _ c.requires _ (given (goal.at.slice_bounds-stop_at-end c).After-first_string-c) _ _ _ c.loop-next.invariant _ _ (met (goal.at.slice_bounds-stop_at-end c).After-string_at-step),
+      met_most _ _ _ _ _ _ _ c.requires _ (given (goal.at.slice_bounds-stop_at-end c).After-first_string-c) _ _ _ c.loop-next.invariant _
+          _ (met (goal.at.slice_bounds-stop_at-end c).After-string_at-step),
     )
 
 pub stop_at-number-requires : goal.stop_at-number-requires
@@ -87,7 +88,8 @@ stop_at-number-requires c =
     record {
       fits_value = rw sub-zero
           (front_fits a.mode a.p a.image.now a.marks.now a.text.now a.ends.now a.room c.requires _ g _ _ _
-          c.loop-next.invariant _ _ (met (goal.at.stop_at-number-requires c).After-string_at-step) _ (answer (goal.at.stop_at-number-requires c).After-fits_too-fits));
+          c.loop-next.invariant _ _ (met (goal.at.stop_at-number-requires c).After-string_at-step) _
+          (answer (goal.at.stop_at-number-requires c).After-fits_too-fits));
       laid = (
         c.requires.laid,
         rw sub-zero (front-listed a.marks.now a.text.now a.ends.now c.string_at-step.result.next.id c.requires.listed),
@@ -98,7 +100,8 @@ pub returns-then-number-ne0 : goal.returns-then-number-ne0
 returns-then-number-ne0 c =
     let a = c.args in
     pass_stop a.mode a.p a.image.now a.marks.now a.text.now a.ends.now a.room c.requires _
-    (given (goal.at.returns-then-number-ne0 c).After-first_string-c) _ _ _ c.loop-next.invariant _ _ (met (goal.at.returns-then-number-ne0 c).After-string_at-step) _ (answer (goal.at.returns-then-number-ne0 c).After-fits_too-fits) _
+    (given (goal.at.returns-then-number-ne0 c).After-first_string-c) _ _ _ c.loop-next.invariant _ _
+    (met (goal.at.returns-then-number-ne0 c).After-string_at-step) _ (answer (goal.at.returns-then-number-ne0 c).After-fits_too-fits) _
     (rw sub-zero at c.stop_at-number.ensures) c.if-number-ne0.true
 
 pub next_edit-next-requires-in-loop-next : goal.next_edit-next-requires-in-loop-next
@@ -127,7 +130,8 @@ pub loop-next-preserved : goal.loop-next-preserved
 loop-next-preserved c =
     let a = c.args in
     pass_next a.mode a.p a.image.now a.marks.now a.text.now a.ends.now a.room c.requires _
-    (given (goal.at.loop-next-preserved c).After-first_string-c) _ _ _ c.loop-next.invariant _ _ (met (goal.at.loop-next-preserved c).After-string_at-step) _ (answer (goal.at.loop-next-preserved c).After-fits_too-fits) _
+    (given (goal.at.loop-next-preserved c).After-first_string-c) _ _ _ c.loop-next.invariant _ _
+    (met (goal.at.loop-next-preserved c).After-string_at-step) _ (answer (goal.at.loop-next-preserved c).After-fits_too-fits) _
     (rw sub-zero at c.stop_at-number.ensures) c.if-number-ne0.false _ c.next_edit-next-in-loop-next.ensures
 
 pub returns : goal.returns

@@ -14,7 +14,8 @@ told-sound c = sound _ _ _ _ _ c.requires (λ i. (c.type_inv.text i).fits)
 
 pub returns-then-number-ne0 : goal.returns-then-number-ne0
 returns-then-number-ne0 c =
-    steps_refused _ _ _ _ _ (told-sound (goal.at.returns-then-number-ne0 c).After-stop_of-number) _ c.stop_of-number.ensures c.if-number-ne0.true _
+    steps_refused _ _ _ _ _ (told-sound (goal.at.returns-then-number-ne0 c).After-stop_of-number) _ c.stop_of-number.ensures
+    c.if-number-ne0.true _
 
 pub returns : goal.returns
 returns c =

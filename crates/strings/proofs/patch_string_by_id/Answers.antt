@@ -35,7 +35,8 @@ pub returns-then-not-is_utf8 : goal.returns-then-not-is_utf8
 returns-then-not-is_utf8 c =
     let a = c.args in
     id-value a.mode _ _ _ _ a.id a.value.now a.out.now _
-    (record { admits = admits (goal.at.returns-then-not-is_utf8 c).In-Laid; known = c.if-p-id.false; tested = c.is_utf8.ensures }) (ap not c.if-not-is_utf8.true)
+    (record { admits = admits (goal.at.returns-then-not-is_utf8 c).In-Laid; known = c.if-p-id.false; tested = c.is_utf8.ensures })
+    (ap not c.if-not-is_utf8.true)
 
 pub patch_one-requires : goal.patch_one-requires
 patch_one-requires c =
@@ -45,5 +46,6 @@ pub returns : goal.returns
 returns c =
     let a = c.args in
     id_known a.mode _ _ _ _ a.id a.value.now a.out.now _
-    (record { admits = admits (goal.at.returns c).In-Laid; known = c.if-p-id.false; tested = c.is_utf8.ensures }) (ap not c.if-not-is_utf8.false)
+    (record { admits = admits (goal.at.returns c).In-Laid; known = c.if-p-id.false; tested = c.is_utf8.ensures })
+    (ap not c.if-not-is_utf8.false)
     _ _ c.patch_one.ensures

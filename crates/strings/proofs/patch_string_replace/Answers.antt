@@ -55,7 +55,8 @@ returns-in_default c =
 pub returns-then-not-is_utf8 : goal.returns-then-not-is_utf8
 returns-then-not-is_utf8 c =
     let a = c.args in
-    old_value _ _ _ _ _ a.old.now a.new.now a.out.now _ (old-tested (goal.at.returns-then-not-is_utf8 c).After-is_utf8) (ap not c.if-not-is_utf8.true)
+    old_value _ _ _ _ _ a.old.now a.new.now a.out.now _ (old-tested (goal.at.returns-then-not-is_utf8 c).After-is_utf8)
+    (ap not c.if-not-is_utf8.true)
 
 pub returns-then-not-is_utf8-2 : goal.returns-then-not-is_utf8-2
 returns-then-not-is_utf8-2 c =
@@ -68,7 +69,8 @@ find-location-requires c =
 
 pub returns-in_default-location : goal.returns-in_default-location
 returns-in_default-location c =
-    value-absent _ _ _ _ _ _ _ _ _ _ _ (sought (goal.at.returns-in_default-location c).After-find-location) _ c.in_default-location.is _ c.number_of-in_default-location.ensures
+    value-absent _ _ _ _ _ _ _ _ _ _ _ (sought (goal.at.returns-in_default-location c).After-find-location) _ c.in_default-location.is _
+    c.number_of-in_default-location.ensures
 
 pub patch_one-requires : goal.patch_one-requires
 patch_one-requires c =

@@ -45,7 +45,8 @@ mark-requires c =
 pub returns-then-not-mark : goal.returns-then-not-mark
 returns-then-not-mark c =
     let a = c.args in
-    absent _ _ _ _ _ _ _ (marked (goal.at.returns-then-not-mark c).After-mark) a.mode a.out.now _ c.mark.ensures.value (ap not c.if-not-mark.true)
+    absent _ _ _ _ _ _ _ (marked (goal.at.returns-then-not-mark c).After-mark) a.mode a.out.now _ c.mark.ensures.value
+    (ap not c.if-not-mark.true)
 
 pub patch_stepwise-requires : goal.patch_stepwise-requires
 patch_stepwise-requires c = marked_all _ _ _ _ _ _ _ (marked (goal.at.patch_stepwise-requires c).After-mark)

@@ -78,7 +78,8 @@ clear-requires-2 c =
     omega (
       arith,
       part_within a.work.now c.apply-answer.new.work
-          (c.words_for-words.result * 3 + a.p.strings) (counted (goal.at.clear-requires-2 c).After-words_for-words).in_work c.apply-answer.auto.work,
+          (c.words_for-words.result * 3 + a.p.strings) (counted (goal.at.clear-requires-2 c).After-words_for-words).in_work
+          c.apply-answer.auto.work,
     )
 
 pub returns : goal.returns

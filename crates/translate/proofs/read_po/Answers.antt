@@ -32,7 +32,8 @@ pub returns-then-not-is_enough : goal.returns-then-not-is_enough
 returns-then-not-is_enough c =
     let a = c.args in
     let r = too_short a.mode a.layout a.image.now a.file.now a.text.now a.ends.now a.work.now a.out.now _
-    c.admit-admitted.ensures _ c.in-Laid.is (laid (goal.at.returns-then-not-is_enough c).In-Laid) _ c.is_enough.ensures (ap not c.if-not-is_enough.true) in
+    c.admit-admitted.ensures _ c.in-Laid.is (laid (goal.at.returns-then-not-is_enough c).In-Laid) _ c.is_enough.ensures
+    (ap not c.if-not-is_enough.true) in
     record { answers = r.0; leaves_space = r.1 }
 
 pub apply_in-requires : goal.apply_in-requires
