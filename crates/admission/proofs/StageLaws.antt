@@ -180,7 +180,8 @@ module _ (l : Layout) (s : List ℕ) where
   kinds_stage : from 4 ≡ pick (kinds_good l s) (from 6) 4
   unfolding checks judge kinds_good
   kinds_stage =
-      two (eqb (covered (kind_in l s) (kinds_in s)) (strings_in s)) (eqb (identified (kind_in l s) (kinds_in s)) (identifiers_in s)) 4 (from 6)
+      two (eqb (covered (kind_in l s) (kinds_in s)) (strings_in s)) (eqb (identified (kind_in l s) (kinds_in s)) (identifiers_in s)) 4
+      (from 6)
 
   strings_stage : from 6 ≡ pick (strings_good l s) (from 10) 5
   unfolding checks judge strings_good

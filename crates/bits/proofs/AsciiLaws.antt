@@ -1,5 +1,6 @@
 -- Bytes gathered by `or`, one test of what was gathered, and what the test says of each byte.
-use Rattle.std.proofs.Common.{◌≡◌, ℕ, ◌+◌, Bool, true, ltb, leb, List, length, get_or, sym, ◌∙◌, inl, inr, arith, ltb-false, ltb-true, le-ltb, lt-ltb, le-leb, leb-true}
+use Rattle.std.proofs.Common.{◌≡◌, ℕ, ◌+◌, Bool, true, ltb, leb, List, length, get_or, sym, ◌∙◌, inl, inr, arith, ltb-false}
+use Rattle.std.proofs.Common.{ltb-true, le-ltb, lt-ltb, le-leb, leb-true}
 use borrow.Author.Tests.{lt-leb}
 use lib.Bits.{bit_or, or_add_and, and_le_l, and_le_r, or_lt}
 use lib.ListN.{get_or-eq_default}

@@ -1,5 +1,8 @@
 -- Bytes and numbers, over the number of bytes.
-use Rattle.std.proofs.Common.{◌≡◌, ℕ, zero, suc, ◌+◌, ◌*◌, ◌/◌, ◌%◌, ◌^◌, ◌<◌, ◌≤◌, List, [], ◌∷◌, ◌++◌, length, get_or, take, drop, sym, refl, ap, ◌∙◌, le_of_suc-le-suc, not-suc-le-zero, add-zero, add_assoc, add-suc, mul_assoc, mul_comm, add-mul, add_comm, suc-add, pow-suc, zero-add, mul-one, arith, length-append, drop-cons}
+use Rattle.std.proofs.Common.{◌≡◌, ℕ, zero, suc, ◌+◌, ◌*◌, ◌/◌, ◌%◌, ◌^◌, ◌<◌, ◌≤◌, List, [], ◌∷◌, ◌++◌, length, get_or, take}
+use Rattle.std.proofs.Common.{drop, sym, refl, ap, ◌∙◌, le_of_suc-le-suc, not-suc-le-zero, add-zero, add_assoc, add-suc}
+use Rattle.std.proofs.Common.{mul_assoc, mul_comm, add-mul, add_comm, suc-add, pow-suc, zero-add, mul-one, arith, length-append}
+use Rattle.std.proofs.Common.{drop-cons}
 use native.Mathlib.Nat.{div-div-eq-div-mul, mul-add-mod_self_right, mul-add-div_right}
 use lib.ListN.{get_or-append}
 use lib.Pow.{high}

@@ -1,6 +1,7 @@
 -- A test that decides: what holds of the numbers where it is true, what is wrong with them where it is false, and back from each.
 -- A test that is put together of others decides what they decide.
-use Rattle.std.proofs.Common.{◌≡◌, ℕ, ◌<◌, ◌≤◌, Bool, true, false, not, eqb, leb, ◌≢◌, ◌⊎◌, refl, inl, inr, eq-eqb, ne_eqb, eqb-true, le-leb, leb-false, leb-true}
+use Rattle.std.proofs.Common.{◌≡◌, ℕ, ◌<◌, ◌≤◌, Bool, true, false, not, eqb, leb, ◌≢◌, ◌⊎◌, refl, inl, inr, eq-eqb, ne_eqb}
+use Rattle.std.proofs.Common.{eqb-true, le-leb, leb-false, leb-true}
 use borrow.Author.Tests.{lt-leb, eqb-false, not-true, not-false}
 use Rattle.bits.specs.Choice.{both, implies, all_below}
 use Rattle.bits.proofs.TestLaws.{both_0, both_1, both_of, both_false, imp_use, imp_of, imp_false, all_at, all_of}

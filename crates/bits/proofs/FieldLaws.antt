@@ -1,5 +1,6 @@
 -- Bit fields of a number: a field that was put is read back, and every other stays.
-use Rattle.std.proofs.Common.{◌≡◌, ℕ, ◌+◌, ◌-◌, ◌*◌, ◌/◌, ◌%◌, ◌^◌, ◌<◌, ◌≤◌, sym, ap, ◌∙◌, add_assoc, mod-lt, mul_assoc, add-mul, arith, pow_pos, pow-add, shr-shr, shr_lt}
+use Rattle.std.proofs.Common.{◌≡◌, ℕ, ◌+◌, ◌-◌, ◌*◌, ◌/◌, ◌%◌, ◌^◌, ◌<◌, ◌≤◌, sym, ap, ◌∙◌, add_assoc, mod-lt, mul_assoc, add-mul}
+use Rattle.std.proofs.Common.{arith, pow_pos, pow-add, shr-shr, shr_lt}
 use native.Mathlib.Nat.{mul-add-div_right, mul-add-mod_self_right}
 use lib.Arith.{digits_lt}
 use lib.Pow.{high, low, split, field, mod-mod-pow, mod-pow-add}

@@ -1,5 +1,6 @@
 -- Checks judged in order. Where their numbers never go down, the answer is the least number of a check that is met.
-use Rattle.std.proofs.Common.{◌≡◌, ℕ, ◌<◌, ◌≤◌, Bool, true, false, eqb, ltb, leb, ◌⊎◌, ◌↔◌, List, [], ◌∷◌, ◌++◌, refl, inl, inr, arith, ltb-true, ne_eqb, eqb-true, le-leb, leb-true}
+use Rattle.std.proofs.Common.{◌≡◌, ℕ, ◌<◌, ◌≤◌, Bool, true, false, eqb, ltb, leb, ◌⊎◌, ◌↔◌, List, [], ◌∷◌, ◌++◌, refl, inl, inr}
+use Rattle.std.proofs.Common.{arith, ltb-true, ne_eqb, eqb-true, le-leb, leb-true}
 use Rattle.bits.specs.Choice.{pick, both, either, Check, judge}
 use Rattle.bits.proofs.TestLaws.{both_0, both_1, either_or, either_true, below_or}
 

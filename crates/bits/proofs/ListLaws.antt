@@ -1,5 +1,6 @@
 -- Lists: what stands behind another list, and bounds that every element meets.
-use Rattle.std.proofs.Common.{◌≡◌, ℕ, zero, suc, ◌+◌, ◌/◌, ◌<◌, List, [], ◌∷◌, ◌++◌, length, get_or, take, drop, set, replicate, arith, get_or-drop, get_or-append-add}
+use Rattle.std.proofs.Common.{◌≡◌, ℕ, zero, suc, ◌+◌, ◌/◌, ◌<◌, List, [], ◌∷◌, ◌++◌, length, get_or, take, drop, set, replicate}
+use Rattle.std.proofs.Common.{arith, get_or-drop, get_or-append-add}
 use lib.Seq.{sets}
 use Rattle.bits.specs.Bytes.{bytes_of}
 

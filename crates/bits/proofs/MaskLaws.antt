@@ -1,5 +1,6 @@
 -- Masks and shifts at 64 bits, over the place and the width: what the code of a bit field computes.
-use Rattle.std.proofs.Common.{◌≡◌, ℕ, ◌+◌, ◌-◌, ◌*◌, ◌/◌, ◌%◌, ◌^◌, ◌<◌, ◌≤◌, sym, ap, ◌∙◌, mod-lt, one-mul, zero-add, zero-mul, sub-add_cancel, arith, pow_pos, pow_mono, shl_lt, shl_exact}
+use Rattle.std.proofs.Common.{◌≡◌, ℕ, ◌+◌, ◌-◌, ◌*◌, ◌/◌, ◌%◌, ◌^◌, ◌<◌, ◌≤◌, sym, ap, ◌∙◌, mod-lt, one-mul, zero-add, zero-mul}
+use Rattle.std.proofs.Common.{sub-add_cancel, arith, pow_pos, pow_mono, shl_lt, shl_exact}
 use lib.Pow.{high_ones, split, shr_mod, mod-mod-pow}
 use lib.Bits.{bit_and, bit_or, and_mask, and_block, or_block, or_zero_r, or_shifted, or_shifted_r}
 use Rattle.bits.specs.Fields.{with_field}

@@ -1,5 +1,7 @@
 -- A contract that gives the answer and the buffer by equations admits one outcome; what the room of a lent buffer does to it.
-use Rattle.std.proofs.Common.{◌≡◌, ℕ, ◌<◌, ◌≤◌, List, [], ◌++◌, length, take, drop, sym, refl, ap, ◌∙◌, append-nil, le_of_suc-le-suc, lt_of_not-le, zero-add, arith, drop_of_length-le, length-take-le, le-ltb, lt-ltb, ne_eqb}
+use Rattle.std.proofs.Common.{◌≡◌, ℕ, ◌<◌, ◌≤◌, List, [], ◌++◌, length, take, drop, sym, refl, ap, ◌∙◌, append-nil}
+use Rattle.std.proofs.Common.{le_of_suc-le-suc, lt_of_not-le, zero-add, arith, drop_of_length-le, length-take-le, le-ltb, lt-ltb}
+use Rattle.std.proofs.Common.{ne_eqb}
 use borrow.Rule.Slice.PartMut.{put_mid}
 use lib.Seq.{sets, sets-eq}
 use Rattle.bits.specs.declared.Answer.{Answer}

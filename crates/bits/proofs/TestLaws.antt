@@ -1,5 +1,7 @@
 -- Tests and what they say, both ways.
-use Rattle.std.proofs.Common.{◌≡◌, ℕ, zero, suc, ◌+◌, ◌-◌, ◌*◌, ◌<◌, ◌≤◌, Bool, true, false, eqb, ltb, ◌⊎◌, sym, refl, ◌∙◌, inl, inr, not-suc-le-zero, add-zero, add_assoc, add-suc, suc-mul, zero-mul, add-one, arith, ltb-false, ltb-true, eqb-true}
+use Rattle.std.proofs.Common.{◌≡◌, ℕ, zero, suc, ◌+◌, ◌-◌, ◌*◌, ◌<◌, ◌≤◌, Bool, true, false, eqb, ltb, ◌⊎◌, sym, refl, ◌∙◌, inl}
+use Rattle.std.proofs.Common.{inr, not-suc-le-zero, add-zero, add_assoc, add-suc, suc-mul, zero-mul, add-one, arith, ltb-false}
+use Rattle.std.proofs.Common.{ltb-true, eqb-true}
 use borrow.Author.Tests.{eqb-false}
 use Rattle.bits.specs.Choice.{pick, both, either, implies, all_below, sum_below}
 

@@ -1,5 +1,8 @@
 -- Writes to a list: one read back, one apart from what is read, one after the other, one within the other, one to a lent part.
-use Rattle.std.proofs.Common.{◌≡◌, ℕ, zero, suc, ◌+◌, ◌^◌, ◌<◌, ◌≤◌, eqb, List, [], ◌∷◌, ◌++◌, length, get_or, take, drop, set, replicate, sym, refl, ap, ◌∙◌, inl, inr, append_assoc, append-nil, not-suc-le-zero, add-zero, add-suc, suc-add, zero-add, add-one, arith, length-drop, length-set, take-append-drop, drop_of_length-le, length-take-le, take_all, get_or-set_other, get_or-set_same, eqb-true}
+use Rattle.std.proofs.Common.{◌≡◌, ℕ, zero, suc, ◌+◌, ◌^◌, ◌<◌, ◌≤◌, eqb, List, [], ◌∷◌, ◌++◌, length, get_or, take, drop, set}
+use Rattle.std.proofs.Common.{replicate, sym, refl, ap, ◌∙◌, inl, inr, append_assoc, append-nil, not-suc-le-zero, add-zero}
+use Rattle.std.proofs.Common.{add-suc, suc-add, zero-add, add-one, arith, length-drop, length-set, take-append-drop}
+use Rattle.std.proofs.Common.{drop_of_length-le, length-take-le, take_all, get_or-set_other, get_or-set_same, eqb-true}
 use borrow.Author.Tests.{eqb-false}
 use borrow.Rule.Slice.PartMut.{put_mid}
 use lib.ListN.{length-replicate, get_or-replicate}
@@ -50,7 +53,8 @@ bytes_at_back vs s at h = bytes_at-is (sets s at vs) vs at (length vs) refl (λ 
 pub number_at_back : (s : List ℕ) (at n x : ℕ) → at + n ≤ length s → x < 256 ^ n → number_at (sets s at (bytes_of n x)) at n ≡ x
 number_at_back s at n x h k =
     let l : length (bytes_of n x) ≡ n = length-bytes_of n x in
-    ap number (bytes_at-is (sets s at (bytes_of n x)) (bytes_of n x) at n l (λ j g. sets_in (bytes_of n x) s at j (omega arith) (omega arith)))
+    ap number (bytes_at-is (sets s at (bytes_of n x)) (bytes_of n x) at n l
+    (λ j g. sets_in (bytes_of n x) s at j (omega arith) (omega arith)))
     ∙ number_back n x k
 
 -- a number of m bytes apart from the n bytes that are written is as it was

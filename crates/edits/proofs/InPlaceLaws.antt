@@ -131,7 +131,8 @@ module _ (l : Layout) (s : List ℕ) (at : ℕ) (vs : List ℕ) (ip : InPlace l 
   unfolding hash_in
   put-hash r d =
       rw (hashes_at-same l s t (counts_of l s t put_same.tabled.words))
-      (number_agree s t (hashes_at l s + r * 4) (hashes_at l s + r * 4 + 4) (put_agree vs s at _ _ d) (hashes_at l s + r * 4) 4 (omega arith)
+      (number_agree s t (hashes_at l s + r * 4) (hashes_at l s + r * 4 + 4) (put_agree vs s at _ _ d) (hashes_at l s + r * 4) 4
+      (omega arith)
       (omega arith))
 
   pub put_identifier : (i : ℕ) → is_identifier l t i ≡ is_identifier l s i

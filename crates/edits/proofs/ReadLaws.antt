@@ -86,7 +86,8 @@ module _ (l : Layout) (s t : List ℕ) (counts : Agree s t (table.function_count
   pub hash_same : Agree s t (hashes_at l s) (small_at l s) → (r : ℕ) → r < identifiers_in s → hash_in l t r ≡ hash_in l s r
   unfolding hash_in
   hash_same hashes r h =
-      rw hashes_at-same (number_agree s t (hashes_at l s) (small_at l s) hashes (hashes_at l s + r * 4) 4 (omega arith) (hash_in_lem l s r h))
+      rw hashes_at-same (number_agree s t (hashes_at l s) (small_at l s) hashes (hashes_at l s + r * 4) 4 (omega arith)
+      (hash_in_lem l s r h))
 
   -- ---- kinds
 
@@ -94,7 +95,8 @@ module _ (l : Layout) (s t : List ℕ) (counts : Agree s t (table.function_count
     kind_same : (k : ℕ) → k < kinds_in s → kind_in l t k ≡ kind_in l s k
     unfolding kind_in
     kind_same k h =
-        rw kinds_at-same (number_agree s t (kinds_at l s) (hashes_at l s) kinds (kinds_at l s + k * 4) 4 (omega arith) (kind_in_lem l s k h))
+        rw kinds_at-same (number_agree s t (kinds_at l s) (hashes_at l s) kinds (kinds_at l s + k * 4) 4 (omega arith)
+        (kind_in_lem l s k h))
 
     pub covered_all : covered (kind_in l t) (kinds_in t) ≡ covered (kind_in l s) (kinds_in s)
     covered_all = rw kind_count-same (covered_ext (kind_in l t) (kind_in l s) (kinds_in s) kind_same)

@@ -19,7 +19,8 @@ use Rattle.image.specs.Sections.{strings_in, overflows_in, storage_in, small_at,
 use Rattle.image.specs.Strings.{is_full, over_before, small_in, over_in, place_at, unit_size, size_of, Str, string_of}
 use Rattle.edits.specs.Packing.{count_of, Packed, Carries}
 use Rattle.edits.specs.Rebuild.{smalls, pair_of, pairs, overs, region}
-use Rattle.edits.proofs.TableLaws.{length_pair, pair_offset, pair_length, overs-lt, size-smalls, size-pairs, small_at as small_entry_at, pair_at}
+use Rattle.edits.proofs.TableLaws.{length_pair, pair_offset, pair_length, overs-lt, size-smalls, size-pairs}
+use Rattle.edits.proofs.TableLaws.{small_at as small_entry_at, pair_at}
 use Rattle.edits.proofs.TableLaws.{TablesRead, located, before_is, full_is, index_is}
 use Rattle.edits.proofs.RebuildLaws.{Valid}
 

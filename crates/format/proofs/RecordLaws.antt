@@ -81,6 +81,7 @@ pointer_back (Legacy big sources) p n h =
 
 pub pointer-lt : (l : Layout) (p n : ℕ) → n < 256 ^ (record_row l).width → put_pointer l p n < 256 ^ (record_row l).width
 unfolding put_pointer
-pointer-lt Modern p n h = with_lt (with_value modern_pointer_low p n) 46 8 (p / 2 ^ 24) 96 (omega arith) (with_lt n 0 24 p 96 (omega arith) h)
+pointer-lt Modern p n h = with_lt (with_value modern_pointer_low p n) 46 8 (p / 2 ^ 24) 96 (omega arith)
+    (with_lt n 0 24 p 96 (omega arith) h)
 pointer-lt (Legacy big sources) p n h =
     with_lt (with_value legacy_offset (p % 2 ^ 16) n) 64 25 (p / 2 ^ 16) 128 (omega arith) (with_lt n 0 25 (p % 2 ^ 16) 128 (omega arith) h)

@@ -11,7 +11,8 @@ use Rattle.format.specs.Number.{number_held}
 use Rattle.format.specs.Entry.{Place}
 use Rattle.footer.specs.Footer.{footer_length}
 use Rattle.footer.specs.Finalize.{size_limit}
-use Rattle.image.specs.Sections.{functions_in, kinds_in, identifiers_in, strings_in, overflows_in, storage_in, debug_in, storage_at, tail_at}
+use Rattle.image.specs.Sections.{functions_in, kinds_in, identifiers_in, strings_in, overflows_in, storage_in, debug_in}
+use Rattle.image.specs.Sections.{storage_at, tail_at}
 use Rattle.image.specs.Strings.{is_full, over_before, small_in, place_at, size_of}
 use Rattle.image.specs.Kinds.{kind_in, covered, identified}
 use Rattle.image.specs.Functions.{Func, func_of}

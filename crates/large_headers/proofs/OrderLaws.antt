@@ -142,13 +142,15 @@ module _ (w : ℕ) (fs : ℕ → Func) (n : ℕ) (o : ordered w fs n ≡ true) w
   behind : (i : ℕ) → Header fs n i → headers_end w fs i ≤ (fs i).ptr
   unfolding ordered ascends_at
   behind i x =
-      let a : all_below n (ascends_at w fs) ≡ true = both_0 (all_below n (ascends_at w fs)) (leb (bodies_end fs n) (headers_start fs n)) o in
+      let a : all_below n (ascends_at w fs) ≡ true = both_0 (all_below n (ascends_at w fs)) (leb (bodies_end fs n) (headers_start fs n))
+      o in
       leb-true (headers_end w fs i) (fs i).ptr (imp_use (fs i).large _ (all_at (ascends_at w fs) n i a x.known) x.large)
 
   bodies_first : bodies_end fs n ≤ headers_start fs n
   unfolding ordered
   bodies_first =
-      leb-true (bodies_end fs n) (headers_start fs n) (both_1 (all_below n (ascends_at w fs)) (leb (bodies_end fs n) (headers_start fs n)) o)
+      leb-true (bodies_end fs n) (headers_start fs n)
+      (both_1 (all_below n (ascends_at w fs)) (leb (bodies_end fs n) (headers_start fs n)) o)
 
   -- each large header ends where the pass says, or before
   ends : (i j : ℕ) → i ≤ n → Header fs i j → (fs j).ptr + w ≤ headers_end w fs i

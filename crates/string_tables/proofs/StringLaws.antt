@@ -138,7 +138,8 @@ module _ (l : Layout) (s : List ℕ) (c : over_before (small_in l s) (strings_in
       go true k = rw (lt-ltb (over_before (small_in l s) i) (overflows_in s) (omega arith))
       go false k = refl
 
-  entries_are : all_below (strings_in s) (entry_good_at l s) ≡ both (overflows_numbered l s) (both (strings_stored l s) (strings_narrow l s))
+  entries_are : all_below (strings_in s) (entry_good_at l s)
+      ≡ both (overflows_numbered l s) (both (strings_stored l s) (strings_narrow l s))
   unfolding entry_good_at entry_good stored overflows_numbered strings_stored strings_narrow place_at locate
   entries_are =
       all_both (λ i. numbered (overflows_in s) (over_before (small_in l s) i) (small_in l s i)) (λ i. stored l s (place_at l s i))
@@ -151,7 +152,8 @@ module _ (l : Layout) (s : List ℕ) (c : over_before (small_in l s) (strings_in
       (strings_in s))
 
 all_strings : (l : Layout) (s : List ℕ)
-    → both (all_below (strings_in s) (entry_good_at l s)) (eqb (over_before (small_in l s) (strings_in s)) (overflows_in s)) ≡ strings_good l s
+    → both (all_below (strings_in s) (entry_good_at l s)) (eqb (over_before (small_in l s) (strings_in s)) (overflows_in s))
+    ≡ strings_good l s
 unfolding strings_good overflows_counted
 all_strings l s = go (eqb (over_before (small_in l s) (strings_in s)) (overflows_in s)) refl
   where

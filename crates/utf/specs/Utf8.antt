@@ -1,7 +1,8 @@
 -- Well-formed UTF-8 and its UTF-16 units, one byte at a time. The Unicode Standard, Table 3-7, Well-Formed UTF-8 Byte Sequences,
 -- and Table 3-5, UTF-16 Bit Distribution.
 -- docs/FORMAT.md: Values.
-use Rattle.std.specs.Prelude.{◌≡◌, Bool, true, false, List, [], ◌∷◌, ◌++◌, ℕ, ◌+◌, ◌-◌, ◌*◌, ◌/◌, ◌%◌, ◌^◌, ◌≤◌, leb, ltb, eqb, length, drop}
+use Rattle.std.specs.Prelude.{◌≡◌, Bool, true, false, List, [], ◌∷◌, ◌++◌, ℕ, ◌+◌, ◌-◌, ◌*◌, ◌/◌, ◌%◌, ◌^◌, ◌≤◌, leb, ltb, eqb}
+use Rattle.std.specs.Prelude.{length, drop}
 use Rattle.bits.specs.Choice.{pick, both}
 use Rattle.bits.specs.Bytes.{bytes_of}
 use Rattle.utf.specs.declared.Reading.{Reading}

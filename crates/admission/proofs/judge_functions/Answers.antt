@@ -12,7 +12,8 @@ functions_in_lem : (c : Else-not-are_functions_in_tail) → let a = c.args in fu
 functions_in_lem c = functions_are_in c.args.p _ _ c.are_functions_in_tail.ensures (ap not c.if-not-are_functions_in_tail.false)
 
 in_tail : (c : Else-not-is_debug_in_tail) → let a = c.args in InTail a.p.layout a.image.now
-in_tail c = is-in-tail c.args.p _ (functions_are_in c.args.p _ _ c.are_functions_in_tail.ensures (ap not c.if-not-are_functions_in_tail.false)) _
+in_tail c = is-in-tail c.args.p _ (functions_are_in c.args.p _ _ c.are_functions_in_tail.ensures
+    (ap not c.if-not-are_functions_in_tail.false)) _
     c.is_debug_in_tail.ensures (ap not c.if-not-is_debug_in_tail.false)
 
 pub returns-then-not-are_functions_in_tail : goal.returns-then-not-are_functions_in_tail
@@ -20,20 +21,27 @@ returns-then-not-are_functions_in_tail c = not_in_tail _ _ _ c.are_functions_in_
 
 pub returns-then-not-is_debug_in_tail : goal.returns-then-not-is_debug_in_tail
 returns-then-not-is_debug_in_tail c =
-    bad_debug _ _ (functions_in_lem (goal.at.returns-then-not-is_debug_in_tail c).Else-not-are_functions_in_tail) _ c.is_debug_in_tail.ensures (ap not c.if-not-is_debug_in_tail.true)
+    bad_debug _ _ (functions_in_lem (goal.at.returns-then-not-is_debug_in_tail c).Else-not-are_functions_in_tail) _
+    c.is_debug_in_tail.ensures (ap not c.if-not-is_debug_in_tail.true)
 
 pub are_headers_apart-requires : goal.are_headers_apart-requires
 are_headers_apart-requires c =
     let p = c.requires in
     record {
-      readable = (p.fits, headers_are_in c.args.p _ (functions_in_lem (goal.at.are_headers_apart-requires c).Else-not-are_functions_in_tail));
+      readable = (
+        p.fits,
+        headers_are_in c.args.p _
+            (functions_in_lem (goal.at.are_headers_apart-requires c).Else-not-are_functions_in_tail),
+      );
       n_value = (sectioned c.args.p _ p).functions;
     }
 
 pub returns-then-not-are_headers_apart : goal.returns-then-not-are_headers_apart
 returns-then-not-are_headers_apart c =
-    not-apart _ _ (in_tail (goal.at.returns-then-not-are_headers_apart c).Else-not-is_debug_in_tail) _ c.are_headers_apart.ensures (ap not c.if-not-are_headers_apart.true)
+    not-apart _ _ (in_tail (goal.at.returns-then-not-are_headers_apart c).Else-not-is_debug_in_tail) _ c.are_headers_apart.ensures
+    (ap not c.if-not-are_headers_apart.true)
 
 pub returns : goal.returns
 returns c =
-    good_functions _ _ (in_tail (goal.at.returns c).Else-not-is_debug_in_tail) _ c.are_headers_apart.ensures (ap not c.if-not-are_headers_apart.false)
+    good_functions _ _ (in_tail (goal.at.returns c).Else-not-is_debug_in_tail) _ c.are_headers_apart.ensures
+    (ap not c.if-not-are_headers_apart.false)

@@ -15,8 +15,10 @@ returns-then-not-are_kinds_good c = bad_kinds _ _ _ c.are_kinds_good.ensures (ap
 
 pub returns-then-not-are_strings_good : goal.returns-then-not-are_strings_good
 returns-then-not-are_strings_good c =
-    bad_strings _ _ (kinds-are (goal.at.returns-then-not-are_strings_good c).Else-not-are_kinds_good) _ c.are_strings_good.ensures (ap not c.if-not-are_strings_good.true)
+    bad_strings _ _ (kinds-are (goal.at.returns-then-not-are_strings_good c).Else-not-are_kinds_good) _ c.are_strings_good.ensures
+    (ap not c.if-not-are_strings_good.true)
 
 pub returns : goal.returns
 returns c =
-    good_strings _ _ (kinds-are (goal.at.returns c).Else-not-are_kinds_good) _ c.are_strings_good.ensures (ap not c.if-not-are_strings_good.false)
+    good_strings _ _ (kinds-are (goal.at.returns c).Else-not-are_kinds_good) _ c.are_strings_good.ensures
+    (ap not c.if-not-are_strings_good.false)

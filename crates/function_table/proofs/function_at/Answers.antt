@@ -20,8 +20,10 @@ small : (c : Else-is_large) → let a = c.args in
 small c = record { number = c.record_of-words.ensures; flag = sym c.is_large.ensures ∙ c.if-is_large.false }
 
 pub large_function-requires : goal.large_function-requires
-large_function-requires c =
-    (header-fits (large (goal.at.large_function-requires c).After-pointer_of) c.requires.readable.1 c.requires.i_bound, c.requires.readable.0.most)
+large_function-requires c = (
+  header-fits (large (goal.at.large_function-requires c).After-pointer_of) c.requires.readable.1 c.requires.i_bound,
+  c.requires.readable.0.most,
+)
 
 pub returns-then-is_large : goal.returns-then-is_large
 returns-then-is_large c =

@@ -24,8 +24,10 @@ judged c = record {
 }
 
 pub returns-then-not-is_large : goal.returns-then-not-is_large
-returns-then-not-is_large c =
-    (small_found _ _ _ _ (small (goal.at.returns-then-not-is_large c).Then-not-is_large) _ c.small_function.ensures.0, c.small_function.ensures.1)
+returns-then-not-is_large c = (
+  small_found _ _ _ _ (small (goal.at.returns-then-not-is_large c).Then-not-is_large) _ c.small_function.ensures.0,
+  c.small_function.ensures.1,
+)
 
 pub returns-in_default : goal.returns-in_default
 returns-in_default c = (pointer_refused (judged (goal.at.returns-in_default c).After-judged_pointer-judged) _ c.in_default.is, tt)

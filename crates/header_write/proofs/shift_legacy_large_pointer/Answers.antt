@@ -22,7 +22,8 @@ returns-then-slot-width c = slot_short legacy_record.width _ _ (omega arith)
 
 pub returns-in_default : goal.returns-in_default
 returns-in_default c =
-    slot_beyond legacy_record.width _ _ (omega arith) (sym (ap as_edited c.in_default.is) ∙ moved-is (goal.at.returns-in_default c).After-shift_legacy_pointer-moved)
+    slot_beyond legacy_record.width _ _ (omega arith)
+    (sym (ap as_edited c.in_default.is) ∙ moved-is (goal.at.returns-in_default c).After-shift_legacy_pointer-moved)
 
 pub returns : goal.returns
 returns c =

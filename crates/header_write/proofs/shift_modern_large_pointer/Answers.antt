@@ -20,7 +20,8 @@ returns-then-slot-width c = slot_short modern_record.width _ _ (omega arith)
 
 pub returns-in_default : goal.returns-in_default
 returns-in_default c =
-    slot_beyond modern_record.width _ _ (omega arith) (sym (ap as_edited c.in_default.is) ∙ moved-is (goal.at.returns-in_default c).After-shift_modern_pointer-moved)
+    slot_beyond modern_record.width _ _ (omega arith)
+    (sym (ap as_edited c.in_default.is) ∙ moved-is (goal.at.returns-in_default c).After-shift_modern_pointer-moved)
 
 pub returns : goal.returns
 returns c =

@@ -60,8 +60,11 @@ returns-then-not-is_clear_of c =
 
 pub loop-i-preserved : goal.loop-i-preserved
 loop-i-preserved c =
-    let l = c.loop-i in
-    (omega arith, pass_next _ l.i _ (clear_at_lem (turn (goal.at.loop-i-preserved c).After-is_clear_of)) (ap not c.if-not-is_clear_of.false) l.invariant.1)
+    let l = c.loop-i in (
+      omega arith,
+      pass_next _ l.i _ (clear_at_lem (turn (goal.at.loop-i-preserved c).After-is_clear_of))
+          (ap not c.if-not-is_clear_of.false) l.invariant.1,
+    )
 
 pub returns : goal.returns
 returns c =

@@ -26,7 +26,8 @@ with_exact-placed-requires c =
     let a = c.args in
     record {
       k_value = search rules;
-      v_bound = sum_lt legacy_offset.width a.delta _ _ (sym (offset-is (goal.at.with_exact-placed-requires c).After-field_sum-offset_sum) ∙ c.in-Fits.is);
+      v_bound = sum_lt legacy_offset.width a.delta _ _
+          (sym (offset-is (goal.at.with_exact-placed-requires c).After-field_sum-offset_sum) ∙ c.in-Fits.is);
     }
 
 pub returns-in_default-moved_info : goal.returns-in_default-moved_info

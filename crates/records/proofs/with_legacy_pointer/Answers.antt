@@ -15,5 +15,8 @@ put c = rw
     (c.with_value.ensures, c.with_value-low.ensures, c.field.ensures.0, c.width-half.ensures, field-front)
 
 pub returns : goal.returns
-returns c =
-    (put (goal.at.returns c).After-with_value, rw (put (goal.at.returns c).After-with_value) (pointer_back (Legacy false false) c.args.p (whole c.args.w) c.requires))
+returns c = (
+  put (goal.at.returns c).After-with_value,
+  rw (put (goal.at.returns c).After-with_value)
+      (pointer_back (Legacy false false) c.args.p (whole c.args.w) c.requires),
+)

@@ -12,5 +12,8 @@ unfolding put_pointer
 put c = rw (c.with_value.ensures, c.with_value-low.ensures, c.width-half.ensures)
 
 pub returns : goal.returns
-returns c =
-    (put (goal.at.returns c).After-with_value, rw (put (goal.at.returns c).After-with_value) (pointer_back Modern c.args.p (whole c.args.w) c.requires))
+returns c = (
+  put (goal.at.returns c).After-with_value,
+  rw (put (goal.at.returns c).After-with_value)
+      (pointer_back Modern c.args.p (whole c.args.w) c.requires),
+)

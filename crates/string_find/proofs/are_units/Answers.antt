@@ -44,11 +44,13 @@ pub are_next-requires : goal.are_next-requires
 are_next-requires c =
     let a = c.args in
     room_less a.wide a.start _ (length (utf16 a.value.now)) _
-    (omega (arith, count_left _ _ _ _ _ _ _ _ _ _ (turn (goal.at.are_next-requires c).After-completed-units) _ c.loop-i.invariant.2)) c.requires
+    (omega (arith, count_left _ _ _ _ _ _ _ _ _ _ (turn (goal.at.are_next-requires c).After-completed-units) _ c.loop-i.invariant.2))
+    c.requires
 
 pub returns-then-not-are_next : goal.returns-then-not-are_next
 returns-then-not-are_next c =
-    differs _ _ _ _ _ _ _ _ _ _ (turn (goal.at.returns-then-not-are_next c).After-completed-units) _ c.are_next.ensures (ap not c.if-not-are_next.true)
+    differs _ _ _ _ _ _ _ _ _ _ (turn (goal.at.returns-then-not-are_next c).After-completed-units) _ c.are_next.ensures
+    (ap not c.if-not-are_next.true)
 
 pub count_of-j-requires : goal.count_of-j-requires
 count_of-j-requires c = tt

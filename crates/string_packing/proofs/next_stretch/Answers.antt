@@ -45,6 +45,7 @@ pub returns : goal.returns
 returns c =
     let (k, x, small) = comes (goal.at.returns c).After-shape_of-new in
     record {
-      stretch_of = stretch_rest _ _ c.args.from c.args.strings _ _ k x small c.requires.from_lt_strings.1 c.requires.from_lt_strings.0 c.if-next-strings.false;
+      stretch_of = stretch_rest _ _ c.args.from c.args.strings _ _ k x small c.requires.from_lt_strings.1 c.requires.from_lt_strings.0
+          c.if-next-strings.false;
       within = stands (goal.at.returns c).After-next_edit-next;
     }

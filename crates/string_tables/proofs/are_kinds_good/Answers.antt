@@ -10,7 +10,9 @@ covered_by-found-requires c =
     (omega arith, omega arith)
 
 pub returns-then-found-p : goal.returns-then-found-p
-returns-then-found-p c = strings_differ _ _ c.requires _ _ (c.covered_by-found.ensures.strings_value, c.covered_by-found.ensures.identifiers_value) c.if-found-p.true
+returns-then-found-p c = strings_differ _ _ c.requires _ _
+    (c.covered_by-found.ensures.strings_value, c.covered_by-found.ensures.identifiers_value) c.if-found-p.true
 
 pub returns : goal.returns
-returns c = strings_agree _ _ c.requires _ _ (c.covered_by-found.ensures.strings_value, c.covered_by-found.ensures.identifiers_value) c.if-found-p.false
+returns c = strings_agree _ _ c.requires _ _ (c.covered_by-found.ensures.strings_value, c.covered_by-found.ensures.identifiers_value)
+    c.if-found-p.false

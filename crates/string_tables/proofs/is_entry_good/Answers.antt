@@ -12,7 +12,11 @@ returns-then-not-is_numbered c = entry_misnumbered _ _ _ _ _ c.requires.placed c
 pub read_place-read-requires : goal.read_place-read-requires
 read_place-read-requires c =
     let h = sectioned c.args.p c.args.image.now c.requires.placed in
-    let n = has_pair _ _ _ _ _ (record { placed = c.requires.placed; tested = c.is_numbered.ensures; good = (ap not c.if-not-is_numbered.false) }) in
+    let n = has_pair _ _ _ _ _ (record {
+      placed = c.requires.placed;
+      tested = c.is_numbered.ensures;
+      good = (ap not c.if-not-is_numbered.false);
+    }) in
     record {
       pairs_bound = (omega arith, omega arith);
       width_in_bounds = n;

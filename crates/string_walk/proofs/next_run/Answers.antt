@@ -33,5 +33,8 @@ overflow_add-result-3 c =
 
 pub returns : goal.returns
 returns c =
-    let h = c.requires in
-    (next_is _ _ _ (record { laid = h.laid; run = h.run_of.0 }) _ _ _ _ (read (goal.at.returns c).After-is_identifier_run-identifier) c.if_set.ensures.0, refl)
+    let h = c.requires in (
+      next_is _ _ _ (record { laid = h.laid; run = h.run_of.0 }) _ _ _ _ (read (goal.at.returns c).After-is_identifier_run-identifier)
+          c.if_set.ensures.0,
+      refl,
+    )

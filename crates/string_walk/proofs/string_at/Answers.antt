@@ -46,7 +46,12 @@ returns c =
     let e = step (goal.at.returns c).After-visit-step in
     let r = c.run_of-run.ensures in
     record {
-      string = record { place = e.place; start = refl; rank = c.rank_in.ensures ∙ rank_is _ _ _ _ (covers (goal.at.returns c).After-run_of-run) };
+      string = record {
+        place = e.place;
+        start = refl;
+        rank = c.rank_in.ensures
+            ∙ rank_is _ _ _ _ (covers (goal.at.returns c).After-run_of-run);
+      };
       next = record { walked = e.walked; run = r.0; reached = omega (arith, e.next) };
       id = e.next;
     }
