@@ -1,4 +1,5 @@
 -- Admission's answer taken apart: what an image that is laid out promises, and how further checks follow those of admission.
+use Rattle.std.specs.Prelude.{Err, Ok, Result}
 use mathlib.Core.Path.{◌≡◌, refl, sym, ◌∙◌, ap, subst⁻¹}
 use mathlib.Core.Bool.{Bool, true, false}
 use mathlib.Core.List.{List, ◌++◌}
@@ -17,8 +18,6 @@ use Rattle.image.proofs.AdmitLaws.{admitted}
 use Rattle.sections.specs.declared.Places.{Places}
 use Rattle.sections.specs.Places.{places_of, Placed}
 use Rattle.sections.specs.Places as places
-use Rattle.admission.specs.declared.Admission.{Admission}
-use Rattle.admission.specs.declared.Admission.TheVariants.{Laid, Refused}
 use Rattle.admission.specs.Admission.{admission}
 
 module _ (l : Layout) (s : List ℕ) where
@@ -37,30 +36,30 @@ module _ (l : Layout) (s : List ℕ) where
 
   -- ---- the answer of admission
 
-  module _ (r : Admission) (e : r ≡ admission l s) where
-    pub refused_is : (k : ℕ) → r ≡ Refused k → (refusal l s ≡ k) × (0 < k)
+  module _ (r : Result Places ℕ) (e : r ≡ admission l s) where
+    pub refused_is : (k : ℕ) → r ≡ Err k → (refusal l s ≡ k) × (0 < k)
     unfolding admission
     refused_is k f =
         let (h, q)
         =
-        is-refused (refusal l s) (Laid (places_of l s)) Refused (Refused k) (sym e ∙ f)
+        is-refused (refusal l s) (Ok (places_of l s)) Err (Err k) (sym e ∙ f)
         (λ z. let y : ◌≡◌ {A = ℕ} 0 1 = cc in omega arith) in
         let z : refusal l s ≡ k = cc in
         (z, omega arith)
 
     -- the checks behind those of admission do not count
-    pub refused_then : (k : ℕ) → r ≡ Refused k → (ds : List Check) → judge (checks l s ++ ds) ≡ k
+    pub refused_then : (k : ℕ) → r ≡ Err k → (ds : List Check) → judge (checks l s ++ ds) ≡ k
     refused_then k f ds =
         let (z, h) = refused_is k f in
         judged_then ds ∙ rw (z, ne_eqb k 0 (λ y. omega arith))
 
-    module _ (p : Places) (f : r ≡ Laid p) where
+    module _ (p : Places) (f : r ≡ Ok p) where
       pub laid-is : (refusal l s ≡ 0) × (p ≡ places_of l s)
       unfolding admission
       laid-is =
           let (z, q)
           =
-          is_found (refusal l s) (Laid (places_of l s)) Refused (Laid p) (sym e ∙ f)
+          is_found (refusal l s) (Ok (places_of l s)) Err (Ok p) (sym e ∙ f)
           (λ k z. let y : ◌≡◌ {A = ℕ} 0 1 = cc in omega arith) in
           (z, cc)
 

@@ -1,4 +1,5 @@
 -- The stages of admission: one law for each way out, and all of them together are the definition.
+use Rattle.std.specs.Prelude.{Err, Ok, Result}
 use mathlib.Core.Path.{◌≡◌, refl, sym, ◌∙◌, ap, subst⁻¹}
 use mathlib.Core.Bool.{Bool, true, false, not}
 use mathlib.Core.List.{List}
@@ -24,8 +25,6 @@ use Rattle.string_tables.specs.Kinds.{kinds_good}
 use Rattle.string_tables.specs.Strings.{strings_good}
 use Rattle.function_table.specs.Functions.{functions_in_tail}
 use Rattle.large_headers.specs.Clear.{all_apart}
-use Rattle.admission.specs.declared.Admission.{Admission}
-use Rattle.admission.specs.declared.Admission.TheVariants.{Laid, Refused}
 use Rattle.admission.specs.Admission.{answer_for, admission, laid_out, strings_judged, functions_good, functions_judged}
 
 -- ---- size, magic, sections
@@ -41,11 +40,11 @@ pub record Marked (s : List ℕ) : Type 0 where
   pub magic : number_held table.magic s ≡ table.magic_number
 
 module _ (l : Layout) (s : List ℕ) where
-  pub too_short : length s < table.header_length + footer_length → Refused 1 ≡ laid_out l s
+  pub too_short : length s < table.header_length + footer_length → Err 1 ≡ laid_out l s
   unfolding laid_out checks judge
   too_short h = rw (lt-ltb (length s) (table.header_length + footer_length) h)
 
-  pub too_long : table.header_length + footer_length ≤ length s → size_limit < length s → Refused 1 ≡ laid_out l s
+  pub too_long : table.header_length + footer_length ≤ length s → size_limit < length s → Err 1 ≡ laid_out l s
   unfolding laid_out checks judge
   too_long k h = rw (le-ltb (length s) (table.header_length + footer_length) k, lt-ltb size_limit (length s) h)
 
@@ -60,7 +59,7 @@ module _ (l : Layout) (s : List ℕ) where
   marked-laid z = sized_laid z.sized ∙ rw (eq-eqb (number_held table.magic s) table.magic_number z.magic)
 
 module _ {s : List ℕ} (z : LengthTested s) (m : ℕ) (g : m ≡ number_held table.magic s) where
-  pub no_magic : (l : Layout) → (m ≡ table.magic_number → ⊥) → Refused 2 ≡ laid_out l s
+  pub no_magic : (l : Layout) → (m ≡ table.magic_number → ⊥) → Err 2 ≡ laid_out l s
   unfolding checks judge
   no_magic l h = sym (sized_laid l s z ∙ rw (← g, ne_eqb m table.magic_number h))
 
@@ -72,15 +71,15 @@ module _ (l : Layout) {s : List ℕ} (z : Marked s) (p : Places) (k : p ≡ plac
   unfolding places_of
   ends = (ap (λ (x : Places). x.tail) k, ap (λ (x : Places). x.footer) k)
 
-  pub no_room : p.footer < p.tail → Refused 3 ≡ laid_out l s
+  pub no_room : p.footer < p.tail → Err 3 ≡ laid_out l s
   no_room h =
       let r : length s < tail_at l s + footer_length = omega (arith, ends) in
       sym (marked-laid l s z ∙ rw (lt-ltb (length s) (tail_at l s + footer_length) r))
 
-  pub all_laid : p.tail ≤ p.footer → Laid p ≡ laid_out l s
+  pub all_laid : p.tail ≤ p.footer → Ok p ≡ laid_out l s
   all_laid h =
       let r : tail_at l s + footer_length ≤ length s = omega (arith, ends) in
-      ap Laid k ∙ sym (marked-laid l s z ∙ rw (le-ltb (length s) (tail_at l s + footer_length) r))
+      ap Ok k ∙ sym (marked-laid l s z ∙ rw (le-ltb (length s) (tail_at l s + footer_length) r))
 
 -- ---- strings and functions
 
@@ -91,7 +90,7 @@ pub record InTail (l : Layout) (s : List ℕ) : Type 0 where
 
 module _ (p : Places) (s : List ℕ) where
   module _ (a : Bool) (e : a ≡ kinds_good p.layout s) where
-    pub bad_kinds : not a ≡ true → Refused 4 ≡ strings_judged p s
+    pub bad_kinds : not a ≡ true → Err 4 ≡ strings_judged p s
     unfolding strings_judged
     bad_kinds t = rw (← e, not-true a t)
 
@@ -99,16 +98,16 @@ module _ (p : Places) (s : List ℕ) where
     good_kinds t = sym e ∙ not-false a t
 
   module _ (z : kinds_good p.layout s ≡ true) (b : Bool) (g : b ≡ strings_good p.layout s) where
-    pub bad_strings : not b ≡ true → Refused 5 ≡ strings_judged p s
+    pub bad_strings : not b ≡ true → Err 5 ≡ strings_judged p s
     unfolding strings_judged
     bad_strings u = rw (z, ← g, not-true b u)
 
-    pub good_strings : not b ≡ false → Laid p ≡ strings_judged p s
+    pub good_strings : not b ≡ false → Ok p ≡ strings_judged p s
     unfolding strings_judged
     good_strings u = rw (z, ← g, not-false b u)
 
   module _ (a : Bool) (e : a ≡ functions_in_tail p.layout s) where
-    pub not_in_tail : not a ≡ true → Refused 6 ≡ functions_judged p s
+    pub not_in_tail : not a ≡ true → Err 6 ≡ functions_judged p s
     unfolding functions_judged functions_good
     not_in_tail t = rw (← e, not-true a t)
 
@@ -121,7 +120,7 @@ module _ (p : Places) (s : List ℕ) where
     headers_are_in = both_0 (headers_in p.layout s) (both (bodies_in p.layout s) (infos_in p.layout s)) z
 
     module _ (b : Bool) (g : b ≡ debug_in_tail p.layout s) where
-      pub bad_debug : not b ≡ true → Refused 6 ≡ functions_judged p s
+      pub bad_debug : not b ≡ true → Err 6 ≡ functions_judged p s
       unfolding functions_judged functions_good
       bad_debug u = rw (z, ← g, not-true b u)
 
@@ -129,11 +128,11 @@ module _ (p : Places) (s : List ℕ) where
       is-in-tail u = record { functions = z; debug = sym g ∙ not-false b u }
 
   module _ (z : InTail p.layout s) (c : Bool) (h : c ≡ all_apart p.layout s) where
-    pub not-apart : not c ≡ true → Refused 6 ≡ functions_judged p s
+    pub not-apart : not c ≡ true → Err 6 ≡ functions_judged p s
     unfolding functions_judged functions_good
     not-apart v = rw (z.functions, z.debug, ← h, not-true c v)
 
-    pub good_functions : not c ≡ false → Laid p ≡ functions_judged p s
+    pub good_functions : not c ≡ false → Ok p ≡ functions_judged p s
     unfolding functions_judged functions_good
     good_functions v = rw (z.functions, z.debug, ← h, not-false c v)
 
@@ -199,20 +198,20 @@ module _ (l : Layout) (s : List ℕ) where
 
   -- ---- the ways out of admission
 
-  pub refused_first : (r : Admission) → r ≡ laid_out l s → (k : ℕ) → r ≡ Refused k → r ≡ admission l s
+  pub refused_first : (r : Result Places ℕ) → r ≡ laid_out l s → (k : ℕ) → r ≡ Err k → r ≡ admission l s
   unfolding laid_out admission
   refused_first r e k f = e ∙ go (eqb stage 0) refl (sym e ∙ f)
     where
-      go : (b : Bool) → eqb stage 0 ≡ b → answer_for l s stage ≡ Refused k → answer_for l s stage ≡ answer_for l s (refusal l s)
+      go : (b : Bool) → eqb stage 0 ≡ b → answer_for l s stage ≡ Err k → answer_for l s stage ≡ answer_for l s (refusal l s)
       go true h q = let z : ◌≡◌ {A = ℕ} 0 1 = cc (rw h at q) in absurd (omega arith)
       go false h q = let k : refusal l s ≡ stage = first_stage ∙ rw h in ap (λ (n : ℕ). answer_for l s n) (sym k)
 
-  module _ (p : Places) (f : laid_out l s ≡ Laid p) where
+  module _ (p : Places) (f : laid_out l s ≡ Ok p) where
     passed : (eqb stage 0 ≡ true) × (p ≡ places_of l s)
     unfolding laid_out
     passed = go (eqb stage 0) f
       where
-        go : (b : Bool) → pick b (Laid (places_of l s)) (Refused stage) ≡ Laid p → (b ≡ true) × (p ≡ places_of l s)
+        go : (b : Bool) → pick b (Ok (places_of l s)) (Err stage) ≡ Ok p → (b ≡ true) × (p ≡ places_of l s)
         go true q = (refl, cc)
         go false q = let z : ◌≡◌ {A = ℕ} 0 1 = cc in absurd (omega arith)
 
@@ -246,15 +245,15 @@ module _ (l : Layout) (s : List ℕ) where
     rest : refusal l s ≡ from 4
     rest = first_stage ∙ rw passed.0
 
-    strings_are : strings_judged p s ≡ pick (kinds_good l s) (pick (strings_good l s) (Laid p) (Refused 5)) (Refused 4)
+    strings_are : strings_judged p s ≡ pick (kinds_good l s) (pick (strings_good l s) (Ok p) (Err 5)) (Err 4)
     unfolding strings_judged
-    strings_are = ap (λ (x : Layout). pick (kinds_good x s) (pick (strings_good x s) (Laid p) (Refused 5)) (Refused 4)) own_layout
+    strings_are = ap (λ (x : Layout). pick (kinds_good x s) (pick (strings_good x s) (Ok p) (Err 5)) (Err 4)) own_layout
 
-    functions_are : functions_judged p s ≡ pick (functions_good l s) (Laid p) (Refused 6)
+    functions_are : functions_judged p s ≡ pick (functions_good l s) (Ok p) (Err 6)
     unfolding functions_judged
-    functions_are = ap (λ (x : Layout). pick (functions_good x s) (Laid p) (Refused 6)) own_layout
+    functions_are = ap (λ (x : Layout). pick (functions_good x s) (Ok p) (Err 6)) own_layout
 
-    pub refused_second : (j : Admission) → j ≡ strings_judged p s → (k : ℕ) → j ≡ Refused k → j ≡ admission l s
+    pub refused_second : (j : Result Places ℕ) → j ≡ strings_judged p s → (k : ℕ) → j ≡ Err k → j ≡ admission l s
     unfolding admission
     refused_second j g k h =
         let n : refusal l s ≡ pick (kinds_good l s) (pick (strings_good l s) (from 10) 5) 4
@@ -262,13 +261,13 @@ module _ (l : Layout) (s : List ℕ) where
         g ∙ strings_are ∙ go (kinds_good l s) (strings_good l s) (sym strings_are ∙ sym g ∙ h)
         ∙ ap (λ (m : ℕ). answer_for l s m) (sym n)
       where
-        go : (a b : Bool) → pick a (pick b (Laid p) (Refused 5)) (Refused 4) ≡ Refused k
-            → pick a (pick b (Laid p) (Refused 5)) (Refused 4) ≡ answer_for l s (pick a (pick b (from 10) 5) 4)
+        go : (a b : Bool) → pick {A = Result Places ℕ} a (pick b (Ok p) (Err 5)) (Err 4) ≡ Err k
+            → pick {A = Result Places ℕ} a (pick b (Ok p) (Err 5)) (Err 4) ≡ answer_for l s (pick a (pick b (from 10) 5) 4)
         go true true q = let z : ◌≡◌ {A = ℕ} 0 1 = cc in absurd (omega arith)
         go true false q = refl
         go false b q = refl
 
-    pub judged_last : (q : Places) → strings_judged p s ≡ Laid q → (r : Admission) → r ≡ functions_judged p s
+    pub judged_last : (q : Places) → strings_judged p s ≡ Ok q → (r : Result Places ℕ) → r ≡ functions_judged p s
         → r ≡ admission l s
     unfolding admission
     judged_last q h r d =
@@ -277,9 +276,9 @@ module _ (l : Layout) (s : List ℕ) where
         d ∙ functions_are ∙ go (kinds_good l s) (strings_good l s) (functions_good l s) (sym strings_are ∙ h)
         ∙ ap (λ (m : ℕ). answer_for l s m) (sym n)
       where
-        go : (a b c : Bool) → pick a (pick b (Laid p) (Refused 5)) (Refused 4) ≡ Laid q
-            → pick c (Laid p) (Refused 6) ≡ answer_for l s (pick a (pick b (pick c 0 6) 5) 4)
-        go true true true x = ap Laid passed.1
+        go : (a b c : Bool) → pick {A = Result Places ℕ} a (pick b (Ok p) (Err 5)) (Err 4) ≡ Ok q
+            → pick {A = Result Places ℕ} c (Ok p) (Err 6) ≡ answer_for l s (pick a (pick b (pick c 0 6) 5) 4)
+        go true true true x = ap Ok passed.1
         go true true false x = refl
         go true false c x = let z : ◌≡◌ {A = ℕ} 0 1 = cc in absurd (omega arith)
         go false b c x = let z : ◌≡◌ {A = ℕ} 0 1 = cc in absurd (omega arith)

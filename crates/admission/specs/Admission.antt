@@ -1,6 +1,6 @@
 -- What admission answers. 01: "A refusal answers its number"; the record of places otherwise.
 -- docs/FORMAT.md: Admission.
-use Rattle.std.specs.Prelude.{Bool, List, ℕ, eqb, take}
+use Rattle.std.specs.Prelude.{Bool, List, ℕ, eqb, take, Err, Ok, Result}
 use Rattle.refusals.specs.Numbers as refusals
 use Rattle.bits.specs.Choice.{pick, both, judge}
 use Rattle.format.specs.declared.Layout.{Layout}
@@ -11,36 +11,34 @@ use Rattle.string_tables.specs.Kinds.{kinds_good}
 use Rattle.string_tables.specs.Strings.{strings_good}
 use Rattle.function_table.specs.Functions.{functions_in_tail}
 use Rattle.large_headers.specs.Clear.{all_apart}
-use Rattle.admission.specs.declared.Admission.{Admission}
-use Rattle.admission.specs.declared.Admission.TheVariants.{Laid, Refused}
 
 -- the answer to a refusal's number, 0 being none
-abbrev pub answer_for : Layout → List ℕ → ℕ → Admission
-answer_for l s n = pick (eqb n 0) (Laid (places_of l s)) (Refused n)
+abbrev pub answer_for : Layout → List ℕ → ℕ → Result Places ℕ
+answer_for l s n = pick (eqb n 0) (Ok (places_of l s)) (Err n)
 
 -- THE ANSWER for an image
-unfoldable pub admission : Layout → List ℕ → Admission
+unfoldable pub admission : Layout → List ℕ → Result Places ℕ
 admission l s = answer_for l s (refusal l s)
 
 -- the number of an answer, 0 being none
-abbrev pub number_of : Admission → ℕ
-number_of (Laid p) = 0
-number_of (Refused n) = n
+abbrev pub number_of : Result Places ℕ → ℕ
+number_of (Ok p) = 0
+number_of (Err n) = n
 
 -- ---- its stages, in order
 
 -- numbers 1 to 3: the first four checks
-unfoldable pub laid_out : Layout → List ℕ → Admission
+unfoldable pub laid_out : Layout → List ℕ → Result Places ℕ
 laid_out l s = answer_for l s (judge (take 4 (checks l s)))
 
 -- numbers 4 and 5
-unfoldable pub strings_judged : Places → List ℕ → Admission
+unfoldable pub strings_judged : Places → List ℕ → Result Places ℕ
 strings_judged p s =
-    pick (kinds_good p.layout s) (pick (strings_good p.layout s) (Laid p) (Refused refusals.string)) (Refused refusals.kinds)
+    pick (kinds_good p.layout s) (pick (strings_good p.layout s) (Ok p) (Err refusals.string)) (Err refusals.kinds)
 
 -- none of the conditions of number 6
 unfoldable pub functions_good : Layout → List ℕ → Bool
 functions_good l s = both (functions_in_tail l s) (both (debug_in_tail l s) (all_apart l s))
 
-unfoldable pub functions_judged : Places → List ℕ → Admission
-functions_judged p s = pick (functions_good p.layout s) (Laid p) (Refused refusals.function)
+unfoldable pub functions_judged : Places → List ℕ → Result Places ℕ
+functions_judged p s = pick (functions_good p.layout s) (Ok p) (Err refusals.function)

@@ -4,91 +4,69 @@
 
 ghost use Rattle.std.specs.Prelude.{◌≡◌};
 ghost use Rattle.sections.specs.Places.{Placed};
-ghost use Rattle.admission.specs.Admission.{admission, number_of, laid_out, strings_judged, functions_judged};
+ghost use Rattle.admission.specs.Admission.{admission, laid_out, strings_judged, functions_judged};
 
 use format::Layout;
+use refusals::Refusal;
 use sections::Places;
 
-// The record of places of an image, or the number of the refusal.
-#[derive(Clone, Copy)]
-pub enum Admission {
-    Laid(Places),
-    Refused(u8),
-}
-
 // Numbers 1 to 3. No byte is read before the length is judged.
-fn lay_out(image: &[u8], layout: Layout) -> Admission
+fn lay_out(image: &[u8], layout: Layout) -> Result<Places, Refusal>
     ensures { result ≡ laid_out layout image.now }
 {
     if image.len() < format::HEADER_LEN + footer::FOOTER_LEN {
-        return Admission::Refused(refusals::SIZE);
+        return Err(refusals::SIZE);
     }
     if footer::SIZE_LIMIT < image.len() {
-        return Admission::Refused(refusals::SIZE);
+        return Err(refusals::SIZE);
     }
     if bits::word64(image, format::at(format::MAGIC)) != format::MAGIC_NUMBER {
-        return Admission::Refused(refusals::MAGIC);
+        return Err(refusals::MAGIC);
     }
     let p = sections::places_of(image, layout);
     if p.footer < p.tail {
-        return Admission::Refused(refusals::SECTIONS);
+        return Err(refusals::SECTIONS);
     }
-    Admission::Laid(p)
+    Ok(p)
 }
 
 // Numbers 4 and 5.
-fn judge_strings(image: &[u8], p: Places) -> Admission
+fn judge_strings(image: &[u8], p: Places) -> Result<Places, Refusal>
     requires { Placed p image.now }
     ensures { result ≡ strings_judged p image.now }
 {
     if !string_tables::are_kinds_good(image, p) {
-        return Admission::Refused(refusals::KINDS);
+        return Err(refusals::KINDS);
     }
     if !string_tables::are_strings_good(image, p) {
-        return Admission::Refused(refusals::STRING);
+        return Err(refusals::STRING);
     }
-    Admission::Laid(p)
+    Ok(p)
 }
 
 // Number 6. Large headers are compared only once each is known to stand in the tail.
-fn judge_functions(image: &[u8], p: Places) -> Admission
+fn judge_functions(image: &[u8], p: Places) -> Result<Places, Refusal>
     requires { Placed p image.now }
     ensures { result ≡ functions_judged p image.now }
 {
     if !function_table::are_functions_in_tail(image, p) {
-        return Admission::Refused(refusals::FUNCTION);
+        return Err(refusals::FUNCTION);
     }
     if !function_table::is_debug_in_tail(image, p) {
-        return Admission::Refused(refusals::FUNCTION);
+        return Err(refusals::FUNCTION);
     }
     let layout = p.layout;
     if !large_headers::are_headers_apart(image, layout, p.functions) {
-        return Admission::Refused(refusals::FUNCTION);
+        return Err(refusals::FUNCTION);
     }
-    Admission::Laid(p)
+    Ok(p)
 }
 
 // The places of the image in `image`, or 1 to 6: the number of the first condition that it breaks.
-pub fn admit(image: &[u8], layout: Layout) -> Admission
+pub fn admit(image: &[u8], layout: Layout) -> Result<Places, Refusal>
     ensures { result ≡ admission layout image.now }
 {
-    let laid = lay_out(image, layout);
-    let Admission::Laid(p) = laid else {
-        return laid;
-    };
-    let judged = judge_strings(image, p);
-    let Admission::Laid(_) = judged else {
-        return judged;
-    };
+    let p = lay_out(image, layout)?;
+    let _ = judge_strings(image, p)?;
     judge_functions(image, p)
-}
-
-// The number of a refusal; 0 where the image is admitted.
-pub fn number_of(answer: Admission) -> u8
-    ensures { result ≡ number_of answer }
-{
-    match answer {
-        Admission::Laid(_) => 0,
-        Admission::Refused(number) => number,
-    }
 }

@@ -1,6 +1,6 @@
 -- Writes to a list: one read back, one apart from what is read, one after the other, one within the other, one to a lent part.
-use Rattle.std.proofs.Common.{◌≡◌, ℕ, zero, suc, ◌+◌, ◌^◌, ◌<◌, ◌≤◌, eqb, List, [], ◌∷◌, ◌++◌, length, get_or, take, drop, set}
-use Rattle.std.proofs.Common.{replicate, sym, refl, ap, ◌∙◌, inl, inr, append_assoc, append-nil, not-suc-le-zero, add-zero}
+use Rattle.std.proofs.Common.{◌≡◌, ℕ, zero, suc, ◌+◌, ◌-◌, ◌^◌, ◌<◌, ◌≤◌, eqb, List, [], ◌∷◌, ◌++◌, length, get_or, take, drop, set}
+use Rattle.std.proofs.Common.{replicate, sym, refl, ap, ◌∙◌, inl, inr, append_assoc, append-nil, not-suc-le-zero, add-zero, drop-drop}
 use Rattle.std.proofs.Common.{add-suc, suc-add, zero-add, add-one, arith, length-drop, length-set, take-append-drop}
 use Rattle.std.proofs.Common.{drop_of_length-le, length-take-le, take_all, get_or-set_other, get_or-set_same, eqb-true}
 use borrow.Author.Tests.{eqb-false}
@@ -108,6 +108,32 @@ part_sets l bs a k j h g =
     let t : length (take a l) ≡ a = length-take-le a l (omega arith) in
     sym (rw (take-append-drop k (drop a l), take-append-drop a l, t) at m)
 
+-- a part that is lent and written whole
+pub part_all : {A : Type 0} (l bs : List A) (a k : ℕ) → a + k ≤ length l → length bs ≡ k → put_mid a k l bs ≡ sets l a bs
+part_all l bs a k h e =
+    rw (← e, sets-eq bs l a (omega arith), append_assoc (take a l), drop-drop)
+
+-- how long the lent part is
+pub length_part : {A : Type 0} (l : List A) (a k : ℕ) → a + k ≤ length l → length (take (a + k - a) (drop a l)) ≡ k
+length_part l a k h = length-take-le (a + k - a) (drop a l) (rw length-drop (omega arith)) ∙ omega arith
+
+-- ---- copies of one value, one by one, from the front on
+
+module _ {A : Type 0} (d out : List A) (n i : ℕ) (x : A) (e : out ≡ paste d 0 (replicate n x) i) where
+  pub copies_more : i < length d → i < n → set out i x ≡ paste d 0 (replicate n x) (i + 1)
+  copies_more h k =
+      let l : i < length (replicate n x) = rw length-replicate k in
+      let v : get_or (replicate n x) i x ≡ x = get_or-replicate n i x x k in
+      ap (λ (j : ℕ). set out j x) (sym (zero-add i))
+      ∙ ap (λ (y : A). set out (0 + i) y) (sym v)
+      ∙ rw (e, add-one) (paste-suc d 0 (replicate n x) i x (omega arith) l)
+
+  pub copies_all : length d ≤ i → i ≤ n → n ≤ length d → out ≡ replicate n x
+  copies_all h k m =
+      let l : i ≡ length (replicate n x) = rw length-replicate (omega arith) in
+      let z : length d ≤ 0 + i = omega arith in
+      e ∙ rw (drop_of_length-le d {i = 0 + i} z, append-nil, take_all i (replicate n x) (omega arith))
+
 -- ---- a copy, byte by byte
 
 module _ (d s out : List ℕ) (at i : ℕ) (e : out ≡ paste d at s i) where
@@ -135,13 +161,6 @@ pub sets_byte : (vs s t : List ℕ) (at p : ℕ) → length s ≡ length t → g
     → get_or (sets s at vs) p 0 ≡ get_or (sets t at vs) p 0
 sets_byte [] s t at p l e = e
 sets_byte (v ∷ vs) s t at p l e = sets_byte vs (set s at v) (set t at v) (suc at) p (simp length-set l) (set_byte s t at p v l e)
-
--- zeros, byte by byte
-pub zeros_more : (d out : List ℕ) (at n i : ℕ) → out ≡ paste d at (replicate n 0) i → at + i < length d → i < n
-    → set out (at + i) 0 ≡ paste d at (replicate n 0) (i + 1)
-zeros_more d out at n i e h k =
-    ap (set out (at + i)) (sym (get_or-replicate n i 0 0 k))
-    ∙ copied_more d (replicate n 0) out at i e h (rw (length-replicate {A = ℕ} n 0) k)
 
 -- ---- a write that changes nothing, a write of everything
 

@@ -18,14 +18,6 @@ pub struct Words {
     pub high: u64,
 }
 
-// What a function that writes to a lent buffer answers: the length of what it wrote, or a refusal's
-// number.
-#[derive(Clone, Copy)]
-pub enum Answer {
-    Length(usize),
-    Refused(u8),
-}
-
 pub fn wide(b: u8) -> u64
     ensures { (result ≡ b) × (result < 256) }
 {
@@ -35,7 +27,7 @@ pub fn wide(b: u8) -> u64
 pub fn least(a: usize, b: usize) -> usize
     ensures { (result ≡ pick (nat_lt a b) a b) × (result ≤ b) }
 {
-    if a < b { a } else { b }
+    a.min(b)
 }
 
 // The next multiple of 4.
@@ -51,7 +43,7 @@ pub fn word(s: &[u8], at: usize) -> u64
     requires { at + 4 ≤ length s.now }
     ensures { (result ≡ word_at s.now at) × (result < 4294967296) }
 {
-    wide(s[at]) + wide(s[at + 1]) * 256 + wide(s[at + 2]) * 65536 + wide(s[at + 3]) * 16777216
+    s[at] as u64 + s[at + 1] as u64 * 256 + s[at + 2] as u64 * 65536 + s[at + 3] as u64 * 16777216
 }
 
 // The 8 bytes from `at` on, as a number.
@@ -192,10 +184,16 @@ pub fn put_bytes(s: &mut [u8], at: usize, src: &[u8])
     requires { at + length src.now ≤ length s.old }
     ensures { s.new ≡ sets s.old at src.now }
 {
-    let mut i = 0;
-    while i < src.len() {
-        s[at + i] = src[i];
-        i += 1;
+    s[at..at + src.len()].copy_from_slice(src);
+}
+
+// `n` copies of `x`, stored from `at` on.
+pub fn put_copies<T: Copy>(s: &mut [T], at: usize, n: usize, x: T)
+    requires { at + n ≤ length s.old }
+    ensures { s.new ≡ sets s.old at (replicate n x) }
+{
+    for place in &mut s[at..at + n] {
+        *place = x;
     }
 }
 
@@ -204,11 +202,7 @@ pub fn put_zeros(s: &mut [u8], at: usize, n: usize)
     requires { at + n ≤ length s.old }
     ensures { s.new ≡ sets s.old at (replicate n 0) }
 {
-    let mut i = 0;
-    while i < n {
-        s[at + i] = 0;
-        i += 1;
-    }
+    put_copies(s, at, n, 0);
 }
 
 // Whether all bytes are ASCII. The bytes are gathered and tested once, which costs a twentieth of a
@@ -217,10 +211,8 @@ pub fn ascii(s: &[u8]) -> bool
     ensures { result ≡ ascii s.now }
 {
     let mut seen: u8 = 0;
-    let mut i = 0;
-    while i < s.len() {
-        seen = seen | s[i];
-        i += 1;
+    for b in s {
+        seen |= *b;
     }
     seen < 128
 }

@@ -1,4 +1,5 @@
 -- Every image that build_minimal_modern makes is admitted, and reads as the strings and the body that went in.
+use Rattle.std.specs.Prelude.{Ok}
 use mathlib.Core.Path.{◌≡◌, refl, ap, sym, ◌∙◌, subst}
 use mathlib.Core.Bool.{Bool, true, false, not}
 use mathlib.Core.Logic.{inl, inr}
@@ -15,7 +16,6 @@ use Rattle.bits.specs.Choice.{pick, sum_below}
 use Rattle.bits.specs.Fields.{field_of, with_field}
 use Rattle.bits.specs.Bytes.{bytes_at, number_at, bytes_of, words_of, up4, zeros_to4}
 use Rattle.bits.specs.Outcome.{Outcome, made, refused, roomed, answered, Answers}
-use Rattle.bits.specs.declared.Answer.TheVariants.{Length}
 use Rattle.bits.proofs.TestLaws.{below, below_or, all_at}
 use Rattle.bits.proofs.AsciiLaws.{ascii_below}
 use Rattle.bits.proofs.ListLaws.{AllBelow, Lies, get_d_past, below_nil, below_append, below_zeros, below_bytes_of}
@@ -428,13 +428,13 @@ module _ (v : ℕ) (text ends code : List ℕ) where
 -- ---- every built image
 
 -- a length is answered for what is made, where there is room
-length_made : (room n : ℕ) (o : Outcome) → Length n ≡ answered (roomed room o)
+length_made : (room n : ℕ) (o : Outcome) → Ok n ≡ answered (roomed room o)
     → (t : List ℕ) × (o ≡ made t) × (roomed room o ≡ made t) × (n ≡ length t)
 unfolding roomed
 length_made room n (refused k) e = let z : ◌≡◌ {A = ℕ} 0 1 = cc in absurd (omega arith)
 length_made room n (made t) e = let (q, m) = go _ (ltb room (length t)) e in (t, refl, q, m)
   where
-    go : (k : ℕ) (c : Bool) → Length n ≡ answered (pick c (refused k) (made t)) → (pick c (refused k) (made t) ≡ made t)
+    go : (k : ℕ) (c : Bool) → Ok n ≡ answered (pick c (refused k) (made t)) → (pick c (refused k) (made t) ≡ made t)
         × (n ≡ length t)
     go k true f = let z : ◌≡◌ {A = ℕ} 0 1 = cc in absurd (omega arith)
     go k false f = (refl, cc)
@@ -449,7 +449,7 @@ module _ (v : ℕ) (text ends code : List ℕ) (word : v < 2 ^ 32) (bytes : AllB
       (joined-built v text ends code word bytes (length t) ok)
 
   -- where build_minimal_modern answers a length, so many first bytes of its buffer are such an image
-  pub answered_image : (n : ℕ) (old new : List ℕ) → Answers (roomed (length old) (built v text ends code)) (Length n) old new
+  pub answered_image : (n : ℕ) (old new : List ℕ) → Answers (roomed (length old) (built v text ends code)) (Ok n) old new
       → Built v text ends code (take n new)
   answered_image n old new a =
       let (t, e, q, m) = length_made (length old) n (built v text ends code) a.0 in

@@ -7,19 +7,12 @@ ghost use Rattle.std.specs.Prelude.{◌≡◌, ◌+◌, ◌≤◌, ◌<◌, leng
 ghost use Rattle.std.proofs.lemmas.List.Edits.{sets};
 ghost use Rattle.chains.specs.Chains.{entered};
 
-// A cast in a call of its own, which needs no proof that an element of a slice fits.
-fn wide(x: u32) -> usize
-    ensures { (result ≡ x) × (result < 4294967296) }
-{
-    x as usize
-}
-
 // The head or link at a place.
 pub fn word_at(work: &[u32], at: usize) -> usize
     requires { at < length work.now }
     ensures { (result ≡ get_or work.now at 0) × (result < 4294967296) }
 {
-    wide(work[at])
+    work[at] as usize
 }
 
 // `n` zeros from a place on.
@@ -27,11 +20,7 @@ pub fn clear(work: &mut [u32], from: usize, n: usize)
     requires { from + n ≤ length work.old }
     ensures { work.new ≡ sets work.old from (replicate n 0) }
 {
-    let mut i = 0;
-    while i < n {
-        work[from + i] = 0;
-        i += 1;
-    }
+    bits::put_copies(work, from, n, 0);
 }
 
 // Key `k` enters a bucket, of `m`: its link takes the head, and it becomes the head.

@@ -1,6 +1,6 @@
 -- Facts as outcomes: those of the record of places, or the refusal.
+use Rattle.std.specs.Prelude.{Err, Ok, Result}
 use mathlib.Core.Path.{◌≡◌, refl, sym, ◌∙◌, ap}
-use mathlib.Core.Bool.{Bool}
 use mathlib.Core.List.{List, [], ◌∷◌}
 use Prim.Native.Nat.{ℕ}
 use native.Mathlib.Omega.{arith}
@@ -8,21 +8,15 @@ use lib.Dec.{eqb}
 use lib.ListN.{length}
 use Rattle.bits.specs.Bytes.{word_at}
 use Rattle.bits.specs.Outcome.{made, roomed, Answers}
-use Rattle.bits.specs.declared.Answer.{Answer}
-use Rattle.bits.specs.declared.Answer.TheVariants.{Refused}
 use Rattle.bits.proofs.OutcomeLaws.{refused_read, found_read}
 use Rattle.format.specs.declared.Layout.{Layout}
 use Rattle.format.specs.Table as table
-use Rattle.format.specs.Entry.{Place}
 use Rattle.footer.specs.Footer.{verified}
 use Rattle.image.specs.Sections.{strings_in, record_at}
-use Rattle.image.specs.Strings.{size_of}
 use Rattle.image.specs.Admission.{refusal}
 use Rattle.sections.specs.declared.Places.{Places}
 use Rattle.sections.specs.Places.{places_of}
-use Rattle.admission.specs.declared.Admission.{Admission}
-use Rattle.admission.specs.declared.Admission.TheVariants as admission-is
-use Rattle.admission.specs.Admission.{admission, number_of}
+use Rattle.admission.specs.Admission.{admission}
 use Rattle.admission.proofs.AnswerLaws.{refused_is, laid-is, laid_layout}
 use Rattle.string_tables.specs.Strings.{as_place}
 use Rattle.string_walk.specs.declared.Counts.{Counts}
@@ -30,9 +24,8 @@ use Rattle.string_walk.specs.declared.StringRecord.{StringRecord}
 use Rattle.string_walk.specs.Records.{is_ranked, record_of}
 use Rattle.string_walk.specs.Walk.{visits}
 use Rattle.string_walk.proofs.RankLaws.{ranked_flag}
-use Rattle.reader.specs.declared.StringRead.{StringRead}
-use Rattle.reader.specs.declared.StringRead.TheVariants as string-is
-use Rattle.reader.specs.Reading.{id_refusal, string_read, string_number}
+use Rattle.string_walk.specs.declared.Location.{Location}
+use Rattle.reader.specs.Reading.{id_refusal, string_read}
 use Rattle.reader.proofs.PartLaws.{string_out, string-at}
 use Rattle.facts.specs.Facts.{flag, facts_of, image_facts, facts_of_parts, facts_of_string, string_facts}
 
@@ -76,15 +69,15 @@ facts_are s p stated right sealed from g =
     ap (by_places (length s) stated right sealed from) g.places ∙ rw (g.records, g.footer, g.judged, g.header)
 
 module _ (l : Layout) (s : List ℕ) (room : ℕ) (old : List ℕ) where
-  pub no_image : (r : Admission) → r ≡ admission l s → (k : ℕ) → r ≡ admission-is.Refused k → (n : ℕ) → n ≡ number_of r
-      → Answers (roomed room (image_facts l s)) (Refused n) old old
+  pub no_image : (r : Result Places ℕ) → r ≡ admission l s → (k : ℕ) → r ≡ Err k
+      → Answers (roomed room (image_facts l s)) (Err k) old old
   unfolding image_facts
-  no_image r e k f n g =
+  no_image r e k f =
       let (z, h) = refused_is l s r e k f in
-      refused_read (refusal l s) n (facts_of l s) (omega arith, z ∙ sym (g ∙ ap number_of f)) old room
+      refused_read (refusal l s) k (facts_of l s) (omega arith, z) old room
 
-  pub an_image : (p : Places) → admission l s ≡ admission-is.Laid p → (facts : List ℕ) → facts ≡ facts_of p.layout s
-      → (a : Answer) (new : List ℕ) → Answers (roomed room (made facts)) a old new
+  pub an_image : (p : Places) → admission l s ≡ Ok p → (facts : List ℕ) → facts ≡ facts_of p.layout s
+      → (a : Result ℕ ℕ) (new : List ℕ) → Answers (roomed room (made facts)) a old new
       → Answers (roomed room (image_facts l s)) a old new
   unfolding image_facts
   an_image p f facts g a new w =
@@ -93,12 +86,6 @@ module _ (l : Layout) (s : List ℕ) (room : ℕ) (old : List ℕ) where
 
 -- ---- of a string
 
--- as the code gathers them
-pub gathered : (start : ℕ) (q : Place) (identifier : Bool) (c : Counts) (size wide named : ℕ) → size ≡ size_of q
-    → wide ≡ flag q.wide → named ≡ flag identifier
-    → start ∷ size ∷ q.count ∷ wide ∷ named ∷ c.small ∷ c.over ∷ [] ≡ facts_of_parts start q identifier c
-gathered start q identifier c size wide named e f g = rw (e, f, g)
-
 -- those of its record are its own
 pub parts_are : (l : Layout) (s : List ℕ) (id : ℕ) (r : StringRecord) (c : Counts) → r ≡ record_of l s id → c ≡ visits l s id
     → facts_of_parts r.start (as_place r.place) (is_ranked r.rank) c ≡ facts_of_string l s id
@@ -106,20 +93,19 @@ unfolding facts_of_string record_of
 parts_are l s id r c e v = rw (e, v, ranked_flag l s id)
 
 module _ (l : Layout) (s : List ℕ) (id room : ℕ) (old : List ℕ) where
-  pub no_facts : (r : StringRead) → r ≡ string_read l s id → (k : ℕ) → r ≡ string-is.Refused k → (n : ℕ)
-      → n ≡ string_number r
-      → Answers (roomed room (string_facts l s id)) (Refused n) old old
+  pub no_facts : (r : Result Location ℕ) → r ≡ string_read l s id → (k : ℕ) → r ≡ Err k
+      → Answers (roomed room (string_facts l s id)) (Err k) old old
   unfolding string_facts
-  no_facts r e k f n g =
+  no_facts r e k f =
       let (h, x) = string_out l s id r e k f in
-      refused_read (id_refusal l s (strings_in s) id) n (facts_of_string l s id) (h, x ∙ sym (g ∙ ap string_number f)) old room
+      refused_read (id_refusal l s (strings_in s) id) k (facts_of_string l s id) (h, x) old room
 
-  pub the_facts : (q : StringRecord) (c : Counts) → string_read l s id ≡ string-is.Found q c → (facts : List ℕ)
-      → facts ≡ facts_of_parts q.start (as_place q.place) (is_ranked q.rank) c
-      → (a : Answer) (new : List ℕ) → Answers (roomed room (made facts)) a old new
+  pub the_facts : (q : Location) → string_read l s id ≡ Ok q → (facts : List ℕ)
+      → facts ≡ facts_of_parts q.string.start (as_place q.string.place) (is_ranked q.string.rank) q.counts
+      → (a : Result ℕ ℕ) (new : List ℕ) → Answers (roomed room (made facts)) a old new
       → Answers (roomed room (string_facts l s id)) a old new
   unfolding string_facts
-  the_facts q c f facts g a new w =
-      let (z, p, v) = string-at l s id (string_read l s id) refl q c f in
+  the_facts q f facts g a new w =
+      let (z, p, v) = string-at l s id (string_read l s id) refl q f in
       found_read (id_refusal l s (strings_in s) id) facts (facts_of_string l s id) (roomed room) a old new z
-      (g ∙ parts_are l s id q c p v) w
+      (g ∙ parts_are l s id q.string q.counts p v) w

@@ -1,4 +1,5 @@
 -- The facts of many strings: each string of the pass adds its own behind those of the strings before it.
+use Rattle.std.specs.Prelude.{Err, Ok, Result}
 use mathlib.Core.Path.{◌≡◌, refl, sym, ◌∙◌, ap}
 use mathlib.Core.Logic.{◌⊎◌, inl, inr}
 use mathlib.Core.List.{List}
@@ -11,7 +12,6 @@ use lib.ListN.{length, length-append}
 use lib.Seq.{sets}
 use Rattle.bits.specs.Choice.{pick}
 use Rattle.bits.specs.Outcome.{made, Answers}
-use Rattle.bits.specs.declared.Answer.TheVariants.{Length, Refused}
 use Rattle.bits.proofs.OutcomeLaws.{told_all, refused_outcome, found_read}
 use Rattle.bits.proofs.TestLaws.{below_or}
 use Rattle.bits.proofs.WriteLaws.{sets_then}
@@ -20,9 +20,7 @@ use Rattle.image.specs.Sections.{strings_in}
 use Rattle.image.specs.Admission.{refusal}
 use Rattle.sections.specs.declared.Places.{Places}
 use Rattle.sections.specs.Places.{Placed}
-use Rattle.admission.specs.declared.Admission.{Admission}
-use Rattle.admission.specs.declared.Admission.TheVariants as admission-is
-use Rattle.admission.specs.Admission.{admission, number_of}
+use Rattle.admission.specs.Admission.{admission}
 use Rattle.admission.proofs.AnswerLaws.{refused_is, laid-is, laid_layout}
 use Rattle.string_tables.specs.Strings.{as_place}
 use Rattle.string_walk.specs.declared.Counts.{Counts}
@@ -103,30 +101,29 @@ told_none room count id h =
 -- ---- what is answered
 
 module _ (l : Layout) (s : List ℕ) (id room : ℕ) (old : List ℕ) where
-  pub from_refused : (r : Admission) → r ≡ admission l s → (k : ℕ) → r ≡ admission-is.Refused k → (n : ℕ)
-      → n ≡ number_of r
-      → Answers (string_facts_from room l s id) (Refused n) old old
+  pub from_refused : (r : Result Places ℕ) → r ≡ admission l s → (k : ℕ) → r ≡ Err k
+      → Answers (string_facts_from room l s id) (Err k) old old
   unfolding string_facts_from
-  from_refused r e k f n g =
+  from_refused r e k f =
       let (z, h) = refused_is l s r e k f in
-      refused_outcome (refusal l s) n _ (omega arith, z ∙ sym (g ∙ ap number_of f)) old
+      refused_outcome (refusal l s) k _ (omega arith, z) old
 
-  module _ (p : Places) (f : admission l s ≡ admission-is.Laid p) where
+  module _ (p : Places) (f : admission l s ≡ Ok p) where
     count_is : p.strings ≡ strings_in s
     count_is = (counts l s p f).0
 
     -- the facts of n strings
     from_told : (n : ℕ) → n ≡ strings_told room (strings_in s) id → (exit : List ℕ)
-        → Answers (made (facts_from l s id n)) (Length (n * string_fact_count)) old exit
-        → Answers (string_facts_from room l s id) (Length (n * string_fact_count)) old exit
+        → Answers (made (facts_from l s id n)) (Ok (n * string_fact_count)) old exit
+        → Answers (string_facts_from room l s id) (Ok (n * string_fact_count)) old exit
     unfolding string_facts_from
     from_told n e exit w =
         let admitted : refusal l s ≡ 0 = (laid-is l s (admission l s) refl p f).0 in
-        found_read (refusal l s) (facts_from l s id n) _ (λ o. o) (Length (n * string_fact_count)) old exit admitted
+        found_read (refusal l s) (facts_from l s id n) _ (λ o. o) (Ok (n * string_fact_count)) old exit admitted
         (ap (facts_from l s id) e) w
 
     -- no such string
-    pub from_none : p.strings ≤ id → Answers (string_facts_from room l s id) (Length 0) old old
+    pub from_none : p.strings ≤ id → Answers (string_facts_from room l s id) (Ok 0) old old
     unfolding facts_from
     from_none h =
         from_told 0 (sym (told_none room (strings_in s) id (omega (arith, count_is)))) old (refl, refl)
@@ -134,7 +131,7 @@ module _ (l : Layout) (s : List ℕ) (id room : ℕ) (old : List ℕ) where
     pub from_strings : (n i : ℕ) → n ≡ least_of room (p.strings - id) → i ≡ id
         → room ≡ length old
         → (exit : List ℕ) → exit ≡ sets old 0 (facts_from p.layout s i n)
-        → Answers (string_facts_from room l s id) (Length (n * string_fact_count)) old exit
+        → Answers (string_facts_from room l s id) (Ok (n * string_fact_count)) old exit
     unfolding strings_told
     from_strings n i e g m exit w =
         let t : exit ≡ sets old 0 (facts_from l s id n) = w ∙ rw (laid_layout l s (admission l s) refl p f, g) in

@@ -11,10 +11,8 @@ ghost use Rattle.string_walk.specs.Places.{CursorOf};
 ghost use Rattle.facts.specs.Facts.{flag as Facts·flag, facts_of, image_facts};
 ghost use Rattle.facts.specs.Facts.{facts_of_parts, string_fact_count, facts_of_string, string_facts, facts_from, string_facts_from};
 
-use admission::Admission;
-use bits::Answer;
 use format::Layout;
-use reader::StringRead;
+use refusals::Refusal;
 use sections::Places;
 use string_tables::Place;
 use string_walk::{Counts, Cursor};
@@ -23,7 +21,7 @@ use string_walk::{Counts, Cursor};
 fn flag(holds: bool) -> u64
     ensures { result ≡ Facts·flag holds }
 {
-    if holds { 1 } else { 0 }
+    u64::from(holds)
 }
 
 // Numbers from a place of a buffer on.
@@ -31,22 +29,18 @@ fn put_numbers(out: &mut [u64], at: usize, numbers: &[u64])
     requires { at + length numbers.now ≤ length out.old }
     ensures { out.new ≡ sets out.old at numbers.now }
 {
-    let mut i = 0;
-    while i < numbers.len() {
-        out[at + i] = numbers[i];
-        i += 1;
-    }
+    out[at..at + numbers.len()].copy_from_slice(numbers);
 }
 
 // Numbers at the front of a buffer.
-fn told(numbers: &[u64], out: &mut [u64]) -> Answer
+fn told(numbers: &[u64], out: &mut [u64]) -> Result<usize, Refusal>
     ensures { Answers (roomed (length out.old) (made numbers.now)) result out.old out.new }
 {
     if out.len() < numbers.len() {
-        return Answer::Refused(refusals::ROOM);
+        return Err(refusals::ROOM);
     }
     put_numbers(out, 0, numbers);
-    Answer::Length(numbers.len())
+    Ok(numbers.len())
 }
 
 // ---- an image
@@ -85,14 +79,11 @@ fn facts_of(image: &[u8], p: Places) -> [u64; IMAGE_FACTS]
 }
 
 // What is known of an image, or the refusal.
-pub fn image_facts(image: &[u8], layout: Layout, out: &mut [u64]) -> Answer
+pub fn image_facts(image: &[u8], layout: Layout, out: &mut [u64]) -> Result<usize, Refusal>
     ensures { Answers (roomed (length out.old) (image_facts layout image.now)) result out.old
         out.new }
 {
-    let answer = admission::admit(image, layout);
-    let Admission::Laid(p) = answer else {
-        return Answer::Refused(admission::number_of(answer));
-    };
+    let p = admission::admit(image, layout)?;
     told(&facts_of(image, p), out)
 }
 
@@ -125,19 +116,20 @@ fn facts_of_parts(
 }
 
 // What is known of string `id`, or the refusal.
-pub fn string_facts(image: &[u8], layout: Layout, id: usize, out: &mut [u64]) -> Answer
+pub fn string_facts(
+    image: &[u8],
+    layout: Layout,
+    id: usize,
+    out: &mut [u64],
+) -> Result<usize, Refusal>
     ensures { Answers (roomed (length out.old) (string_facts layout image.now id)) result out.old
         out.new }
 {
-    let read = reader::string(image, layout, id);
-    let StringRead::Found(string, counts) = read else {
-        return Answer::Refused(reader::string_number(read));
-    };
-    let place = string.place;
-    let rank = string.rank;
-    let identifier = string_walk::is_identifier(rank);
+    let found = reader::string(image, layout, id)?;
+    let string = found.string;
+    let identifier = string_walk::is_identifier(string.rank);
     told(
-        &facts_of_parts(string.start, place, identifier, counts),
+        &facts_of_parts(string.start, string.place, identifier, found.counts),
         out,
     )
 }
@@ -170,25 +162,25 @@ fn put_strings(image: &[u8], p: Places, from: Cursor, n: usize, out: &mut [u64])
     ensures { out.new ≡ sets out.old 0 (facts_from p.layout image.now from.id n) }
 {
     let mut c = from;
-    let mut k = 0;
-    while k < n {
+    for k in 0..n {
         c = put_string(image, p, c, out, k * STRING_FACTS);
-        k += 1;
     }
 }
 
 // What is known of the strings from `id` on, of as many as there is room for: locating each by itself
 // would go over the tables for each.
-pub fn string_facts_from(image: &[u8], layout: Layout, id: usize, out: &mut [u64]) -> Answer
+pub fn string_facts_from(
+    image: &[u8],
+    layout: Layout,
+    id: usize,
+    out: &mut [u64],
+) -> Result<usize, Refusal>
     ensures { Answers (string_facts_from (length out.old) layout image.now id) result out.old
         out.new }
 {
-    let answer = admission::admit(image, layout);
-    let Admission::Laid(p) = answer else {
-        return Answer::Refused(admission::number_of(answer));
-    };
+    let p = admission::admit(image, layout)?;
     if p.strings <= id {
-        return Answer::Length(0);
+        return Ok(0);
     }
     let n = bits::least(out.len() / STRING_FACTS, p.strings - id);
     let first = string_walk::first_string();
@@ -199,5 +191,5 @@ pub fn string_facts_from(image: &[u8], layout: Layout, id: usize, out: &mut [u64
         n,
         out,
     );
-    Answer::Length(n * STRING_FACTS)
+    Ok(n * STRING_FACTS)
 }

@@ -1,15 +1,14 @@
 -- The footer: its room, what is stored, and bytes that are compared.
+use Rattle.std.specs.Prelude.{Err}
 use mathlib.Core.Path.{◌≡◌, refl, ◌∙◌}
-use mathlib.Core.Bool.{true, false}
+use mathlib.Core.Bool.{false}
 use mathlib.Core.List.{List, ◌++◌}
 use Prim.Native.Nat.{ℕ, ◌+◌, ◌-◌, ◌≤◌, ◌<◌}
-use native.Mathlib.Numerals.{add-one}
 use native.Mathlib.Omega.{arith}
-use borrow.Author.Tests.{ne_eqb, eq-eqb, le-leb, lt-leb}
-use lib.ListN.{length, take, drop, get_or, length-append, length-take, length-drop, drop_of_length-le}
-use lib.Seq.{sets, sets-eq, length-take-le, drop-cons, take_all}
+use borrow.Author.Tests.{le-leb, lt-leb}
+use lib.ListN.{length, take, drop, length-append, length-take, length-drop}
+use lib.Seq.{sets, sets-eq, length-take-le, take_all}
 use Rattle.bits.specs.Outcome.{refused, made, Answers}
-use Rattle.bits.specs.declared.Answer.TheVariants.{Refused}
 use Rattle.bits.proofs.OutcomeLaws.{roomed_short, roomed-fits}
 use Rattle.sha1_hash.specs.Sha1.{digest}
 use Rattle.sha1_hash.proofs.BlockLaws.{length-digest}
@@ -27,7 +26,7 @@ module _ (buf : List ℕ) (len : ℕ) where
   append_short h = roomed_short (length buf) (footed (take len buf)) (rw (length-footed (take len buf), length-take) (omega arith))
 
   -- and then nothing is written
-  pub append_out : length buf < len + footer_length → Answers (append_of buf len) (Refused 13) buf buf
+  pub append_out : length buf < len + footer_length → Answers (append_of buf len) (Err 13) buf buf
   append_out h = rw (append_short h) (refl, refl)
 
   pub length_made : len ≤ length buf → length (footed (take len buf)) ≡ len + footer_length
@@ -54,20 +53,7 @@ module _ (buf : List ℕ) (len : ℕ) where
   unfolding rehash_of
   rehash_short h = rw (lt-leb _ _ h)
 
--- ---- bytes compared
-
-module _ (a b : List ℕ) (i : ℕ) (h : i < length a) (l : length a ≡ length b) where
-  pub same-differ : (get_or a i 0 ≡ get_or b i 0 → ⊥) → same (drop i a) (drop i b) ≡ false
-  unfolding same
-  same-differ n = rw (drop-cons a i 0 h, drop-cons b i 0 (rw l at h), ne_eqb _ _ n)
-
-  pub same_more : get_or a i 0 ≡ get_or b i 0 → same (drop i a) (drop i b) ≡ same (drop (i + 1) a) (drop (i + 1) b)
-  unfolding same
-  same_more e = rw (add-one, drop-cons a i 0 h, drop-cons b i 0 (rw l at h), eq-eqb _ _ e)
-
-pub same_end : (a b : List ℕ) (i : ℕ) → length a ≡ length b → length a ≤ i → same (drop i a) (drop i b) ≡ true
-unfolding same
-same_end a b i l h = rw (drop_of_length-le a h, drop_of_length-le b (rw l at h))
+-- ---- the footer checked
 
 module _ (buf : List ℕ) where
   pub verified_short : length buf < footer_length → verified buf ≡ false

@@ -1,14 +1,28 @@
 -- Lists that are the same: the test says so exactly where they are one list.
 use mathlib.Core.Path.{◌≡◌, refl, ap}
-use mathlib.Core.Bool.{Bool, true, false}
+use mathlib.Core.Bool.{Bool, true, false, ◌&&◌}
 use mathlib.Core.List.{List, [], ◌∷◌}
 use Prim.Native.Nat.{ℕ}
 use native.Mathlib.Omega.{arith}
 use borrow.Author.Tests.{eqb-true, eq-eqb}
 use lib.Dec.{eqb}
+use lib.Pointwise.{pointwise}
+use Rattle.bits.specs.Choice.{both}
 use lib.ListN.{length}
 use Rattle.bits.proofs.TestLaws.{both_0, both_1}
 use Rattle.footer.specs.Footer.{same}
+
+-- the standard's comparison of two slices
+and_both : (p q : Bool) → p && q ≡ both p q
+and_both true q = refl
+and_both false q = refl
+
+pub pointwise-same : (a b : List ℕ) → pointwise eqb a b ≡ same a b
+unfolding same
+pointwise-same [] [] = refl
+pointwise-same [] (y ∷ b) = refl
+pointwise-same (x ∷ a) [] = refl
+pointwise-same (x ∷ a) (y ∷ b) = rw (pointwise-same a b) (and_both (eqb x y) (same a b))
 
 pub same-is : (a b : List ℕ) → same a b ≡ true → a ≡ b
 unfolding same

@@ -12,7 +12,7 @@ ghost use Rattle.sha1_hash.specs.Sha1.{digest};
 ghost use Rattle.footer.specs.Footer.{footer_length, append_of, rehash_of, same, verified};
 ghost use Rattle.footer.specs.Finalize.{finalize_of};
 
-use bits::Answer;
+use refusals::Refusal;
 
 // The length of a footer.
 pub const FOOTER_LEN: usize = 20;
@@ -41,22 +41,19 @@ fn put_footer(buf: &mut [u8], len: usize)
 
 // Appends the footer to the image in the first `len` bytes. Refused with 13 where the buffer has
 // no room for it.
-pub fn append_footer(buf: &mut [u8], len: usize) -> Answer
+pub fn append_footer(buf: &mut [u8], len: usize) -> Result<usize, Refusal>
     ensures { Answers (append_of buf.old len) result buf.old buf.new }
 {
-    if buf.len() < FOOTER_LEN {
-        return Answer::Refused(refusals::ROOM);
-    }
-    if buf.len() - FOOTER_LEN < len {
-        return Answer::Refused(refusals::ROOM);
+    if buf.len() < FOOTER_LEN || buf.len() - FOOTER_LEN < len {
+        return Err(refusals::ROOM);
     }
     put_footer(buf, len);
-    Answer::Length(len + FOOTER_LEN)
+    Ok(len + FOOTER_LEN)
 }
 
 // Replaces the footer that ends the image in the first `len` bytes. An image too short to have one
 // gets one appended.
-pub fn rehash_footer(buf: &mut [u8], len: usize) -> Answer
+pub fn rehash_footer(buf: &mut [u8], len: usize) -> Result<usize, Refusal>
     ensures { Answers (rehash_of buf.old len) result buf.old buf.new }
 {
     if len < FOOTER_LEN {
@@ -65,19 +62,11 @@ pub fn rehash_footer(buf: &mut [u8], len: usize) -> Answer
     append_footer(buf, len - FOOTER_LEN)
 }
 
-// Whether two slices of one length hold the same bytes.
+// Whether two slices hold the same bytes.
 pub fn same_bytes(a: &[u8], b: &[u8]) -> bool
-    requires { length a.now ≡ length b.now }
     ensures { result ≡ same a.now b.now }
 {
-    let mut i = 0;
-    while i < a.len() {
-        if a[i] != b[i] {
-            return false;
-        }
-        i += 1;
-    }
-    true
+    a == b
 }
 
 // Whether the last 20 bytes are the footer of those before them.
@@ -95,17 +84,14 @@ pub fn verify_footer(buf: &[u8]) -> bool
 // Puts the file length in its place and then the footer over the last 20 bytes: in an image of
 // fewer than 56 bytes the two overlap, and the footer is what stays. Refused with 1 where the image
 // is too short to hold its length, or longer than an image may be.
-pub fn finalize_raw_image(buf: &mut [u8]) -> Answer
+pub fn finalize_raw_image(buf: &mut [u8]) -> Result<usize, Refusal>
     ensures { Answers (finalize_of buf.old) result buf.old buf.new }
 {
     let n = buf.len();
-    if n < LEAST_LENGTH {
-        return Answer::Refused(refusals::SIZE);
-    }
-    if SIZE_LIMIT < n {
-        return Answer::Refused(refusals::SIZE);
+    if n < LEAST_LENGTH || SIZE_LIMIT < n {
+        return Err(refusals::SIZE);
     }
     format::put_word(buf, 0, format::FILE_LENGTH, n as u64);
     put_footer(buf, n - FOOTER_LEN);
-    Answer::Length(n)
+    Ok(n)
 }

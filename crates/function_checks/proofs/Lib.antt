@@ -1,2 +1,1 @@
 pub mod AloneLaws
-pub mod SizeLaws

@@ -24,13 +24,7 @@ fn shares_with(f: Function, g: Function) -> bool
     requires { WordSized f × WordSized g }
     ensures { result ≡ shares_with (as_func f) (as_func g) }
 {
-    if f.size == 0 {
-        return false;
-    }
-    if f.begin + f.size <= g.begin {
-        return false;
-    }
-    f.begin < g.begin + g.size
+    f.size > 0 && g.begin < f.begin + f.size && f.begin < g.begin + g.size
 }
 
 // Whether the info place of `g` lies in body `f`.
@@ -38,10 +32,7 @@ fn has_info_within(f: Function, g: Function) -> bool
     requires { WordSized f }
     ensures { result ≡ info_within (as_func f) (as_func g) }
 {
-    if g.info < f.begin {
-        return false;
-    }
-    g.info < f.begin + f.size
+    f.begin <= g.info && g.info < f.begin + f.size
 }
 
 // Whether function `g` leaves body `f` alone; `other` says that it is not the body's own.
@@ -49,13 +40,7 @@ fn leaves_alone(f: Function, g: Function, other: bool) -> bool
     requires { WordSized f × WordSized g }
     ensures { result ≡ both (implies other (not (shares_with (as_func f) (as_func g)))) (not (info_within (as_func f) (as_func g))) }
 {
-    if has_info_within(f, g) {
-        return false;
-    }
-    if !other {
-        return true;
-    }
-    !shares_with(f, g)
+    !has_info_within(f, g) && !(other && shares_with(f, g))
 }
 
 // Whether every function leaves body `id` alone, the own info place too.
@@ -65,13 +50,11 @@ pub fn stands_alone(image: &[u8], p: Places, id: usize, f: Function) -> bool
     ensures { result ≡ both (body_alone p.layout image.now id) (infos_outside p.layout image.now id) }
 {
     let layout = p.layout;
-    let mut j = 0;
-    while j < p.functions {
+    for j in 0..p.functions {
         let g = function_table::function_at(image, layout, j);
         if !leaves_alone(f, g, j != id) {
             return false;
         }
-        j += 1;
     }
     true
 }
@@ -83,10 +66,7 @@ pub fn is_debug_past(image: &[u8], layout: Layout, threshold: usize) -> bool
         (leb threshold (debug_in layout image.now)) }
 {
     let debug = sections::debug_of(image, layout);
-    if debug == 0 {
-        return true;
-    }
-    threshold <= debug
+    debug == 0 || threshold <= debug
 }
 
 // ---- 10, 11 and 12
@@ -95,10 +75,7 @@ pub fn is_debug_past(image: &[u8], layout: Layout, threshold: usize) -> bool
 pub fn is_from_nothing(old: usize, new: usize) -> bool
     ensures { result ≡ from_nothing old new }
 {
-    if old != 0 {
-        return false;
-    }
-    0 < new
+    old == 0 && new > 0
 }
 
 // Whether an image of `length` bytes is too long once `new` bytes take the place of `old`. A body
@@ -107,10 +84,7 @@ pub fn is_too_long(length: usize, old: usize, new: usize) -> bool
     requires { (old ≤ length) × (length ≤ size_limit) }
     ensures { result ≡ ltb size_limit (length - old + new) }
 {
-    if footer::SIZE_LIMIT < new {
-        return true;
-    }
-    footer::SIZE_LIMIT < length - old + new
+    footer::SIZE_LIMIT < new || footer::SIZE_LIMIT < length - old + new
 }
 
 // The size field of a record, by the name of its row.
@@ -119,10 +93,7 @@ fn size_field(layout: Layout) -> usize
 {
     match layout {
         Layout::Modern => format::MODERN_SIZE,
-        Layout::Legacy {
-            big_integers: _,
-            function_sources: _,
-        } => format::LEGACY_SIZE,
+        Layout::Legacy { .. } => format::LEGACY_SIZE,
     }
 }
 
@@ -131,8 +102,5 @@ fn size_field(layout: Layout) -> usize
 pub fn does_size_fit(layout: Layout, f: Function, size: usize) -> bool
     ensures { result ≡ either f.large (not (beyond (size_row layout) size)) }
 {
-    if f.large {
-        return true;
-    }
-    !moved_fields::is_beyond(size_field(layout), size)
+    f.large || !moved_fields::is_beyond(size_field(layout), size)
 }

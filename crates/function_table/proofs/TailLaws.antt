@@ -1,4 +1,5 @@
 -- What one function has in the tail, and the pass over all functions.
+use Rattle.std.specs.Prelude.{Err, Ok, Result}
 use mathlib.Core.Path.{◌≡◌, refl, sym, ◌∙◌, ap, subst}
 use mathlib.Core.Bool.{Bool, true, false, not}
 use mathlib.Core.List.{List}
@@ -6,7 +7,7 @@ use Prim.Native.Nat.{ℕ, ◌+◌, ◌≤◌, ◌<◌}
 use native.Mathlib.Omega.{arith}
 use lib.Dec.{leb, eqb}
 use lib.ListN.{length}
-use borrow.Author.Tests.{le-leb, lt-leb, leb-true, eq-eqb, ne_eqb, not-true, not-false}
+use borrow.Author.Tests.{leb-true, not-true, not-false}
 use Rattle.bits.specs.Choice.{pick, both, implies, all_below}
 use Rattle.bits.proofs.TestLaws.{both_1}
 use Rattle.bits.proofs.PassLaws.{all_both, pass_stop, pass_end}
@@ -15,8 +16,6 @@ use Rattle.format.specs.declared.Layout.{Layout}
 use Rattle.format.specs.declared.Layout.TheVariants.{Modern, Legacy}
 use Rattle.format.specs.Table as table
 use Rattle.format.specs.Record.{is_large, pointer}
-use Rattle.header_write.specs.declared.Pointer.{Pointer}
-use Rattle.header_write.specs.declared.Pointer.TheVariants as answer
 use Rattle.footer.specs.Footer.{footer_length}
 use Rattle.image.specs.Sections.{functions_in, debug_in, tail_at}
 use Rattle.image.specs.Functions.{Func, small, header, record_in, func_of}
@@ -25,27 +24,11 @@ use Rattle.sections.specs.declared.Places.{Places}
 use Rattle.sections.specs.Places.{Placed}
 use Rattle.sections.proofs.SectionLaws.{Sectioned, sectioned}
 use Rattle.function_table.specs.declared.Function.{Function}
-use Rattle.function_table.specs.declared.FunctionRead.{FunctionRead}
-use Rattle.function_table.specs.declared.FunctionRead.TheVariants.{Found, Refused}
 use Rattle.function_table.specs.Functions.{as_func, as_function, WordSized, FoundSized, pointer_judged, header_in, function_read}
 use Rattle.function_table.specs.Functions.{within, function_in, functions_in_tail}
 use Rattle.function_table.proofs.ReadLaws.{SmallRead, LargeRead, small_is, header_is, is_large_lem, points_to, is-small}
 
 -- ---- bytes and places in the tail
-
-module _ (tail len at : ℕ) where
-  pub before_tail : (n : ℕ) → at < tail → false ≡ within tail len at n
-  before_tail n h = rw (lt-leb tail at h)
-
-  pub from_tail : (n : ℕ) → tail ≤ at → leb (at + n + footer_length) len ≡ within tail len at n
-  from_tail n h = rw (le-leb tail at h)
-
-  pub no_place : at ≡ 0 → true ≡ implies (not (eqb at 0)) (within tail len at 0)
-  no_place h = rw (eq-eqb at 0 h)
-
-  pub some_place : (at ≡ 0 → ⊥) → (r : Bool) → r ≡ within tail len at 0
-      → r ≡ implies (not (eqb at 0)) (within tail len at 0)
-  some_place h r e = rw (ne_eqb at 0 h, e)
 
 within_end : (tail len at n : ℕ) → within tail len at n ≡ true → at + n + footer_length ≤ len
 within_end tail len at n h = leb-true (at + n + footer_length) len (both_1 (leb tail at) (leb (at + n + footer_length) len) h)
@@ -82,11 +65,11 @@ module _ {p : Places} {s : List ℕ} {n ptr : ℕ} {f : Field} {r : Bool} (z : P
   judges : in_tail p.layout s (pointer p.layout n) (table.large_row p.layout).width ≡ r
   judges = rw (← z.to, ← z.row) (sym (z.test ∙ in_tail_lem p s z.placed ptr f.width))
 
-  pub pointer_out : not r ≡ true → answer.Refused 6 ≡ pointer_judged p.layout s n
+  pub pointer_out : not r ≡ true → Err 6 ≡ pointer_judged p.layout s n
   unfolding pointer_judged
   pointer_out h = rw (judges, not-true r h)
 
-  pub pointer_in : not r ≡ false → answer.At ptr ≡ pointer_judged p.layout s n
+  pub pointer_in : not r ≡ false → Ok ptr ≡ pointer_judged p.layout s n
   unfolding pointer_judged
   pointer_in h = rw (judges, not-false r h, z.to)
 
@@ -95,56 +78,58 @@ module _ {p : Places} {s : List ℕ} {n ptr : ℕ} {f : Field} {r : Bool} (z : P
       let y : Sectioned p s = sectioned p s z.placed in
       omega (arith, within_end p.tail (length s) ptr f.width (sym z.test ∙ not-false r h))
 
-module _ (l : Layout) (s : List ℕ) (n : ℕ) (j : Pointer) (e : j ≡ pointer_judged l s n) where
-  judged_out : (k : ℕ) → j ≡ answer.Refused k → in_tail l s (pointer l n) (table.large_row l).width ≡ false
+module _ (l : Layout) (s : List ℕ) (n : ℕ) (j : Result ℕ ℕ) (e : j ≡ pointer_judged l s n) where
+  judged_out : (k : ℕ) → j ≡ Err k → (in_tail l s (pointer l n) (table.large_row l).width ≡ false) × (k ≡ 6)
   unfolding pointer_judged
   judged_out k f = go (in_tail l s (pointer l n) (table.large_row l).width) (sym e ∙ f)
     where
-      go : (b : Bool) → pick b (answer.At (pointer l n)) (answer.Refused 6) ≡ answer.Refused k → b ≡ false
+      go : (b : Bool) → pick {A = Result ℕ ℕ} b (Ok (pointer l n)) (Err 6) ≡ Err k → (b ≡ false) × (k ≡ 6)
       go true q = let z : ◌≡◌ {A = ℕ} 0 1 = cc in absurd (omega arith)
-      go false q = refl
+      go false q = (refl, cc)
 
-  pub judged_in : (ptr : ℕ) → j ≡ answer.At ptr → (in_tail l s (pointer l n) (table.large_row l).width ≡ true)
+  pub judged_in : (ptr : ℕ) → j ≡ Ok ptr → (in_tail l s (pointer l n) (table.large_row l).width ≡ true)
       × (ptr ≡ pointer l n)
   unfolding pointer_judged
   judged_in ptr f = go (in_tail l s (pointer l n) (table.large_row l).width) (sym e ∙ f)
     where
-      go : (b : Bool) → pick b (answer.At (pointer l n)) (answer.Refused 6) ≡ answer.At ptr → (b ≡ true) × (ptr ≡ pointer l n)
+      go : (b : Bool) → pick {A = Result ℕ ℕ} b (Ok (pointer l n)) (Err 6) ≡ Ok ptr → (b ≡ true) × (ptr ≡ pointer l n)
       go true q = (refl, cc)
       go false q = let z : ◌≡◌ {A = ℕ} 0 1 = cc in absurd (omega arith)
 
 -- ---- a function that was read
 
 module _ (l : Layout) (s : List ℕ) (i : ℕ) where
-  found : (f : Function) → as_func f ≡ func_of l s i → header_in l s (func_of l s i) ≡ true → Found f ≡ function_read l s i
+  found : (f : Function) → as_func f ≡ func_of l s i → header_in l s (func_of l s i) ≡ true → Ok f ≡ function_read l s i
   unfolding function_read
-  found f e h = rw h (ap (λ (g : Func). Found (as_function g)) e)
+  found f e h = rw h (ap (λ (g : Func). Ok (as_function g)) e)
 
-  not_found : header_in l s (func_of l s i) ≡ false → Refused 6 ≡ function_read l s i
+  not_found : header_in l s (func_of l s i) ≡ false → Err 6 ≡ function_read l s i
   unfolding function_read
   not_found h = rw h
 
-  pub small_found : (n : ℕ) → SmallRead l s i n → (f : Function) → as_func f ≡ small l n → Found f ≡ function_read l s i
+  pub small_found : (n : ℕ) → SmallRead l s i n → (f : Function) → as_func f ≡ small l n → Ok f ≡ function_read l s i
   small_found n z f h = found f (small_is z (as_func f) h) (rw (is-small z))
 
 -- n is the record of function i, which has a large header, and j its pointer as it was judged
-pub record PointerRead (l : Layout) (s : List ℕ) (i n : ℕ) (j : Pointer) : Type 0 where
+pub record PointerRead (l : Layout) (s : List ℕ) (i n : ℕ) (j : Result ℕ ℕ) : Type 0 where
   pub number : n ≡ record_in l s i
   pub flag : is_large l n ≡ true
   pub pointer : j ≡ pointer_judged l s n
 
-module _ {l : Layout} {s : List ℕ} {i n : ℕ} {j : Pointer} (z : PointerRead l s i n j) where
+module _ {l : Layout} {s : List ℕ} {i n : ℕ} {j : Result ℕ ℕ} (z : PointerRead l s i n j) where
   large : (ptr : ℕ) → ptr ≡ pointer l n → LargeRead l s i n ptr
   large ptr q = record { number = z.number; flag = z.flag; place = q }
 
   header_in_lem : (ptr : ℕ) → ptr ≡ pointer l n → header_in l s (func_of l s i) ≡ in_tail l s (pointer l n) (table.large_row l).width
   header_in_lem ptr q = rw (is_large_lem (large ptr q), points_to (large ptr q), q)
 
-  pub pointer_refused : (k : ℕ) → j ≡ answer.Refused k → Refused 6 ≡ function_read l s i
-  pointer_refused k f = not_found l s i (header_in_lem (pointer l n) refl ∙ judged_out l s n j z.pointer k f)
+  pub pointer_refused : (k : ℕ) → j ≡ Err k → Err k ≡ function_read l s i
+  pointer_refused k f =
+      let (t, e) = judged_out l s n j z.pointer k f in
+      rw e (not_found l s i (header_in_lem (pointer l n) refl ∙ t))
 
-  module _ (ptr : ℕ) (q : j ≡ answer.At ptr) where
-    pub header_found : (f : Function) → as_func f ≡ header l ptr s → Found f ≡ function_read l s i
+  module _ (ptr : ℕ) (q : j ≡ Ok ptr) where
+    pub header_found : (f : Function) → as_func f ≡ header l ptr s → Ok f ≡ function_read l s i
     header_found f h =
         let (t, e) = judged_in l s n j z.pointer ptr q in
         found l s i f (header_is (large ptr e) (as_func f) h) (header_in_lem ptr e ∙ t)
@@ -156,22 +141,22 @@ module _ {l : Layout} {s : List ℕ} {i n : ℕ} {j : Pointer} (z : PointerRead 
 
 -- ---- what one function has in the tail
 
-module _ (l : Layout) (s : List ℕ) (i : ℕ) (r : FunctionRead) (e : r ≡ function_read l s i) where
-  pub refused_out : (k : ℕ) → r ≡ Refused k → false ≡ function_in l s (func_of l s i)
+module _ (l : Layout) (s : List ℕ) (i : ℕ) (r : Result Function ℕ) (e : r ≡ function_read l s i) where
+  pub refused_out : (k : ℕ) → r ≡ Err k → false ≡ function_in l s (func_of l s i)
   unfolding function_read function_in
   refused_out k f = go (header_in l s (func_of l s i)) (sym e ∙ f)
     where
-      go : (b : Bool) → pick b (Found (as_function (func_of l s i))) (Refused 6) ≡ Refused k
+      go : (b : Bool) → pick {A = Result Function ℕ} b (Ok (as_function (func_of l s i))) (Err 6) ≡ Err k
           → false ≡ both b (both (in_tail l s (func_of l s i).begin (func_of l s i).size) (place_in_tail l s (func_of l s i).info))
       go true q = let z : ◌≡◌ {A = ℕ} 0 1 = cc in absurd (omega arith)
       go false q = refl
 
-pub found_sized : (r : FunctionRead) (f : Function) → r ≡ Found f → FoundSized r → WordSized f
+pub found_sized : (r : Result Function ℕ) (f : Function) → r ≡ Ok f → FoundSized r → WordSized f
 found_sized r f g h = subst FoundSized g h
 
 -- function i is read as f, and a says whether its body lies in the tail
 pub record BodyTested (l : Layout) (s : List ℕ) (i : ℕ) (f : Function) (a : Bool) : Type 0 where
-  pub found : Found f ≡ function_read l s i
+  pub found : Ok f ≡ function_read l s i
   pub test : a ≡ in_tail l s f.begin f.size
 
 module _ {l : Layout} {s : List ℕ} {i : ℕ} {f : Function} {a : Bool} (z : BodyTested l s i f a) where
@@ -179,7 +164,7 @@ module _ {l : Layout} {s : List ℕ} {i : ℕ} {f : Function} {a : Bool} (z : Bo
   unfolding function_read
   found_is = go (header_in l s (func_of l s i)) (sym z.found)
     where
-      go : (b : Bool) → pick b (Found (as_function (func_of l s i))) (Refused 6) ≡ Found f → (b ≡ true)
+      go : (b : Bool) → pick {A = Result Function ℕ} b (Ok (as_function (func_of l s i))) (Err 6) ≡ Ok f → (b ≡ true)
           × (func_of l s i ≡ as_func f)
       go true q = let y : as_function (func_of l s i) ≡ f = cc in (refl, ap as_func y)
       go false q = let y : ◌≡◌ {A = ℕ} 0 1 = cc in absurd (omega arith)

@@ -1,20 +1,16 @@
 -- Functions as code reads them, and the part of refusal 6 that speaks of one function at a time.
 -- docs/FORMAT.md: Large headers, Admission.
-use Rattle.std.specs.Prelude.{◌≡◌, Bool, true, List, ℕ, ◌+◌, ◌<◌, leb}
+use Rattle.std.specs.Prelude.{◌≡◌, Bool, true, List, ℕ, ◌+◌, ◌<◌, leb, Err, Ok, Result}
 use Rattle.refusals.specs.Numbers as refusals
 use Rattle.bits.specs.Choice.{pick, both, implies}
 use Rattle.format.specs.declared.Layout.{Layout}
 use Rattle.format.specs.Table as table
 use Rattle.format.specs.Record.{pointer}
-use Rattle.header_write.specs.declared.Pointer.{Pointer}
-use Rattle.header_write.specs.declared.Pointer.TheVariants as pointer_is
 use Rattle.footer.specs.Footer.{footer_length}
 use Rattle.image.specs.Functions.{Func, func_of}
 use Rattle.image.specs.Admission.{in_tail, place_in_tail, headers_in, bodies_in, infos_in}
 use Rattle.sections.specs.Places.{Fits}
 use Rattle.function_table.specs.declared.Function.{Function}
-use Rattle.function_table.specs.declared.FunctionRead.{FunctionRead}
-use Rattle.function_table.specs.declared.FunctionRead.TheVariants as read_is
 
 -- ---- the code's function is the definitions'
 
@@ -38,22 +34,22 @@ Readable l s = Fits l s × (headers_in l s ≡ true)
 -- ---- a header is read only where its words stand in the tail
 
 -- the pointer of record n, judged as a whole number
-unfoldable pub pointer_judged : Layout → List ℕ → ℕ → Pointer
+unfoldable pub pointer_judged : Layout → List ℕ → ℕ → Result ℕ ℕ
 pointer_judged l s n =
-    pick (in_tail l s (pointer l n) (table.large_row l).width) (pointer_is.At (pointer l n)) (pointer_is.Refused refusals.function)
+    pick (in_tail l s (pointer l n) (table.large_row l).width) (Ok (pointer l n)) (Err refusals.function)
 
 -- the words of a function's large header stand in the tail
 abbrev pub header_in : Layout → List ℕ → Func → Bool
 header_in l s f = implies f.large (in_tail l s f.ptr (table.large_row l).width)
 
 -- function i, or 6
-unfoldable pub function_read : Layout → List ℕ → ℕ → FunctionRead
-function_read l s i = pick (header_in l s (func_of l s i)) (read_is.Found (as_function (func_of l s i))) (read_is.Refused refusals.function)
+unfoldable pub function_read : Layout → List ℕ → ℕ → Result Function ℕ
+function_read l s i = pick (header_in l s (func_of l s i)) (Ok (as_function (func_of l s i))) (Err refusals.function)
 
 -- the words of a function that was found
-abbrev pub FoundSized : FunctionRead → Type 0
-FoundSized (read_is.Found f) = WordSized f
-FoundSized (read_is.Refused n) = Unit {0}
+abbrev pub FoundSized : Result Function ℕ → Type 0
+FoundSized (Ok f) = WordSized f
+FoundSized (Err n) = Unit {0}
 
 -- ---- places of one function
 

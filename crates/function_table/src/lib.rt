@@ -19,7 +19,7 @@ ghost use Rattle.function_table.specs.Functions.{within, function_in, functions_
 
 use bits::Words;
 use format::Layout;
-use header_write::Pointer;
+use refusals::Refusal;
 use sections::Places;
 
 // A function: whether it has a large header, the pointer to that, its body's start and size, and its
@@ -33,13 +33,6 @@ pub struct Function {
     pub info: usize,
 }
 
-// The answer of a function's reader.
-#[derive(Clone, Copy)]
-pub enum FunctionRead {
-    Found(Function),
-    Refused(u8),
-}
-
 // ---- records
 
 // The record in a slot of its own, as one number.
@@ -49,10 +42,7 @@ fn load_record(slot: &[u8], layout: Layout) -> Words
 {
     match layout {
         Layout::Modern => bits::load12(slot),
-        Layout::Legacy {
-            big_integers: _,
-            function_sources: _,
-        } => bits::load16(slot),
+        Layout::Legacy { .. } => bits::load16(slot),
     }
 }
 
@@ -72,10 +62,7 @@ fn flags_of(words: Words, layout: Layout) -> u64
 {
     match layout {
         Layout::Modern => records::value(words, format::MODERN_FLAGS),
-        Layout::Legacy {
-            big_integers: _,
-            function_sources: _,
-        } => records::value(words, format::LEGACY_FLAGS),
+        Layout::Legacy { .. } => records::value(words, format::LEGACY_FLAGS),
     }
 }
 
@@ -92,10 +79,7 @@ pub fn pointer_of(words: Words, layout: Layout) -> u64
 {
     match layout {
         Layout::Modern => records::modern_pointer(words),
-        Layout::Legacy {
-            big_integers: _,
-            function_sources: _,
-        } => records::legacy_pointer(words),
+        Layout::Legacy { .. } => records::legacy_pointer(words),
     }
 }
 
@@ -111,10 +95,7 @@ pub fn small_function(words: Words, layout: Layout) -> Function
             size: records::value(words, format::MODERN_SIZE) as usize,
             info: 0,
         },
-        Layout::Legacy {
-            big_integers: _,
-            function_sources: _,
-        } => Function {
+        Layout::Legacy { .. } => Function {
             large: false,
             ptr: 0,
             begin: records::value(words, format::LEGACY_OFFSET) as usize,
@@ -148,10 +129,7 @@ pub fn large_function(image: &[u8], layout: Layout, ptr: usize) -> Function
             size: large_word(image, ptr, format::MODERN_LARGE_SIZE),
             info: 0,
         },
-        Layout::Legacy {
-            big_integers: _,
-            function_sources: _,
-        } => Function {
+        Layout::Legacy { .. } => Function {
             large: true,
             ptr,
             begin: large_word(image, ptr, format::LARGE_OFFSET),
@@ -169,9 +147,10 @@ pub fn function_at(image: &[u8], layout: Layout, i: usize) -> Function
 {
     let words = record_of(image, layout, i);
     if is_large(words, layout) {
-        return large_function(image, layout, pointer_of(words, layout) as usize);
+        large_function(image, layout, pointer_of(words, layout) as usize)
+    } else {
+        small_function(words, layout)
     }
-    small_function(words, layout)
 }
 
 // ---- the tail
@@ -181,10 +160,7 @@ fn is_in_tail(image: &[u8], tail: usize, at: usize, n: usize) -> bool
     requires { (at < 2 ^ 41) × (n < 2 ^ 32) }
     ensures { result ≡ within tail (length image.now) at n }
 {
-    if at < tail {
-        return false;
-    }
-    at + n + footer::FOOTER_LEN <= image.len()
+    tail <= at && at + n + footer::FOOTER_LEN <= image.len()
 }
 
 // Whether a place is 0 or stands in the tail. It has no width.
@@ -192,28 +168,25 @@ fn is_place_in_tail(image: &[u8], tail: usize, at: usize) -> bool
     requires { at < 2 ^ 32 }
     ensures { result ≡ implies (not (eqb at 0)) (within tail (length image.now) at 0) }
 {
-    if at == 0 {
-        return true;
-    }
-    is_in_tail(image, tail, at, 0)
+    at == 0 || is_in_tail(image, tail, at, 0)
 }
 
 // The large pointer of a record, judged as a whole number, before any modulo: refused with 6 where
 // the words of the header do not stand in the tail.
-fn judged_pointer(image: &[u8], p: Places, words: Words) -> Pointer
+fn judged_pointer(image: &[u8], p: Places, words: Words) -> Result<u32, Refusal>
     requires { Placed p image.now }
     ensures { result ≡ pointer_judged p.layout image.now (whole words) }
 {
     let layout = p.layout;
     let ptr = pointer_of(words, layout) as usize;
     if !is_in_tail(image, p.tail, ptr, format::large_row(layout).width) {
-        return Pointer::Refused(refusals::FUNCTION);
+        return Err(refusals::FUNCTION);
     }
-    Pointer::At(ptr as u32)
+    Ok(ptr as u32)
 }
 
 // Function `i`. A large header is read only after its place was judged.
-fn read_function(image: &[u8], p: Places, i: usize) -> FunctionRead
+fn read_function(image: &[u8], p: Places, i: usize) -> Result<Function, Refusal>
     requires placed { Placed p image.now }
     requires i_bound { i < functions_in image.now }
     ensures { (result ≡ function_read p.layout image.now i) × FoundSized result }
@@ -221,13 +194,10 @@ fn read_function(image: &[u8], p: Places, i: usize) -> FunctionRead
     let layout = p.layout;
     let words = record_of(image, layout, i);
     if !is_large(words, layout) {
-        return FunctionRead::Found(small_function(words, layout));
+        return Ok(small_function(words, layout));
     }
-    let judged = judged_pointer(image, p, words);
-    let Pointer::At(ptr) = judged else {
-        return FunctionRead::Refused(refusals::FUNCTION);
-    };
-    FunctionRead::Found(large_function(image, layout, ptr as usize))
+    let ptr = judged_pointer(image, p, words)?;
+    Ok(large_function(image, layout, ptr as usize))
 }
 
 // Whether the large header, the body and the info place of function `i` stand in the tail.
@@ -236,14 +206,10 @@ fn is_function_in_tail(image: &[u8], p: Places, i: usize) -> bool
     requires i_bound { i < functions_in image.now }
     ensures { result ≡ function_in p.layout image.now (func_of p.layout image.now i) }
 {
-    let read = read_function(image, p, i);
-    let FunctionRead::Found(f) = read else {
+    let Ok(f) = read_function(image, p, i) else {
         return false;
     };
-    if !is_in_tail(image, p.tail, f.begin, f.size) {
-        return false;
-    }
-    is_place_in_tail(image, p.tail, f.info)
+    is_in_tail(image, p.tail, f.begin, f.size) && is_place_in_tail(image, p.tail, f.info)
 }
 
 // Whether those of every function do.
@@ -251,12 +217,10 @@ pub fn are_functions_in_tail(image: &[u8], p: Places) -> bool
     requires { Placed p image.now }
     ensures { result ≡ functions_in_tail p.layout image.now }
 {
-    let mut i = 0;
-    while i < p.functions {
+    for i in 0..p.functions {
         if !is_function_in_tail(image, p, i) {
             return false;
         }
-        i += 1;
     }
     true
 }

@@ -1,4 +1,5 @@
 -- The refusals of a body patch in order, one law for each way out.
+use Rattle.std.specs.Prelude.{Err, Ok, Result}
 use mathlib.Core.Path.{◌≡◌, refl, ap, sym, ◌∙◌, subst}
 use mathlib.Core.Bool.{Bool, true, false, not}
 use mathlib.Core.List.{List, ◌∷◌}
@@ -10,8 +11,6 @@ use lib.ListN.{length, get_or}
 use lib.Seq.{sets, length-sets}
 use Rattle.bits.specs.Choice.{pick, both, either, implies, check, judge}
 use Rattle.bits.specs.Outcome.{refused, made, answered}
-use Rattle.bits.specs.declared.Answer.{Answer}
-use Rattle.bits.specs.declared.Answer.TheVariants as answer
 use Rattle.bits.proofs.TestLaws.{both_0, both_1}
 use Rattle.bits.proofs.JudgeLaws.{judge_pass}
 use Rattle.format.specs.declared.Layout.{Layout}
@@ -31,9 +30,7 @@ use Rattle.edits.proofs.WriteLaws.{length_writes, length-splice}
 use Rattle.sections.specs.declared.Places.{Places}
 use Rattle.sections.specs.Places.{places_of}
 use Rattle.sections.specs.Places as places
-use Rattle.admission.specs.declared.Admission.{Admission}
-use Rattle.admission.specs.declared.Admission.TheVariants.{Laid, Refused}
-use Rattle.admission.specs.Admission.{admission, number_of}
+use Rattle.admission.specs.Admission.{admission}
 use Rattle.admission.proofs.AnswerLaws.{judged_then, judged_none, refused_is, laid-is, is-laid}
 use Rattle.function_table.specs.declared.Function.{Function}
 use Rattle.function_table.specs.Functions.{as_func, WordSized, Readable}
@@ -122,7 +119,7 @@ module _ (l : Layout) (s : List ℕ) (id : ℕ) (body : List ℕ) where
   abbrev len : ℕ
   len = moved_past_body l s id body (length s)
 
-  abbrev judged : Answer
+  abbrev judged : Result ℕ ℕ
   judged = answer_for (judge (body_checks l s id body)) len
 
   -- the checks after the first two
@@ -140,7 +137,7 @@ module _ {l : Layout} {s : List ℕ} {id : ℕ} {f : Function} (body : List ℕ)
       rw e (sym (length_moved l s id body (omega (arith, body_ends l s z.admitted id z.known))))
 
   module _ (a : Bool) (e : a ≡ both (body_alone l s id) (infos_outside l s id)) where
-    pub not_alone : not a ≡ true → answer.Refused 9 ≡ judged l s id body
+    pub not_alone : not a ≡ true → Err 9 ≡ judged l s id body
     unfolding judge
     not_alone h =
         ap (λ (n : ℕ). answer_for n (len l s id body))
@@ -163,7 +160,7 @@ module _ {l : Layout} {s : List ℕ} {id : ℕ} {body : List ℕ} {f : Function}
     debug-is =
         sym (e ∙ ap (λ (x : Func). implies (not (eqb (debug_in l s) 0)) (leb (threshold x) (debug_in l s))) z.chosen.is.is)
 
-    pub debug_before : not b ≡ true → answer.Refused 9 ≡ judged l s id body
+    pub debug_before : not b ≡ true → Err 9 ≡ judged l s id body
     debug_before h = sym (after z ∙ rw (debug-is, not-true b h))
 
     pub is_clear : not b ≡ false → Clear l s id body f
@@ -173,7 +170,7 @@ module _ {l : Layout} {s : List ℕ} {id : ℕ} {body : List ℕ} {f : Function}
     nothing_is : from_nothing (func_of l s id).size (length body) ≡ c
     nothing_is = sym (e ∙ ap (λ (x : Func). from_nothing x.size (length body)) z.alone.chosen.is.is)
 
-    pub put_in_nothing : c ≡ true → answer.Refused 10 ≡ judged l s id body
+    pub put_in_nothing : c ≡ true → Err 10 ≡ judged l s id body
     put_in_nothing h = sym (after z.alone ∙ rw (z.debug, nothing_is, h))
 
     pub is_grounded : c ≡ false → Grounded l s id body f
@@ -183,7 +180,7 @@ module _ {l : Layout} {s : List ℕ} {id : ℕ} {body : List ℕ} {f : Function}
     long-is : ltb size_limit (len l s id body) ≡ d
     long-is = sym (e ∙ ap (λ (n : ℕ). ltb size_limit n) (new_length_lem body z.clear.alone.chosen))
 
-    pub too_long : d ≡ true → answer.Refused 11 ≡ judged l s id body
+    pub too_long : d ≡ true → Err 11 ≡ judged l s id body
     too_long h = sym (after z.clear.alone ∙ rw (z.clear.debug, z.some, long-is, h))
 
     pub is-short : d ≡ false → Short l s id body f
@@ -201,7 +198,7 @@ module _ {l : Layout} {s : List ℕ} {id : ℕ} {body : List ℕ} {f : Function}
         let t : FunctionIs l s id f = z.grounded.clear.alone.chosen.is in
         sym (e ∙ ap (λ (x : Func). either x.large (not (beyond (size_row l) (length body)))) t.is)
 
-    pub size-beyond : not x ≡ true → answer.Refused 12 ≡ judged l s id body
+    pub size-beyond : not x ≡ true → Err 12 ≡ judged l s id body
     size-beyond h =
         let g : Grounded l s id body f = z.grounded in
         sym (after g.clear.alone ∙ rw (g.clear.debug, g.some, z.limit, size_is, not-true x h))
@@ -222,18 +219,18 @@ module _ {l : Layout} {s : List ℕ} {id : ℕ} {body : List ℕ} {f : Function}
         let g : Grounded l s id body f = z.short.grounded in
         after g.clear.alone ∙ rw (g.clear.debug, g.some, z.short.limit, z.size, fields_are)
 
-    pub fields_beyond : not y ≡ true → answer.Refused 12 ≡ judged l s id body
+    pub fields_beyond : not y ≡ true → Err 12 ≡ judged l s id body
     fields_beyond h = sym (last ∙ rw (not-true y h))
 
-    pub all_fit : not y ≡ false → answer.Length (length s - f.size + length body) ≡ judged l s id body
-    all_fit h = ap answer.Length (new_length_lem body chosen_of) ∙ sym (last ∙ rw (not-false y h))
+    pub all_fit : not y ≡ false → Ok (length s - f.size + length body) ≡ judged l s id body
+    all_fit h = ap Ok (new_length_lem body chosen_of) ∙ sym (last ∙ rw (not-false y h))
 
 -- ---- all refusals
 
 -- the image is admitted with these places, and has a function id
 pub record FunctionKnown (l : Layout) (s : List ℕ) (id : ℕ) (p : Places) : Type 0 where
   pub bytes : (i : ℕ) → get_or s i 0 < 256
-  pub laid : admission l s ≡ Laid p
+  pub laid : admission l s ≡ Ok p
   pub known : id < p.functions
 
 module _ (l : Layout) (s : List ℕ) (id : ℕ) (body : List ℕ) where
@@ -242,7 +239,7 @@ module _ (l : Layout) (s : List ℕ) (id : ℕ) (body : List ℕ) where
   answer_is = go (eqb (body_refusal l s id body) 0)
     where
       go : (b : Bool) → answered (pick b (made (patched_body l s id body)) (refused (body_refusal l s id body)))
-          ≡ pick b (answer.Length (length (patched_body l s id body))) (answer.Refused (body_refusal l s id body))
+          ≡ pick b (Ok (length (patched_body l s id body))) (Err (body_refusal l s id body))
       go true = refl
       go false = refl
 
@@ -251,15 +248,14 @@ module _ (l : Layout) (s : List ℕ) (id : ℕ) (body : List ℕ) where
   unfolding body_refusal
   in_order = judged_then l s (check 7 (leb (functions_in s) id) ∷ body_checks l s id body)
 
-  module _ (a : Admission) (e : a ≡ admission l s) where
-    pub image_refused : (k : ℕ) → a ≡ Refused k → (n : ℕ) → n ≡ number_of a
-        → answer.Refused n ≡ answered (patch_body l s id body)
-    image_refused k h n g =
+  module _ (a : Result Places ℕ) (e : a ≡ admission l s) where
+    pub image_refused : (k : ℕ) → a ≡ Err k → Err k ≡ answered (patch_body l s id body)
+    image_refused k h =
         let (z, some) = refused_is l s a e k h in
         let y : eqb k 0 ≡ false = ne_eqb k 0 (λ q. omega arith) in
-        ap answer.Refused (g ∙ ap number_of h) ∙ sym (answer_is ∙ rw (in_order, z, y, y))
+        sym (answer_is ∙ rw (in_order, z, y, y))
 
-    module _ (p : Places) (h : a ≡ Laid p) where
+    module _ (p : Places) (h : a ≡ Ok p) where
       passed : refusal l s ≡ 0
       passed = (laid-is l s a e p h).0
 
@@ -269,7 +265,7 @@ module _ (l : Layout) (s : List ℕ) (id : ℕ) (body : List ℕ) where
       own : body_refusal l s id body ≡ judge (check 7 (leb (functions_in s) id) ∷ body_checks l s id body)
       own = in_order ∙ rw (eq-eqb (refusal l s) 0 passed)
 
-      pub no_function_lem : p.functions ≤ id → answer.Refused 7 ≡ answered (patch_body l s id body)
+      pub no_function_lem : p.functions ≤ id → Err 7 ≡ answered (patch_body l s id body)
       unfolding judge
       no_function_lem k = sym (answer_is ∙ rw (own, le-leb (functions_in s) id (omega (arith, functions_are l s p places_are))))
 
@@ -297,7 +293,7 @@ module _ (l : Layout) (s : List ℕ) (id : ℕ) (body : List ℕ) where
       (known, subst (λ (x : Layout). FunctionIs x s id f) (sym layout_of) (record { is = q.0; sized = q.1 })),
     )
 
-    pub body_judged : (r : Answer)
+    pub body_judged : (r : Result ℕ ℕ)
         → r ≡ answer_for (judge (body_checks p.layout s id body)) (moved_past_body p.layout s id body (length s))
         → r ≡ answered (patch_body l s id body)
     unfolding judge
@@ -309,12 +305,12 @@ module _ (l : Layout) (s : List ℕ) (id : ℕ) (body : List ℕ) where
   -- ---- what is accepted
 
   -- no check is met
-  accepts : (n : ℕ) → answer.Length n ≡ answered (patch_body l s id body) → (body_refusal l s id body ≡ 0)
+  accepts : (n : ℕ) → Ok n ≡ answered (patch_body l s id body) → (body_refusal l s id body ≡ 0)
       × (n ≡ length (patched_body l s id body))
   accepts n e = go (eqb (body_refusal l s id body) 0) refl (e ∙ answer_is)
     where
       go : (b : Bool) → eqb (body_refusal l s id body) 0 ≡ b
-          → answer.Length n ≡ pick b (answer.Length (length (patched_body l s id body))) (answer.Refused (body_refusal l s id body))
+          → Ok n ≡ pick b (Ok (length (patched_body l s id body))) (Err (body_refusal l s id body))
           → (body_refusal l s id body ≡ 0) × (n ≡ length (patched_body l s id body))
       go true t q = (eqb-true (body_refusal l s id body) 0 t, cc)
       go false t q = let z : ◌≡◌ {A = ℕ} 0 1 = cc in absurd (omega arith)
@@ -324,7 +320,7 @@ module _ (l : Layout) (s : List ℕ) (id : ℕ) (body : List ℕ) where
   unfolding body_refusal
   admitted = judged_none l s (check 7 (leb (functions_in s) id) ∷ body_checks l s id body)
 
-  module _ (n : ℕ) (e : answer.Length n ≡ answered (patch_body l s id body)) where
+  module _ (n : ℕ) (e : Ok n ≡ answered (patch_body l s id body)) where
     pub makes : (patch_body l s id body ≡ made (patched_body l s id body)) × (n ≡ length (patched_body l s id body))
     unfolding patch_body
     makes = let z = accepts n e in (rw (eq-eqb (body_refusal l s id body) 0 z.0), z.1)

@@ -1,4 +1,5 @@
 -- The patched image as it is written.
+use Rattle.std.specs.Prelude.{Err, Ok, Result}
 use mathlib.Core.Path.{◌≡◌, refl, ap, sym, ◌∙◌, subst}
 use mathlib.Core.Bool.{true, false}
 use mathlib.Core.Logic.{inl, inr}
@@ -12,8 +13,6 @@ use lib.Dec.{ltb}
 use lib.ListN.{length, get_or, take, drop, drop_of_length-le}
 use lib.Seq.{sets, sets-eq, length-take-le}
 use Rattle.bits.specs.Outcome.{Outcome, refused, made, answered, roomed, Answers}
-use Rattle.bits.specs.declared.Answer.{Answer}
-use Rattle.bits.specs.declared.Answer.TheVariants as answer
 use Rattle.bits.proofs.TestLaws.{below_or}
 use Rattle.bits.proofs.OutcomeLaws.{roomed_short, roomed-fits, lent-front}
 use Rattle.format.specs.declared.Layout.{Layout}
@@ -119,7 +118,7 @@ module _ {l : Layout} {s : List ℕ} {id : ℕ} {body : List ℕ} {room : ℕ} {
 -- ---- and finalized
 
 module _ (l : Layout) (s : List ℕ) (id : ℕ) (body o : List ℕ) (ok : Accepted l s id body (length o)) where
-  pub finalized : (o₁ o₂ : List ℕ) (r : Answer) → o₁ ≡ bodied l s id body → Answers (finalize_of o₁) r o₁ o₂
+  pub finalized : (o₁ o₂ : List ℕ) (r : Result ℕ ℕ) → o₁ ≡ bodied l s id body → Answers (finalize_of o₁) r o₁ o₂
       → Answers (made (patched_body l s id body)) r o o₂
   unfolding patched_body
   finalized o₁ o₂ r e a =
@@ -136,12 +135,12 @@ module _ (l : Layout) (s : List ℕ) (id : ℕ) (body o : List ℕ) (ok : Accept
 
 -- ---- the ways out
 
-module _ (l : Layout) (s : List ℕ) (id : ℕ) (body out : List ℕ) (r : Answer) (e : r ≡ answered (patch_body l s id body)) where
+module _ (l : Layout) (s : List ℕ) (id : ℕ) (body out : List ℕ) (r : Result ℕ ℕ) (e : r ≡ answered (patch_body l s id body)) where
   abbrev outcome : Outcome
   outcome = roomed (length out) (patch_body l s id body)
 
   -- a refusal goes out as it is
-  pub goes_out : (n : ℕ) → r ≡ answer.Refused n → Answers outcome r out out
+  pub goes_out : (n : ℕ) → r ≡ Err n → Answers outcome r out out
   unfolding roomed
   goes_out n f = go (patch_body l s id body) e
     where
@@ -149,22 +148,22 @@ module _ (l : Layout) (s : List ℕ) (id : ℕ) (body out : List ℕ) (r : Answe
       go (refused m) g = (g, refl)
       go (made new) g = let z : ◌≡◌ {A = ℕ} 0 1 = cc in absurd (omega arith)
 
-  module _ (n : ℕ) (f : r ≡ answer.Length n) where
-    pub no_room : length out < n → Answers outcome (answer.Refused 13) out out
+  module _ (n : ℕ) (f : r ≡ Ok n) where
+    pub no_room : length out < n → Answers outcome (Err 13) out out
     no_room h =
         let m = makes l s id body n (sym f ∙ e) in
         rw (m.0, roomed_short (length out) (patched_body l s id body) (omega (arith, m.1))) (refl, refl)
 
 -- the result has length n, and there is room for it
 pub record PatchRoomy (l : Layout) (s : List ℕ) (id : ℕ) (body out : List ℕ) (n : ℕ) : Type 0 where
-  pub measured : answer.Length n ≡ answered (patch_body l s id body)
+  pub measured : Ok n ≡ answered (patch_body l s id body)
   pub room : n ≤ length out
 
 module _ {l : Layout} {s : List ℕ} {id : ℕ} {body out : List ℕ} {n : ℕ} (z : PatchRoomy l s id body out n) where
   pub room_made : ((i : ℕ) → get_or s i 0 < 256) → Accepted l s id body (length (take (n - 0) (drop 0 out)))
   room_made bytes = rw (sub-zero, length-take-le n out z.room) (accepted l s id body n z.measured bytes)
 
-  pub written_out : (q : Answer) (part : List ℕ) → Answers (made (patched_body l s id body)) q (take (n - 0) (drop 0 out)) part
+  pub written_out : (q : Result ℕ ℕ) (part : List ℕ) → Answers (made (patched_body l s id body)) q (take (n - 0) (drop 0 out)) part
       → Answers (roomed (length out) (patch_body l s id body)) q out (put_mid 0 (n - 0) out part)
   written_out q part a =
       let m : (patch_body l s id body ≡ made (patched_body l s id body)) × (n ≡ length (patched_body l s id body))

@@ -1,12 +1,10 @@
 -- A body patch. 01, Bodies and Refusal numbers.
 -- docs/FORMAT.md: Body patches, Order.
-use Rattle.std.specs.Prelude.{not, List, [], ◌∷◌, ◌++◌, ℕ, leb, ltb, eqb, length}
+use Rattle.std.specs.Prelude.{not, List, [], ◌∷◌, ◌++◌, ℕ, leb, ltb, eqb, length, Err, Ok, Result}
 use Rattle.std.proofs.lemmas.List.Edits.{sets}
 use Rattle.refusals.specs.Numbers as refusals
 use Rattle.bits.specs.Choice.{pick, Check, check, judge}
 use Rattle.bits.specs.Outcome.{Outcome, outcome_for}
-use Rattle.bits.specs.declared.Answer.{Answer}
-use Rattle.bits.specs.declared.Answer.TheVariants.{Length, Refused}
 use Rattle.format.specs.declared.Layout.{Layout}
 use Rattle.footer.specs.Finalize.{size_limit, lengthed, sealed}
 use Rattle.image.specs.Sections.{functions_in}
@@ -51,5 +49,5 @@ patch_body l s id body = outcome_for (body_refusal l s id body) (patched_body l 
 
 -- ---- what code answers before it writes: the refusal, or the length of the result
 
-abbrev pub answer_for : ℕ → ℕ → Answer
-answer_for number len = pick (eqb number 0) (Length len) (Refused number)
+abbrev pub answer_for : ℕ → ℕ → Result ℕ ℕ
+answer_for number len = pick (eqb number 0) (Ok len) (Err number)

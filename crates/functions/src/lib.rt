@@ -11,15 +11,20 @@ ghost use Rattle.function_checks.specs.Checks.{moved_past_body, FunctionIs};
 ghost use Rattle.functions.specs.Patch.{bodied, patched_body, body_checks, patch_body, answer_for};
 ghost use Rattle.functions.specs.Stages.{Accepted};
 
-use admission::Admission;
-use bits::Answer;
 use format::Layout;
 use function_table::Function;
+use refusals::Refusal;
 use relocate::{Cause, Move};
 use sections::Places;
 
 // Numbers 9 to 12 for the body of function `id`, which is `f`, or the length of the result.
-fn judge_body(image: &[u8], p: Places, id: usize, f: Function, body: &[u8]) -> Answer
+fn judge_body(
+    image: &[u8],
+    p: Places,
+    id: usize,
+    f: Function,
+    body: &[u8],
+) -> Result<usize, Refusal>
     requires laid { Laid p image.now }
     requires id_bound { (id < functions_in image.now) × FunctionIs p.layout image.now id f }
     ensures { result ≡ answer_for (judge (body_checks p.layout image.now id body.now))
@@ -29,37 +34,32 @@ fn judge_body(image: &[u8], p: Places, id: usize, f: Function, body: &[u8]) -> A
     let begin = f.begin;
     let old = f.size;
     let new = body.len();
-    if !function_checks::stands_alone(image, p, id, f) {
-        return Answer::Refused(refusals::INSIDE);
-    }
-    if !function_checks::is_debug_past(image, layout, begin + old) {
-        return Answer::Refused(refusals::INSIDE);
+    if !function_checks::stands_alone(image, p, id, f)
+        || !function_checks::is_debug_past(image, layout, begin + old)
+    {
+        return Err(refusals::INSIDE);
     }
     if function_checks::is_from_nothing(old, new) {
-        return Answer::Refused(refusals::EMPTY);
+        return Err(refusals::EMPTY);
     }
     if function_checks::is_too_long(image.len(), old, new) {
-        return Answer::Refused(refusals::LIMIT);
+        return Err(refusals::LIMIT);
     }
-    if !function_checks::does_size_fit(layout, f, new) {
-        return Answer::Refused(refusals::FIELD);
+    if !function_checks::does_size_fit(layout, f, new)
+        || !moved_fields::fields_fit(image, p, begin + old, begin + new)
+    {
+        return Err(refusals::FIELD);
     }
-    if !moved_fields::fields_fit(image, p, begin + old, begin + new) {
-        return Answer::Refused(refusals::FIELD);
-    }
-    Answer::Length(image.len() - old + new)
+    Ok(image.len() - old + new)
 }
 
 // The length of the patched image, or the first number that refuses it.
-fn measure(image: &[u8], layout: Layout, id: usize, body: &[u8]) -> Answer
+fn measure(image: &[u8], layout: Layout, id: usize, body: &[u8]) -> Result<usize, Refusal>
     ensures { result ≡ answered (patch_body layout image.now id body.now) }
 {
-    let admitted = admission::admit(image, layout);
-    let Admission::Laid(p) = admitted else {
-        return Answer::Refused(admission::number_of(admitted));
-    };
+    let p = admission::admit(image, layout)?;
     if p.functions <= id {
-        return Answer::Refused(refusals::ID);
+        return Err(refusals::ID);
     }
     let f = function_table::function_at(image, layout, id);
     judge_body(image, p, id, f, body)
@@ -88,7 +88,13 @@ fn put_body(out: &mut [u8], image: &[u8], layout: Layout, id: usize, body: &[u8]
 }
 
 // The patched image, in a buffer of its length.
-fn put_patched(out: &mut [u8], image: &[u8], layout: Layout, id: usize, body: &[u8]) -> Answer
+fn put_patched(
+    out: &mut [u8],
+    image: &[u8],
+    layout: Layout,
+    id: usize,
+    body: &[u8],
+) -> Result<usize, Refusal>
     requires { Accepted layout image.now id body.now (length out.old) }
     ensures { Answers (made (patched_body layout image.now id body.now)) result out.old
         out.new }
@@ -108,16 +114,13 @@ pub fn patch_function_bytes(
     id: usize,
     body: &[u8],
     out: &mut [u8],
-) -> Answer
+) -> Result<usize, Refusal>
     ensures { Answers (roomed (length out.old) (patch_body layout image.now id body.now)) result
         out.old out.new }
 {
-    let measured = measure(image, layout, id, body);
-    let Answer::Length(length) = measured else {
-        return measured;
-    };
+    let length = measure(image, layout, id, body)?;
     if out.len() < length {
-        return Answer::Refused(refusals::ROOM);
+        return Err(refusals::ROOM);
     }
     put_patched(&mut out[0..length], image, layout, id, body)
 }

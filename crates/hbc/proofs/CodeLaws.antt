@@ -1,4 +1,5 @@
 -- The number of an answer tells it: a refusal's is 2^32 or more, and no length is.
+use Rattle.std.specs.Prelude.{Err, Ok, Result}
 use mathlib.Core.Path.{◌≡◌, refl, ap, sym, ◌∙◌, subst}
 use mathlib.Core.Bool.{Bool, true, false}
 use mathlib.Core.Logic.{inl, inr}
@@ -12,7 +13,6 @@ use Rattle.bits.specs.Choice.{pick, judge}
 use Rattle.bits.specs.Outcome.{Outcome, refused, made, outcome_for, written, answered, roomed}
 use Rattle.bits.proofs.TestLaws.{below_or}
 use Rattle.bits.proofs.OutcomeLaws.{one_outcome}
-use Rattle.bits.specs.declared.Answer.TheVariants.{Length, Refused}
 use Rattle.bits.proofs.ListLaws.{AllBelow}
 use Rattle.bits.proofs.ByteLaws.{length-bytes_at, bytes_at_below}
 use Rattle.bits.proofs.JudgeLaws.{judge_pass}
@@ -50,15 +50,12 @@ use Rattle.patches.proofs.StepLaws.{made_of, patch_promise}
 use Rattle.listing_pieces.specs.Listing.{listed, part_room, listing_part}
 use Rattle.listing_pieces.proofs.PartLaws.{part_short, part_fits}
 use Rattle.input_records.specs.Heads.{layout_of}
-use Rattle.string_index.specs.declared.Filled.{Filled}
-use Rattle.string_index.specs.declared.Filled.TheVariants as Filled-is
-use Rattle.string_index.specs.declared.Lookup.{Lookup}
-use Rattle.string_index.specs.declared.Lookup.TheVariants as lookup-is
 use Rattle.string_index.specs.Index.{fill_refusal, filled_as}
-use Rattle.hbc.specs.Numbers.{coded, Codes, stated, mode_of, chosen, count_numbered}
+use Rattle.hbc.specs.Numbers.{numbered, coded, Codes, stated, mode_of, chosen}
 use Rattle.string_reasons.specs.declared.Reason.{Reason}
 use Rattle.string_reasons.specs.declared.Reason.TheVariants as reason-is
 use Rattle.hbc.specs.Reads.{string_reading, body_reading, looked_up, reason_words}
+use Rattle.string_index.specs.declared.Entry.{Entry}
 
 -- the length of what is made fits 32 bits
 abbrev pub Short : Outcome → Type 0
@@ -72,10 +69,10 @@ one_code o r r' old new new' p q = one_outcome (coded o) r r' (written o old) ne
 
 -- TWO OUTCOMES WITH ONE NUMBER HAVE ONE ANSWER
 pub told-apart : (o o' : Outcome) → Short o → Short o' → coded o ≡ coded o' → answered o ≡ answered o'
-told-apart (refused n) (refused m) h k e = ap Refused (let z : n ≡ m = omega arith in z)
+told-apart (refused n) (refused m) h k e = ap Err (let z : n ≡ m = omega arith in z)
 told-apart (refused n) (made t) h k e = absurd (omega (arith, k))
 told-apart (made t) (refused m) h k e = absurd (omega (arith, h))
-told-apart (made t) (made u) h k e = ap Length e
+told-apart (made t) (made u) h k e = ap Ok e
 
 -- ---- rooms, layouts and modes change nothing of it
 
@@ -249,9 +246,9 @@ short_facts_from l s bytes room id = short_judged (refusal l s) _ (λ e.
 
 -- ---- the index of an image
 
-pub short_looked_up : (x : Lookup) → Short (looked_up x)
-short_looked_up (lookup-is.Found e) = omega arith
-short_looked_up (lookup-is.Refused n) = tt
+pub short_looked_up : (x : Result Entry ℕ) → Short (looked_up x)
+short_looked_up (Ok e) = omega arith
+short_looked_up (Err n) = tt
 
 -- ---- a reason
 
@@ -285,24 +282,24 @@ pub reasons_apart : (r q : Reason) → reason_words r ≡ reason_words q → r �
 reasons_apart r q e = sym (told_back r) ∙ ap told e ∙ told_back q
 
 -- the strings that are counted fit 32 bits, so that a count is told from a refusal too
-abbrev pub Few : Filled → Type 0
-Few (Filled-is.Strings n) = n < 4294967296
-Few (Filled-is.Refused n) = Unit {0}
+abbrev pub Few : Result ℕ ℕ → Type 0
+Few (Ok n) = n < 4294967296
+Few (Err n) = Unit {0}
 
-pub counts_apart : (f g : Filled) → Few f → Few g → count_numbered f ≡ count_numbered g → f ≡ g
-counts_apart (Filled-is.Strings n) (Filled-is.Strings m) h k e = ap Filled-is.Strings e
-counts_apart (Filled-is.Strings n) (Filled-is.Refused m) h k e = absurd (omega (arith, h))
-counts_apart (Filled-is.Refused n) (Filled-is.Strings m) h k e = absurd (omega (arith, k))
-counts_apart (Filled-is.Refused n) (Filled-is.Refused m) h k e = ap Filled-is.Refused (let z : n ≡ m = omega arith in z)
+pub counts_apart : (f g : Result ℕ ℕ) → Few f → Few g → numbered f ≡ numbered g → f ≡ g
+counts_apart (Ok n) (Ok m) h k e = ap Ok e
+counts_apart (Ok n) (Err m) h k e = absurd (omega (arith, h))
+counts_apart (Err n) (Ok m) h k e = absurd (omega (arith, k))
+counts_apart (Err n) (Err m) h k e = ap Err (let z : n ≡ m = omega arith in z)
 
 pub few_filled : (l : Layout) (s : List ℕ) → ((i : ℕ) → get_or s i 0 < 256) → (words : ℕ) → Few (filled_as l s words)
 unfolding filled_as fill_refusal
 few_filled l s bytes words = go (fill_refusal l s words) (λ e. (judged_none l s _ e).0)
   where
-    go : (n : ℕ) → (n ≡ 0 → refusal l s ≡ 0) → Few (pick (eqb n 0) (Filled-is.Strings (strings_in s)) (Filled-is.Refused n))
+    go : (n : ℕ) → (n ≡ 0 → refusal l s ≡ 0) → Few (pick (eqb n 0) (Ok (strings_in s)) (Err n))
     go n f = by (eqb n 0) refl
       where
-        by : (b : Bool) → eqb n 0 ≡ b → Few (pick b (Filled-is.Strings (strings_in s)) (Filled-is.Refused n))
+        by : (b : Bool) → eqb n 0 ≡ b → Few (pick b (Ok (strings_in s)) (Err n))
         by true e =
             let a : Admitted l s = admitted l s bytes (f (eqb-true n 0 e)) in
             omega (arith, (counted a).strings, a.most)

@@ -1,4 +1,5 @@
 -- The number of an answer, under a layout byte and a mode byte.
+use Rattle.std.specs.Prelude.{Err, Ok, Result}
 use mathlib.Core.Path.{◌≡◌, refl, sym, ◌∙◌, ap, subst}
 use mathlib.Core.Bool.{Bool, true, false}
 use mathlib.Core.List.{List}
@@ -11,18 +12,15 @@ use Rattle.format.specs.declared.Mode.TheVariants.{Plain, Even}
 use Rattle.footer.specs.Finalize.{finalize_of}
 use Rattle.image.specs.Admission.{refusal}
 use Rattle.input_records.specs.Heads.{layout_of}
-use Rattle.admission.specs.declared.Admission.{Admission}
-use Rattle.admission.specs.Admission.{answer_for, admission, number_of}
+use Rattle.admission.specs.Admission.{admission}
+use Rattle.admission.proofs.AnswerLaws.{refused_is, laid-is}
 use Rattle.bits.specs.Outcome.{Outcome, roomed, Answers}
-use Rattle.bits.specs.declared.Answer.{Answer}
-use Rattle.bits.specs.declared.Answer.TheVariants.{Refused}
 use Rattle.translate.specs.Space.{LeavesSpace}
-use Rattle.string_index.specs.declared.Filled.{Filled}
-use Rattle.string_index.specs.declared.Filled.TheVariants as Filled-is
 use Rattle.string_reasons.specs.declared.Reason.{Reason}
 use Rattle.hbc.specs.Numbers.{admit_number, numbered, Codes, stated, mode_of, chosen, used_by, work_by, work_in}
-use Rattle.hbc.specs.Numbers.{count_numbered, count_stated}
+use Rattle.hbc.specs.Numbers.{count_stated}
 use Rattle.hbc.specs.Reads.{reason_words}
+use Rattle.sections.specs.declared.Places.{Places}
 
 -- the byte states this layout
 pub record States (byte : ℕ) (l : Layout) : Type 0 where
@@ -34,34 +32,32 @@ pub no_layout : (byte : ℕ) (s : List ℕ) → 4 < byte → 15 ≡ admit_number
 unfolding admit_number
 no_layout byte s h = rw (lt-ltb 4 byte h) refl
 
--- any other: the answer's number is the refusal's
-number_of_answer : (l : Layout) (s : List ℕ) → number_of (admission l s) ≡ refusal l s
-unfolding admission
-number_of_answer l s = go (refusal l s) (eqb (refusal l s) 0) refl
-  where
-    go : (n : ℕ) (b : Bool) → eqb n 0 ≡ b → number_of (answer_for l s n) ≡ n
-    go n true e = rw e (sym (eqb-true n 0 e))
-    go n false e = rw e refl
+-- any other: an image that is laid out has no refusal
+module _ (byte : ℕ) (s : List ℕ) (l : Layout) (z : States byte l) (a : Result Places ℕ) (e : a ≡ admission l s) where
+  pub layout_laid : (p : Places) → a ≡ Ok p → 0 ≡ admit_number byte s
+  unfolding admit_number
+  layout_laid p f =
+      rw (le-ltb 4 byte z.known) (sym (laid-is l s a e p f).0 ∙ ap (λ (x : Layout). refusal x s) z.is)
 
-pub layout_stated : (byte : ℕ) (s : List ℕ) (l : Layout) → States byte l → (a : Admission) → a ≡ admission l s
-    → (r : ℕ) → r ≡ number_of a → r ≡ admit_number byte s
-unfolding admit_number
-layout_stated byte s l z a f r g =
-    rw (le-ltb 4 byte z.known) (g ∙ ap number_of f ∙ number_of_answer l s ∙ ap (λ (x : Layout). refusal x s) z.is)
+  pub layout_refused : (k r : ℕ) → a ≡ Err k → r ≡ k → r ≡ admit_number byte s
+  unfolding admit_number
+  layout_refused k r f g =
+      rw (le-ltb 4 byte z.known) (g ∙ sym (refused_is l s a e k f).0 ∙ ap (λ (x : Layout). refusal x s) z.is)
 
 -- ---- functions that write
 
-pub refused_number : (a : Answer) (n r : ℕ) → a ≡ Refused n → r ≡ n → 4294967296 + r ≡ numbered a
+pub refused_number : (a : Result ℕ ℕ) (n r : ℕ) → a ≡ Err n → r ≡ n → 4294967296 + r ≡ numbered a
 refused_number a n r e f = ap (λ (x : ℕ). 4294967296 + x) f ∙ sym (ap numbered e)
 
-codes : (o : Outcome) (a : Answer) (r : ℕ) (old new : List ℕ) → Answers o a old new → r ≡ numbered a → Codes o r old new
+codes : (o : Outcome) (a : Result ℕ ℕ) (r : ℕ) (old new : List ℕ) → Answers o a old new → r ≡ numbered a → Codes o r old new
 codes o a r old new (e, w) f = (f ∙ ap numbered e, w)
 
-pub finalize_codes : (s : List ℕ) (a : Answer) (r : ℕ) (old new : List ℕ) → Answers (finalize_of s) a old new → r ≡ numbered a
+pub finalize_codes : (s : List ℕ) (a : Result ℕ ℕ) (r : ℕ) (old new : List ℕ) → Answers (finalize_of s) a old new
+    → r ≡ numbered a
     → Codes (finalize_of s) r old new
 finalize_codes s = codes (finalize_of s)
 
-pub roomed_codes : (room : ℕ) (o : Outcome) (a : Answer) (r : ℕ) (old new : List ℕ) → Answers (roomed room o) a old new
+pub roomed_codes : (room : ℕ) (o : Outcome) (a : Result ℕ ℕ) (r : ℕ) (old new : List ℕ) → Answers (roomed room o) a old new
     → r ≡ numbered a
     → Codes (roomed room o) r old new
 roomed_codes room o = codes (roomed room o)
@@ -72,7 +68,7 @@ unfolding stated
 no_layout_codes byte o old h = rw (lt-ltb 4 byte h) (refl, refl)
 
 -- any other
-pub layout_codes : (byte : ℕ) (o : Layout → Outcome) (l : Layout) (a : Answer) (r : ℕ) (old new : List ℕ) → States byte l
+pub layout_codes : (byte : ℕ) (o : Layout → Outcome) (l : Layout) (a : Result ℕ ℕ) (r : ℕ) (old new : List ℕ) → States byte l
     → Answers (o l) a old new → r ≡ numbered a → Codes (stated byte o) r old new
 unfolding stated
 layout_codes byte o l a r old new z g f =
@@ -100,7 +96,7 @@ module _ (layout mode : ℕ) (o : Layout → Mode → Outcome) where
   no_mode_codes old h k = rw (le-ltb 4 layout h, lt-ltb 1 mode k) (refl, refl)
 
   -- any other
-  pub mode_codes : (l : Layout) (m : Mode) → States layout l → Chooses mode m → (a : Answer) (r : ℕ) (old new : List ℕ)
+  pub mode_codes : (l : Layout) (m : Mode) → States layout l → Chooses mode m → (a : Result ℕ ℕ) (r : ℕ) (old new : List ℕ)
       → Answers (o l m) a old new → r ≡ numbered a → Codes (stated layout (λ k. chosen mode (o k))) r old new
   unfolding chosen
   mode_codes l m y z a r old new g f =
@@ -157,7 +153,7 @@ module _ (layout mode : ℕ) (after : Layout → List ℕ) (old : List ℕ) wher
 -- ---- an answer that is a reason
 
 pub reason_codes : (layout mode : ℕ) (f : Layout → Mode → Reason) (l : Layout) (m : Mode) → States layout l → Chooses mode m
-    → (room : ℕ) (r : Reason) → r ≡ f l m → (a : Answer) (n : ℕ) (old new : List ℕ)
+    → (room : ℕ) (r : Reason) → r ≡ f l m → (a : Result ℕ ℕ) (n : ℕ) (old new : List ℕ)
     → Answers (roomed room (reason_words r)) a old new → n ≡ numbered a
     → Codes (stated layout (λ k. chosen mode (λ j. roomed room (reason_words (f k j))))) n old new
 reason_codes layout mode f l m y z room r e a n old new g =
@@ -166,15 +162,12 @@ reason_codes layout mode f l m y z room r e a n old new g =
 
 -- ---- an answer that counts strings
 
-pub refused_count : (a : Filled) (n r : ℕ) → a ≡ Filled-is.Refused n → r ≡ n → 4294967296 + r ≡ count_numbered a
-refused_count a n r e f = ap (λ (x : ℕ). 4294967296 + x) f ∙ sym (ap count_numbered e)
-
-module _ (layout : ℕ) (f : Layout → Filled) where
+module _ (layout : ℕ) (f : Layout → Result ℕ ℕ) where
   pub no_layout_count : 4 < layout → 4294967311 ≡ count_stated layout f
   unfolding count_stated
   no_layout_count h = rw (lt-ltb 4 layout h)
 
-  pub layout_count : (l : Layout) → States layout l → (a : Filled) (r : ℕ) → a ≡ f l → r ≡ count_numbered a
+  pub layout_count : (l : Layout) → States layout l → (a : Result ℕ ℕ) (r : ℕ) → a ≡ f l → r ≡ numbered a
       → r ≡ count_stated layout f
   unfolding count_stated
-  layout_count l y a r e g = g ∙ ap count_numbered (e ∙ ap f y.is) ∙ rw (le-ltb 4 layout y.known)
+  layout_count l y a r e g = g ∙ ap numbered (e ∙ ap f y.is) ∙ rw (le-ltb 4 layout y.known)

@@ -1,27 +1,23 @@
 -- Answers as one number, for callers in C and in Rust. 01: "A refusal answers its number".
 -- docs/FORMAT.md: Exports.
-use Rattle.std.specs.Prelude.{◌≡◌, Bool, false, List, ℕ, ◌+◌, ltb, eqb}
+use Rattle.std.specs.Prelude.{◌≡◌, Bool, false, List, ℕ, ◌+◌, ltb, eqb, Err, Ok, Result}
 use Rattle.refusals.specs.Numbers as refusals
 use Rattle.bits.specs.Choice.{pick}
 use Rattle.bits.specs.Outcome.{Outcome, refused, answered, written}
-use Rattle.bits.specs.declared.Answer.{Answer}
-use Rattle.bits.specs.declared.Answer.TheVariants.{Length, Refused}
 use Rattle.format.specs.declared.Layout.{Layout}
 use Rattle.format.specs.declared.Mode.{Mode}
 use Rattle.format.specs.declared.Mode.TheVariants.{Plain, Even}
 use Rattle.image.specs.Admission.{refusal}
 use Rattle.input_records.specs.Heads.{layout_of}
-use Rattle.string_index.specs.declared.Filled.{Filled}
-use Rattle.string_index.specs.declared.Filled.TheVariants as Filled-is
 
 -- admission under a layout byte: 0 where the bytes are admitted. 01, refusal 15: "layout byte over 4"
 unfoldable pub admit_number : ℕ → List ℕ → ℕ
 admit_number byte s = pick (ltb 4 byte) refusals.job (refusal (layout_of byte) s)
 
--- an answer that is a length or a refusal, as one number of 64 bits: the length, or 2^32 and the refusal's number. No image is so long
-abbrev pub numbered : Answer → ℕ
-numbered (Length n) = n
-numbered (Refused n) = 4294967296 + n
+-- an answer that is a length, a count or a refusal, as one number of 64 bits: itself, or 2^32 and the refusal's number. No image is so long
+abbrev pub numbered : Result ℕ ℕ → ℕ
+numbered (Ok n) = n
+numbered (Err n) = 4294967296 + n
 
 -- the number of an outcome's answer
 abbrev pub coded : Outcome → ℕ
@@ -45,14 +41,9 @@ chosen byte o = pick (ltb 1 byte) (refused refusals.job) (o (mode_of byte))
 
 -- ---- an answer that counts strings
 
--- as one number likewise. 02, No. 13, as docs/DECISIONS.md reads it: filling answers the string count
-abbrev pub count_numbered : Filled → ℕ
-count_numbered (Filled-is.Strings n) = n
-count_numbered (Filled-is.Refused n) = 4294967296 + n
-
--- under the layout that a byte states
-unfoldable pub count_stated : ℕ → (Layout → Filled) → ℕ
-count_stated byte f = pick (ltb 4 byte) (4294967296 + refusals.job) (count_numbered (f (layout_of byte)))
+-- under the layout that a byte states, as one number likewise. 02, No. 13, as docs/DECISIONS.md reads it: filling answers the string count
+unfoldable pub count_stated : ℕ → (Layout → Result ℕ ℕ) → ℕ
+count_stated byte f = pick (ltb 4 byte) (4294967296 + refusals.job) (numbered (f (layout_of byte)))
 
 -- ---- space that is lent for work: not used where a byte states no layout or no mode
 

@@ -1,6 +1,6 @@
 -- Readings as outcomes: the bytes of a string or of a body, what an index holds, or a reason, at the front of a lent buffer, or a refusal.
 -- docs/FORMAT.md: Exports.
-use Rattle.std.specs.Prelude.{List, [], ◌∷◌, ℕ}
+use Rattle.std.specs.Prelude.{List, [], ◌∷◌, ℕ, Err, Ok, Result}
 use Rattle.bits.specs.Outcome.{Outcome, refused, made, outcome_for}
 use Rattle.format.specs.declared.Layout.{Layout}
 use Rattle.image.specs.Sections.{functions_in, strings_in}
@@ -8,8 +8,6 @@ use Rattle.image.specs.Strings.{string_of}
 use Rattle.image.specs.Functions.{body_of}
 use Rattle.reader.specs.Reading.{id_refusal}
 use Rattle.string_index.specs.declared.Entry.{Entry}
-use Rattle.string_index.specs.declared.Lookup.{Lookup}
-use Rattle.string_index.specs.declared.Lookup.TheVariants.{Found, Refused}
 use Rattle.string_reasons.specs.declared.Reason.{Reason}
 use Rattle.string_reasons.specs.declared.Reason.TheVariants as reason-is
 
@@ -24,9 +22,9 @@ body_reading l s id = outcome_for (id_refusal l s (functions_in s) id) (body_of 
 abbrev pub entry_words : Entry → List ℕ
 entry_words e = e.offset ∷ e.length ∷ e.flags ∷ []
 
-abbrev pub looked_up : Lookup → Outcome
-looked_up (Found e) = made (entry_words e)
-looked_up (Refused n) = refused n
+abbrev pub looked_up : Result Entry ℕ → Outcome
+looked_up (Ok e) = made (entry_words e)
+looked_up (Err n) = refused n
 
 -- a reason, as a code and two words; those that a code does not use are 0. 02, No. 6: "lengths differ, with both; or overlap, with the
 -- lowest overlapping id"

@@ -19,14 +19,14 @@ ghost use Rattle.string_reasons.specs.Reasons.{reason_of};
 ghost use Rattle.facts.specs.Facts.{image_facts, string_facts, string_facts_from};
 ghost use Rattle.hbc.specs.Reads.{string_reading, body_reading, looked_up, reason_words};
 ghost use Rattle.hbc.specs.Numbers.{admit_number, numbered, mode_of, Codes, stated, chosen, used_by, work_by};
-ghost use Rattle.hbc.specs.Numbers.{count_numbered, count_stated, work_in};
+ghost use Rattle.hbc.specs.Numbers.{count_stated, work_in};
 
-use bits::Answer;
 use format::{Layout, Mode};
-use function_table::FunctionRead;
-use reader::StringRead;
-use string_index::{Filled, Lookup};
+use refusals::Refusal;
+use string_index::Entry;
 use string_reasons::Reason;
+
+// Layouts, modes, reasons and answers are numbers in this crate: callers in C pass and get them.
 
 // A layout byte is at most that.
 const LAST_LAYOUT: u8 = 4;
@@ -37,9 +37,12 @@ pub extern "C" fn nepuladrim_admit(image: &[u8], layout: u8) -> u8
     ensures { result ≡ admit_number layout image.now }
 {
     if LAST_LAYOUT < layout {
-        return refusals::JOB;
+        return refusals::JOB.number();
     }
-    admission::number_of(admission::admit(image, input_records::layout_of(layout)))
+    match admission::admit(image, input_records::layout_of(layout)) {
+        Ok(_) => 0,
+        Err(refusal) => refusal.number(),
+    }
 }
 
 // What is added to the number of a refusal, so that it is no length.
@@ -61,13 +64,13 @@ fn mode_of(b: u8) -> Mode
     Mode::Even
 }
 
-// The number of an answer: its length, or 2^32 and the refusal's number.
-fn number(answer: Answer) -> u64
+// The number of an answer: its length or count, or 2^32 and the refusal's number.
+fn number(answer: Result<usize, Refusal>) -> u64
     ensures { result ≡ numbered answer }
 {
     match answer {
-        Answer::Length(length) => length as u64,
-        Answer::Refused(n) => REFUSED + bits::wide(n),
+        Ok(length) => length as u64,
+        Err(refusal) => REFUSED + bits::wide(refusal.number()),
     }
 }
 
@@ -274,26 +277,23 @@ pub extern "C" fn nepuladrim_patch_function_bytes(
 // ---- readings
 
 // Bytes of an image at the front of a buffer.
-fn copied(image: &[u8], start: usize, size: usize, out: &mut [u8]) -> Answer
+fn copied(image: &[u8], start: usize, size: usize, out: &mut [u8]) -> Result<usize, Refusal>
     requires { start + size ≤ length image.now }
     ensures { Answers (roomed (length out.old) (made (bytes_at image.now start size))) result out.old
         out.new }
 {
     if out.len() < size {
-        return Answer::Refused(refusals::ROOM);
+        return Err(refusals::ROOM);
     }
     bits::put_bytes(out, 0, &image[start..start + size]);
-    Answer::Length(size)
+    Ok(size)
 }
 
-fn read_string(image: &[u8], layout: Layout, id: usize, out: &mut [u8]) -> Answer
+fn read_string(image: &[u8], layout: Layout, id: usize, out: &mut [u8]) -> Result<usize, Refusal>
     ensures { Answers (roomed (length out.old) (string_reading layout image.now id)) result out.old
         out.new }
 {
-    let read = reader::string(image, layout, id);
-    let StringRead::Found(string, _) = read else {
-        return Answer::Refused(reader::string_number(read));
-    };
+    let string = reader::string(image, layout, id)?.string;
     copied(
         image,
         string.start,
@@ -302,14 +302,11 @@ fn read_string(image: &[u8], layout: Layout, id: usize, out: &mut [u8]) -> Answe
     )
 }
 
-fn read_body(image: &[u8], layout: Layout, id: usize, out: &mut [u8]) -> Answer
+fn read_body(image: &[u8], layout: Layout, id: usize, out: &mut [u8]) -> Result<usize, Refusal>
     ensures { Answers (roomed (length out.old) (body_reading layout image.now id)) result out.old
         out.new }
 {
-    let read = reader::body(image, layout, id);
-    let FunctionRead::Found(body) = read else {
-        return Answer::Refused(reader::body_number(read));
-    };
+    let body = reader::body(image, layout, id)?;
     copied(image, body.begin, body.size, out)
 }
 
@@ -360,16 +357,6 @@ pub extern "C" fn nepuladrim_list(
 
 // ---- the index of an image's strings
 
-// The number of an answer: how many strings there are, or 2^32 and the refusal's number.
-fn count_number(filled: Filled) -> u64
-    ensures { result ≡ count_numbered filled }
-{
-    match filled {
-        Filled::Strings(count) => count as u64,
-        Filled::Refused(n) => REFUSED + bits::wide(n),
-    }
-}
-
 // Fills an index: three runs of words, with the offset, the length and the flags of each string. Answers how
 // many strings there are.
 #[unsafe(no_mangle)]
@@ -381,34 +368,32 @@ pub extern "C" fn nepuladrim_fill_index(image: &[u8], layout: u8, index: &mut [u
     if LAST_LAYOUT < layout {
         return REFUSED_JOB;
     }
-    count_number(string_index::fill_index(image, input_records::layout_of(layout), index))
+    number(string_index::fill_index(image, input_records::layout_of(layout), index))
 }
 
 // How many words an entry has, and a reason.
 const ENTRY: usize = 3;
 
 // Three words at the front of a buffer.
-fn put_words(first: u32, second: u32, third: u32, out: &mut [u32]) -> Answer
+fn put_words(first: u32, second: u32, third: u32, out: &mut [u32]) -> Result<usize, Refusal>
     ensures { Answers (roomed (length out.old) (made (first ∷ second ∷ third ∷ []))) result out.old
         out.new }
 {
     if out.len() < ENTRY {
-        return Answer::Refused(refusals::ROOM);
+        return Err(refusals::ROOM);
     }
     out[0] = first;
     out[1] = second;
     out[2] = third;
-    Answer::Length(ENTRY)
+    Ok(ENTRY)
 }
 
 // The words of an entry that was looked up, or its refusal.
-fn put_looked_up(looked: Lookup, out: &mut [u32]) -> Answer
+fn put_looked_up(looked: Result<Entry, Refusal>, out: &mut [u32]) -> Result<usize, Refusal>
     ensures { Answers (roomed (length out.old) (looked_up looked)) result out.old out.new }
 {
-    match looked {
-        Lookup::Found(entry) => put_words(entry.offset, entry.length, entry.flags, out),
-        Lookup::Refused(n) => Answer::Refused(n),
-    }
+    let entry = looked?;
+    put_words(entry.offset, entry.length, entry.flags, out)
 }
 
 // What an index for `count` strings holds of string `id`.
@@ -433,11 +418,11 @@ const LENGTHS: u32 = 3;
 const OVERLAP: u32 = 4;
 
 // The code of a reason and its two words, or its refusal.
-fn put_reason(reason: Reason, out: &mut [u32]) -> Answer
+fn put_reason(reason: Reason, out: &mut [u32]) -> Result<usize, Refusal>
     ensures { Answers (roomed (length out.old) (reason_words reason)) result out.old out.new }
 {
     match reason {
-        Reason::Refused(n) => Answer::Refused(n),
+        Reason::Refused(refusal) => Err(refusal),
         Reason::InPlace => put_words(IN_PLACE, 0, 0, out),
         Reason::Wide => put_words(WIDE, 0, 0, out),
         Reason::NotAscii => put_words(NOT_ASCII, 0, 0, out),

@@ -1,4 +1,5 @@
 -- Shifts are refused exactly: with n where fault n is there and none that is due before it.
+use Rattle.std.specs.Prelude.{None, Option, Some}
 use mathlib.Core.Path.{◌≡◌, refl, sym, ◌∙◌}
 use mathlib.Core.Logic.{◌⊎◌, inl, inr, ◌↔◌}
 use mathlib.Core.List.{List}
@@ -15,8 +16,6 @@ use Rattle.bits.proofs.TestLaws.{which, below_or}
 use Rattle.format.specs.declared.Layout.TheVariants.{Modern, Legacy}
 use Rattle.format.specs.Table as table
 use Rattle.format.specs.Record.{value_of, with_value, pointer, put_pointer}
-use Rattle.records.specs.declared.Sum.{Sum}
-use Rattle.records.specs.declared.Sum.TheVariants.{Fits, Beyond}
 use Rattle.records.specs.Sum.{summed, SumOutside}
 use Rattle.records.specs.Records.{Edited, edited, with_sum, field_sum, info_sum, shift_small, shift_pointer}
 use Rattle.records.proofs.SumLaws.{beyond_outside, outside_beyond}
@@ -27,9 +26,9 @@ use Rattle.header_write.specs.Faults.Moves.{modern_offset, legacy_offset, legacy
 use Rattle.header_write.specs.Faults.ShiftFault.{short, outside}
 
 -- a sum is none or a number
-by_sum : (x : Sum) → (x ≡ Beyond) ⊎ ((v : ℕ) × (x ≡ Fits v))
-by_sum (Fits v) = inr (v, refl)
-by_sum Beyond = inl refl
+by_sum : (x : Option ℕ) → (x ≡ None) ⊎ ((v : ℕ) × (x ≡ Some v))
+by_sum (Some v) = inr (v, refl)
+by_sum None = inl refl
 
 -- an outcome is a refusal or what is made
 by_outcome : (o : Outcome) → ((k : ℕ) × (o ≡ refused k)) ⊎ ((new : List ℕ) × (o ≡ made new))
@@ -72,13 +71,13 @@ module _ (delta : ℤ) (s : List ℕ) where
   stray_refused t width n (word_there at) o h = rw (le-leb (at + 4) (length s) h, outside_beyond 32 (pos n +ℤ delta) o)
 
   -- what one sum decides, and is refused, is so with 12, since the sum lies outside
-  by_one_sum : (made_of : Sum → Outcome) (width n k : ℕ) → made_of Beyond ≡ refused 12
-      → ((v : ℕ) → (new : List ℕ) × (made_of (Fits v) ≡ made new)) → made_of (summed width delta n) ≡ refused k
+  by_one_sum : (made_of : Option ℕ → Outcome) (width n k : ℕ) → made_of None ≡ refused 12
+      → ((v : ℕ) → (new : List ℕ) × (made_of (Some v) ≡ made new)) → made_of (summed width delta n) ≡ refused k
       → (k ≡ 12) × SumOutside width (pos n +ℤ delta)
   by_one_sum made_of width n k none some e =
       elim (by_sum (summed width delta n)) [
         | inl x ↦ (number 12 k (sym none ∙ rw x at e), beyond_outside width (pos n +ℤ delta) x)
-        | inr x ↦ absurd (never_both (made_of (Fits x.0)) (some x.0).0 k (some x.0).1 (rw x.1 at e))
+        | inr x ↦ absurd (never_both (made_of (Some x.0)) (some x.0).0 k (some x.0).1 (rw x.1 at e))
       ]
 
   -- what is long enough and refused is so with 12, for a number that strays

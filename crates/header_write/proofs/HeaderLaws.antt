@@ -1,4 +1,5 @@
 -- A run of header words, written by a loop; headers in parts.
+use Rattle.std.specs.Prelude.{Err, Ok}
 use mathlib.Core.Path.{◌≡◌, refl, ap, sym, ◌∙◌, subst}
 use mathlib.Core.Bool.{Bool, true, false}
 use mathlib.Core.List.{List, [], ◌∷◌, ◌++◌}
@@ -16,7 +17,6 @@ use Rattle.format.specs.declared.Field.{Field}
 use Rattle.format.specs.declared.Layout.{Layout}
 use Rattle.format.specs.declared.Layout.TheVariants.{Modern, Legacy}
 use Rattle.format.specs.Table.{row_of, header_length, place_in, if_set, legacy_options}
-use Rattle.header_write.specs.declared.Wrote.TheVariants.{Done, Refused}
 use Rattle.header_write.specs.Slots.{Writes}
 use Rattle.header_write.specs.Headers.{Put, put, put_all, run, is_header_word, header_words, on_header, identity, modern_header}
 use Rattle.header_write.proofs.SlotLaws.{whole}
@@ -114,11 +114,11 @@ module _ (l : Layout) (k i : ℕ) (vs buf : List ℕ) (x : List ℕ) (inv : put_
 
 -- ---- the two ways out of a header's writer
 
-pub header_short : (edit : List ℕ → List ℕ) (s : List ℕ) → length s < 128 → Writes (on_header edit s) (Refused 1) s s
+pub header_short : (edit : List ℕ → List ℕ) (s : List ℕ) → length s < 128 → Writes (on_header edit s) (Err 1) s s
 unfolding on_header
 header_short edit s h = rw (lt-leb 128 (length s) h) (refl, refl)
 
 pub header_done : (edit : List ℕ → List ℕ) (s s' : List ℕ) → 128 ≤ length s → length s' ≡ length s → s' ≡ edit s
-    → Writes (on_header edit s) Done s s'
+    → Writes (on_header edit s) (Ok tt) s s'
 unfolding on_header
 header_done edit s s' h l e = rw (le-leb 128 (length s) h, ← e) (refl, whole s s' l)

@@ -5,8 +5,8 @@ ghost use Rattle.header_write.specs.Slots.{Writes};
 ghost use Rattle.header_write.specs.Headers.{put_all, put, optional, run, header_words, identity, on_header, modern_header};
 ghost use Rattle.header_write.specs.Headers.{segment_of, legacy_front, legacy_back, legacy_header};
 
-use crate::Wrote;
 use format::Layout;
+use refusals::Refusal;
 
 // The fields of a legacy header. Big integers and function sources are there only where the version
 // has them; where it has no segment id, 0 stands in its place.
@@ -46,11 +46,9 @@ fn put_rows(buf: &mut [u8], layout: Layout, first: usize, values: &[u32])
     requires values_value { header_words first (length values.now) ≡ true }
     ensures { buf.new ≡ put_all layout (run first values.now) buf.old }
 {
-    let mut i = 0;
-    while i < values.len() {
+    for (i, value) in values.iter().enumerate() {
         let at = format::place(format::get(first + i), layout);
-        bits::put_word(buf, at, values[i] as u64);
-        i += 1;
+        bits::put_word(buf, at, *value as u64);
     }
 }
 
@@ -88,13 +86,13 @@ pub fn write_modern_header(
     identifier_count: u32,
     string_count: u32,
     string_storage_size: u32,
-) -> Wrote
+) -> Result<(), Refusal>
     ensures { Writes (on_header
         (modern_header version source_hash function_count string_kind_count identifier_count string_count
         string_storage_size) buf.old) result buf.old buf.new }
 {
     if buf.len() < format::at(format::MODERN_RECORD) {
-        return Wrote::Refused(refusals::SIZE);
+        return Err(refusals::SIZE);
     }
     put_identity(buf, version, source_hash);
     let counts = [
@@ -109,7 +107,7 @@ pub fn write_modern_header(
     // Empty sections, no debug info and no options.
     let rest = [0u32; 13];
     put_rows(buf, Layout::Modern, format::MODERN_BIG_INT_COUNT, &rest);
-    Wrote::Done
+    Ok(())
 }
 
 // The options byte, the last field of a legacy header.
@@ -182,11 +180,11 @@ fn put_legacy_back(buf: &mut [u8], layout: Layout, h: LegacyHeader)
 }
 
 // A legacy header. What follows the options byte is not written.
-pub fn write_legacy_header(buf: &mut [u8], header: LegacyHeader) -> Wrote
+pub fn write_legacy_header(buf: &mut [u8], header: LegacyHeader) -> Result<(), Refusal>
     ensures { Writes (on_header (legacy_header header) buf.old) result buf.old buf.new }
 {
     if buf.len() < format::at(format::LEGACY_RECORD) {
-        return Wrote::Refused(refusals::SIZE);
+        return Err(refusals::SIZE);
     }
     let source_hash = header.source_hash;
     put_identity(buf, header.version, source_hash);
@@ -196,5 +194,5 @@ pub fn write_legacy_header(buf: &mut [u8], header: LegacyHeader) -> Wrote
     };
     put_legacy_front(buf, layout, header);
     put_legacy_back(buf, layout, header);
-    Wrote::Done
+    Ok(())
 }

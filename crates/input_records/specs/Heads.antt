@@ -1,13 +1,11 @@
 -- The records that the programs read, as the bytes before their contents say. 01, Programs: "each opened by a two-byte mark".
 -- docs/FORMAT.md: Input records.
-use Rattle.std.specs.Prelude.{Bool, true, false, List, ℕ, leb, eqb, length, get_or}
+use Rattle.std.specs.Prelude.{Bool, true, false, List, ℕ, leb, eqb, length, get_or, Ok, Err, Result}
 use Rattle.refusals.specs.Numbers as refusals
 use Rattle.bits.specs.Choice.{pick, both}
 use Rattle.bits.specs.Bytes.{number_at, word_at}
 use Rattle.format.specs.declared.Layout.{Layout}
 use Rattle.format.specs.declared.Layout.TheVariants.{Modern, Legacy}
-use Rattle.input_records.specs.declared.ImageHead.{ImageHead}
-use Rattle.input_records.specs.declared.ImageHead.TheVariants as image-is
 use Rattle.input_records.specs.declared.PatchHead.{PatchHead}
 use Rattle.input_records.specs.declared.PatchHead.TheVariants as patch-is
 
@@ -36,8 +34,8 @@ image_head_good s =
     both (leb image_head_length (length s)) (both (marked s 0x49 0x4D) (both (leb (get_or s 2 0) 4) (leb (word_at s 3) image_most)))
 
 -- the layout and the length of the image
-unfoldable pub image_head : List ℕ → ImageHead
-image_head s = pick (image_head_good s) (image-is.Image (layout_of (get_or s 2 0)) (word_at s 3)) (image-is.Refused refusals.job)
+unfoldable pub image_head : List ℕ → Result (Layout × ℕ) ℕ
+image_head s = pick (image_head_good s) (Ok (layout_of (get_or s 2 0), word_at s 3)) (Err refusals.job)
 
 -- ---- `ST` or `FB`, 4-byte id, 2-byte length, bytes
 
@@ -46,9 +44,9 @@ abbrev pub patch_head_length : ℕ
 patch_head_length = 8
 
 -- the id and the length of what is patched in
-unfoldable pub patch_head : List ℕ → PatchHead
+unfoldable pub patch_head : List ℕ → Result PatchHead ℕ
 patch_head s =
     pick (leb patch_head_length (length s))
-    (pick (marked s 0x53 0x54) (patch-is.String (word_at s 2) (number_at s 6 2))
-    (pick (marked s 0x46 0x42) (patch-is.Body (word_at s 2) (number_at s 6 2)) (patch-is.Refused refusals.job)))
-    (patch-is.Refused refusals.job)
+    (pick (marked s 0x53 0x54) (Ok (patch-is.String (word_at s 2) (number_at s 6 2)))
+    (pick (marked s 0x46 0x42) (Ok (patch-is.Body (word_at s 2) (number_at s 6 2))) (Err refusals.job)))
+    (Err refusals.job)

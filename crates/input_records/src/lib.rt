@@ -8,13 +8,7 @@ ghost use Rattle.format.specs.declared.Layout.TheVariants.{Legacy};
 ghost use Rattle.input_records.specs.Heads.{marked, layout_of, image_head, patch_head};
 
 use format::Layout;
-
-// What the bytes before an image say: its layout and its length.
-#[derive(Clone, Copy)]
-pub enum ImageHead {
-    Image(Layout, usize),
-    Refused(u8),
-}
+use refusals::Refusal;
 
 // What the bytes before a patch say: the id of a string or a function, and the length of what is
 // patched in.
@@ -22,7 +16,6 @@ pub enum ImageHead {
 pub enum PatchHead {
     String(usize, usize),
     Body(usize, usize),
-    Refused(u8),
 }
 
 // The bytes before an image: mark, layout, length.
@@ -74,23 +67,23 @@ pub fn layout_of(b: u8) -> Layout
 
 // Judges the bytes before an image: the layout of the image and its length, or 15. The image itself
 // need not be there yet.
-pub fn image_head(s: &[u8]) -> ImageHead
+pub fn image_head(s: &[u8]) -> Result<(Layout, usize), Refusal>
     ensures { result ≡ image_head s.now }
 {
     if s.len() < IMAGE_HEAD {
-        return ImageHead::Refused(refusals::JOB);
+        return Err(refusals::JOB);
     }
     if !has_mark(s, b'I', b'M') {
-        return ImageHead::Refused(refusals::JOB);
+        return Err(refusals::JOB);
     }
     if 4 < s[2] {
-        return ImageHead::Refused(refusals::JOB);
+        return Err(refusals::JOB);
     }
     let length = bits::word(s, 3) as usize;
     if IMAGE_MOST < length {
-        return ImageHead::Refused(refusals::JOB);
+        return Err(refusals::JOB);
     }
-    ImageHead::Image(layout_of(s[2]), length)
+    Ok((layout_of(s[2]), length))
 }
 
 // The 2 bytes from `at` on, as a number.
@@ -103,19 +96,19 @@ fn half_word(s: &[u8], at: usize) -> usize
 
 // Judges the bytes before a new value or body: what is patched, its id and the length of what is
 // patched in, or 15.
-pub fn patch_head(s: &[u8]) -> PatchHead
+pub fn patch_head(s: &[u8]) -> Result<PatchHead, Refusal>
     ensures { result ≡ patch_head s.now }
 {
     if s.len() < PATCH_HEAD {
-        return PatchHead::Refused(refusals::JOB);
+        return Err(refusals::JOB);
     }
     let id = bits::word(s, 2) as usize;
     let length = half_word(s, 6);
     if has_mark(s, b'S', b'T') {
-        return PatchHead::String(id, length);
+        return Ok(PatchHead::String(id, length));
     }
     if has_mark(s, b'F', b'B') {
-        return PatchHead::Body(id, length);
+        return Ok(PatchHead::Body(id, length));
     }
-    PatchHead::Refused(refusals::JOB)
+    Err(refusals::JOB)
 }

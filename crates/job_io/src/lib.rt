@@ -34,26 +34,7 @@ struct Got {
 fn at_most(n: usize, left: u64) -> usize
     ensures { (result ≤ n) × (result ≤ left) }
 {
-    if left < n as u64 {
-        return left as usize;
-    }
-    n
-}
-
-// Fills `bytes` as far as the input goes, and answers how far: to its end, to the end of the input or
-// to a read that fails.
-fn read_full<I: Read>(input: &mut I, bytes: &mut [u8]) -> usize
-    ensures { result ≤ length bytes.old }
-{
-    let mut done = 0;
-    while done < bytes.len() {
-        let n = input.read(&mut bytes[done..]).unwrap_or(0);
-        if n == 0 {
-            break;
-        }
-        done += n;
-    }
-    done
+    if left < n as u64 { left as usize } else { n }
 }
 
 // Fills `bytes` as far as the input and what is left of it go, and answers how far.
@@ -61,24 +42,17 @@ fn read<I: Read>(input: &mut I, bytes: &mut [u8], left: u64) -> Got
     ensures { (result.count ≤ left) × (result.count ≤ length bytes.old) }
 {
     let most = at_most(bytes.len(), left);
-    let count = read_full(input, &mut bytes[0..most]);
+    let count = whole_reads::read_full(input, &mut bytes[0..most]);
     Got {
         count,
         short: count < most,
     }
 }
 
-fn either(a: bool, b: bool) -> bool {
-    if a { true } else { b }
-}
-
 // Whether the input ends here: behind a read that was short, one more tells an end from a failure.
 fn is_at_end<I: Read>(input: &mut I) -> bool {
     let mut byte = [0u8; 1];
-    match input.read(&mut byte) {
-        Ok(n) => n == 0,
-        Err(_) => false,
-    }
+    matches!(input.read(&mut byte), Ok(0))
 }
 
 // Reads the image record.
@@ -97,7 +71,7 @@ fn begin<I: Read>(input: &mut I, image: &mut [u8], left: u64) -> ReadSoFar
     ReadSoFar {
         progress,
         left: behind - got as u64,
-        short: either(front.short, rest.short),
+        short: front.short || rest.short,
     }
 }
 
@@ -148,7 +122,8 @@ pub fn run<I: Read, O: Write, E: Write>(
     let mut progress = begun.progress;
     let mut left = begun.left;
     let mut short = begun.short;
-    while !job_records::is_refused(progress) {
+    // Stays a while loop: it reads to the end of the input, and no index is counted.
+    while !job_records::is_refused(&progress) {
         let front = read(input, &mut head, left);
         let n = front.count;
         if n == 0 {
@@ -164,10 +139,9 @@ pub fn run<I: Read, O: Write, E: Write>(
             &mut image,
             &mut out,
         );
-        let next = turn.progress;
-        progress = next;
+        progress = turn.progress;
         left = turn.left;
-        short = either(front.short, turn.short);
+        short = front.short || turn.short;
     }
     if short && !is_at_end(input) {
         let _ = errors.write_all(b"standard input cannot be read\n");

@@ -1,4 +1,5 @@
 -- The end of a job: what the buffer holds is what is written.
+use Rattle.std.specs.Prelude.{Result}
 use Rattle.std.proofs.Common.{◌≡◌, ℕ, ◌-◌, ◌≤◌, Bool, true, false, ltb, List, [], ◌++◌, length, take, drop, sym, refl, ap, ◌∙◌}
 use Rattle.std.proofs.Common.{append-nil, zero-add, arith, take-append-drop, drop_of_length-le, length-take-le, ltb-false, eq-eqb}
 use Rattle.std.proofs.Common.{ne_eqb}
@@ -7,7 +8,6 @@ use native.Mathlib.Nat.{sub-zero}
 use lib.Seq.{sets-eq}
 use Rattle.bits.specs.Choice.{pick, either}
 use Rattle.bits.specs.Outcome.{Outcome, refused, made, written, Answers}
-use Rattle.bits.specs.declared.Answer.{Answer}
 use Rattle.footer.specs.Finalize.{least_length, size_limit, lengthed, sealed, finalize_of}
 use Rattle.footer.proofs.FinalizeLaws.{length_finalized}
 use Rattle.text.specs.Text.{Wrote}
@@ -50,7 +50,7 @@ module _ (n k h : ℕ) (s : List ℕ) (hd : Held n h s) where
       rw (ne_eqb k 1 d)
       (sym front_long, rw front_long (sym (take-append-drop h s) ∙ ap (λ (u : List ℕ). u ++ drop h s) front), hd.most)
 
-  pub close_sealed : (r : Answer) (part : List ℕ) → k ≡ 1 → Answers (finalize_of (take (h - 0) s)) r (take (h - 0) s) part
+  pub close_sealed : (r : Result ℕ ℕ) (part : List ℕ) → k ≡ 1 → Answers (finalize_of (take (h - 0) s)) r (take (h - 0) s) part
       → Closes (held_at_end n k s) h s (part ++ drop (h - 0) s)
   close_sealed r part d a = rw (eq-eqb k 1 d, sub-zero) (go (finalize_of (take n s)) refl (rw (sub-zero, front) at a.1))
     where

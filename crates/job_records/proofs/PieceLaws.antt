@@ -1,4 +1,5 @@
 -- The pieces of a job give the job: the loop of a program is the definition read aloud.
+use Rattle.std.specs.Prelude.{Ok, Err, Result}
 use Rattle.std.proofs.Common.{◌≡◌, ℕ, zero, suc, ◌+◌, ◌%◌, ◌^◌, ◌<◌, ◌≤◌, Bool, true, false, eqb, ltb, List, [], ◌∷◌, length}
 use Rattle.std.proofs.Common.{take, drop, sym, refl, ap, ◌∙◌, mod-eq_of_lt, arith, length-drop, length-take-le, take_all}
 use Rattle.std.proofs.Common.{ltb-false, ltb-true, le-ltb, lt-ltb, ne_eqb, eqb-true}
@@ -12,8 +13,6 @@ use Rattle.footer.specs.Footer.{footer_length}
 use Rattle.footer.specs.Finalize.{size_limit, lengthed, sealed, finalize_of}
 use Rattle.footer.proofs.FinalizeLaws.{finalize_within}
 use Rattle.image.specs.Admission.{checks, refusal}
-use Rattle.input_records.specs.declared.ImageHead.{ImageHead}
-use Rattle.input_records.specs.declared.ImageHead.TheVariants as head-is
 use Rattle.input_records.specs.Heads.{image_head, patch_head}
 use Rattle.job_records.specs.declared.Progress.{Progress}
 use Rattle.job_records.specs.declared.Progress.TheVariants.{Under, Refused}
@@ -121,14 +120,14 @@ module _ (n : ℕ) (buffer rest : List ℕ) (more : length rest ≤ n) (counted 
       ∙ first l (length rest) (take x rest) buffer (drop x rest) counted e
       (can_finalize l (take x rest) (eqb-true (refusal l (take x rest)) 0 f))
 
-  from_head : (h : ImageHead) → take (length (take (image_stated h) rest)) buffer ≡ take (image_stated h) rest
+  from_head : (h : Result (Layout × ℕ) ℕ) → take (length (take (image_stated h) rest)) buffer ≡ take (image_stated h) rest
       → turns n (begun_head h (take (image_stated h) rest)) buffer (drop (image_stated h) rest) ≡ written_by (head_job h rest)
   unfolding image_job
-  from_head (head-is.Refused m) e = turns_refused n 0 m buffer (drop 0 rest)
-  from_head (head-is.Image l x) e = go (ltb (length rest) x) refl
+  from_head (Err m) e = turns_refused n 0 m buffer (drop 0 rest)
+  from_head (Ok (l, x)) e = go (ltb (length rest) x) refl
     where
       go : (b : Bool) → ltb (length rest) x ≡ b
-          → turns n (begun_head (head-is.Image l x) (take x rest)) buffer (drop x rest)
+          → turns n (begun_head (Ok (l, x)) (take x rest)) buffer (drop x rest)
           ≡ written_by (pick b (refused_at 0 15) (image_job l (take x rest) (records_of (length rest) (drop x rest))))
       go true f =
           let h : length rest < x = ltb-true (length rest) x f in

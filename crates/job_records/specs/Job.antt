@@ -1,6 +1,6 @@
 -- What the job program writes, for all that it reads. 01, Programs.
 -- docs/FORMAT.md: Job.
-use Rattle.std.specs.Prelude.{◌≡◌, ℕ, zero, suc, ◌+◌, List, [], ◌∷◌, ◌++◌, length, take, drop, ◌==◌, nat_lt}
+use Rattle.std.specs.Prelude.{◌≡◌, ℕ, zero, suc, ◌+◌, List, [], ◌∷◌, ◌++◌, length, take, drop, ◌==◌, nat_lt, Ok, Err, Result}
 use Rattle.refusals.specs.Numbers as refusals
 use Rattle.bits.specs.Choice.{pick}
 use Rattle.bits.specs.Outcome.{Outcome, refused, made}
@@ -9,8 +9,6 @@ use Rattle.format.specs.declared.Mode.TheVariants.{Plain}
 use Rattle.footer.specs.Finalize.{lengthed, sealed}
 use Rattle.image.specs.Admission.{refusal}
 use Rattle.text.specs.Text.{decimal, line}
-use Rattle.input_records.specs.declared.ImageHead.{ImageHead}
-use Rattle.input_records.specs.declared.ImageHead.TheVariants as head-is
 use Rattle.input_records.specs.declared.PatchHead.{PatchHead}
 use Rattle.input_records.specs.declared.PatchHead.TheVariants as patch-is
 use Rattle.input_records.specs.Heads.{image_head_length, image_head, patch_head_length, patch_head}
@@ -25,16 +23,16 @@ pub data Record : Type 0 where
   wrong : Record
 
 -- how many bytes a record states behind its head
-abbrev pub stated_of : PatchHead → ℕ
-stated_of (patch-is.String id n) = n
-stated_of (patch-is.Body id n) = n
-stated_of (patch-is.Refused m) = 0
+abbrev pub stated_of : Result PatchHead ℕ → ℕ
+stated_of (Ok (patch-is.String id n)) = n
+stated_of (Ok (patch-is.Body id n)) = n
+stated_of (Err m) = 0
 
 -- the record of a head and of the bytes that it states; `asked` where the head is well formed. A job rebuilds in plain mode
-abbrev pub asked : PatchHead → List ℕ → Record
-asked (patch-is.String id n) bytes = asks (by_id Plain id bytes)
-asked (patch-is.Body id n) bytes = asks (to_body id bytes)
-asked (patch-is.Refused m) bytes = wrong
+abbrev pub asked : Result PatchHead ℕ → List ℕ → Record
+asked (Ok (patch-is.String id n)) bytes = asks (by_id Plain id bytes)
+asked (Ok (patch-is.Body id n)) bytes = asks (to_body id bytes)
+asked (Err m) bytes = wrong
 
 -- a record that is cut short is not well formed
 unfoldable pub record_of : List ℕ → List ℕ → Record
@@ -88,10 +86,10 @@ unfoldable pub image_job : Layout → List ℕ → List Record → Ended
 image_job l s rs = pick (refusal l s == 0) (end_of l s rs) (refused_at 0 (refusal l s))
 
 -- 15 comes before all others for its record
-abbrev pub head_job : ImageHead → List ℕ → Ended
-head_job (head-is.Image l n) rest =
+abbrev pub head_job : Result (Layout × ℕ) ℕ → List ℕ → Ended
+head_job (Ok (l, n)) rest =
     pick (nat_lt (length rest) n) (refused_at 0 refusals.job) (image_job l (take n rest) (records_of (length rest) (drop n rest)))
-head_job (head-is.Refused n) rest = refused_at 0 n
+head_job (Err n) rest = refused_at 0 n
 
 unfoldable pub job : List ℕ → Ended
 job input = head_job (image_head (take image_head_length input)) (drop image_head_length input)

@@ -1,14 +1,13 @@
 -- The job in the pieces in which a program reads it: a head, then what it states, one record after the other, with one image held.
 -- docs/FORMAT.md: Job.
-use Rattle.std.specs.Prelude.{◌≡◌, ℕ, zero, suc, ◌+◌, ◌%◌, ◌^◌, ◌≤◌, Bool, true, false, List, [], ◌∷◌, length, take, drop, ◌==◌, nat_lt}
+use Rattle.std.specs.Prelude.{◌≡◌, ℕ, zero, suc, ◌+◌, ◌%◌, ◌^◌, ◌≤◌, Bool, true, false, List, [], ◌∷◌, length, take, drop}
+use Rattle.std.specs.Prelude.{◌==◌, nat_lt, Ok, Err, Result}
 use Rattle.refusals.specs.Numbers as refusals
 use Rattle.bits.specs.Choice.{pick}
 use Rattle.bits.specs.Outcome.{Outcome, refused, made, written}
 use Rattle.format.specs.declared.Layout.{Layout}
 use Rattle.footer.specs.Finalize.{finalize_of}
 use Rattle.image.specs.Admission.{refusal}
-use Rattle.input_records.specs.declared.ImageHead.{ImageHead}
-use Rattle.input_records.specs.declared.ImageHead.TheVariants as head-is
 use Rattle.input_records.specs.Heads.{image_head_length, image_head, patch_head_length, patch_head}
 use Rattle.patches.specs.Patches.{image_after}
 use Rattle.job_records.specs.declared.Progress.{Progress}
@@ -16,9 +15,9 @@ use Rattle.job_records.specs.declared.Progress.TheVariants.{Under, Refused}
 use Rattle.job_records.specs.Job.{stated_of, record_of, content_of, job_room, record_outcome, refused_at_line}
 
 -- how many bytes an image record states behind its head
-abbrev pub image_stated : ImageHead → ℕ
-image_stated (head-is.Image l n) = n
-image_stated (head-is.Refused m) = 0
+abbrev pub image_stated : Result (Layout × ℕ) ℕ → ℕ
+image_stated (Ok (l, n)) = n
+image_stated (Err m) = 0
 
 -- ---- the beginning: the image record is record 0
 
@@ -27,10 +26,10 @@ abbrev pub begun_image : Layout → ℕ → ℕ → Progress
 begun_image l n number = pick (number == 0) (Under l n 1) (Refused 0 number)
 
 -- 15 comes before all others for its record
-abbrev pub begun_head : ImageHead → List ℕ → Progress
-begun_head (head-is.Image l n) image = pick (nat_lt (length image) n) (Refused 0 refusals.job)
+abbrev pub begun_head : Result (Layout × ℕ) ℕ → List ℕ → Progress
+begun_head (Ok (l, n)) image = pick (nat_lt (length image) n) (Refused 0 refusals.job)
     (begun_image l (length image) (refusal l image))
-begun_head (head-is.Refused m) image = Refused 0 m
+begun_head (Err m) image = Refused 0 m
 
 unfoldable pub begun : List ℕ → List ℕ → Progress
 begun head image = begun_head (image_head head) image

@@ -3,25 +3,24 @@
 // what a record means and what is written at the end is decided here.
 #![tactic(auto)]
 
-ghost use Rattle.std.specs.Prelude.{◌≡◌, ◌≤◌, length};
+ghost use Rattle.std.specs.Prelude.{◌≡◌, ◌≤◌, length, Ok};
 ghost use Rattle.bits.specs.Outcome.{Answers};
 ghost use Rattle.text.specs.Text.{Wrote};
 ghost use Rattle.input_records.specs.Heads.{image_head, patch_head};
-ghost use Rattle.input_records.specs.declared.ImageHead.TheVariants.{Image};
 ghost use Rattle.job_records.specs.Job.{stated_of, record_of, record_outcome, refused_at_line};
 ghost use Rattle.job_records.specs.Pieces.{image_stated, begun_head, begun, turn_of, Steps, is_refused, held_at_end, closing, Closes};
 
-use admission::Admission;
-use bits::Answer;
 use format::{Layout, Mode};
-use input_records::{ImageHead, PatchHead};
+use input_records::PatchHead;
+use refusals::Refusal;
 
 // How far a job has come: an image of so many bytes is held, and the record at this place is next; or
 // the record at this place was refused with this number.
+// It stays an enum: a refused job is a state that the functions below take like any other, no plainer as a `Result`.
 #[derive(Clone, Copy)]
 pub enum Progress {
     Under(Layout, usize, u64),
-    Refused(u64, u8),
+    Refused(u64, Refusal),
 }
 
 // The most bytes that a patch record states behind its head.
@@ -31,10 +30,9 @@ pub const CONTENT_MOST: usize = 65535;
 pub fn stated_image(head: &[u8]) -> usize
     ensures { (result ≡ image_stated (image_head head.now)) × (result ≤ 65536) }
 {
-    let judged = input_records::image_head(head);
-    match judged {
-        ImageHead::Image(_, length) => length,
-        ImageHead::Refused(_) => 0,
+    match input_records::image_head(head) {
+        Ok((_, length)) => length,
+        Err(_) => 0,
     }
 }
 
@@ -42,25 +40,23 @@ pub fn stated_image(head: &[u8]) -> usize
 pub fn stated_patch(head: &[u8]) -> usize
     ensures { (result ≡ stated_of (patch_head head.now)) × (result ≤ 65535) }
 {
-    let judged = input_records::patch_head(head);
-    match judged {
-        PatchHead::String(_, length) => length,
-        PatchHead::Body(_, length) => length,
-        PatchHead::Refused(_) => 0,
+    match input_records::patch_head(head) {
+        Ok(PatchHead::String(_, length)) => length,
+        Ok(PatchHead::Body(_, length)) => length,
+        Err(_) => 0,
     }
 }
 
 // Judges an image behind a head that is well formed: 15 where it is cut short, then 1 to 6.
 fn begin_image(image: &[u8], layout: Layout, stated: usize) -> Progress
-    ensures { result ≡ begun_head (Image layout stated) image.now }
+    ensures { result ≡ begun_head (Ok (layout, stated)) image.now }
 {
     if image.len() < stated {
         return Progress::Refused(0, refusals::JOB);
     }
-    let judged = admission::admit(image, layout);
-    let Admission::Laid(_) = judged else {
-        return Progress::Refused(0, admission::number_of(judged));
-    };
+    if let Err(refusal) = admission::admit(image, layout) {
+        return Progress::Refused(0, refusal);
+    }
     Progress::Under(layout, image.len(), 1)
 }
 
@@ -68,10 +64,9 @@ fn begin_image(image: &[u8], layout: Layout, stated: usize) -> Progress
 pub fn begin(head: &[u8], image: &[u8]) -> Progress
     ensures { result ≡ begun head.now image.now }
 {
-    let judged = input_records::image_head(head);
-    match judged {
-        ImageHead::Image(layout, stated) => begin_image(image, layout, stated),
-        ImageHead::Refused(number) => Progress::Refused(0, number),
+    match input_records::image_head(head) {
+        Ok((layout, stated)) => begin_image(image, layout, stated),
+        Err(refusal) => Progress::Refused(0, refusal),
     }
 }
 
@@ -83,16 +78,15 @@ pub fn apply<'a>(
     head: &[u8],
     bytes: &'a [u8],
     out: &mut [u8],
-) -> Answer
+) -> Result<usize, Refusal>
     ensures { Answers
         (record_outcome layout (length out.old) image.now (record_of head.now bytes.now)) result
         out.old out.new }
 {
     if bytes.len() < stated_patch(head) {
-        return Answer::Refused(refusals::JOB);
+        return Err(refusals::JOB);
     }
-    let judged = input_records::patch_head(head);
-    match judged {
+    match input_records::patch_head(head)? {
         PatchHead::String(id, _) => strings::patch_string_by_id(
             image,
             layout,
@@ -102,7 +96,6 @@ pub fn apply<'a>(
             out,
         ),
         PatchHead::Body(id, _) => functions::patch_function_bytes(image, layout, id, bytes, out),
-        PatchHead::Refused(_) => Answer::Refused(refusals::JOB),
     }
 }
 
@@ -125,8 +118,8 @@ pub fn step(
     let held = bits::least(length, image.len());
     let answer = apply(&image[0..held], layout, head, bytes, out);
     match answer {
-        Answer::Refused(number) => Progress::Refused(place, number),
-        Answer::Length(new) => {
+        Err(refusal) => Progress::Refused(place, refusal),
+        Ok(new) => {
             bits::put_bytes(image, 0, &out[0..new]);
             Progress::Under(layout, new, std::num::wrapping_add_u64(place, 1))
         }
@@ -134,13 +127,10 @@ pub fn step(
 }
 
 // Whether a record was refused: nothing more is read then.
-pub fn is_refused(progress: Progress) -> bool
-    ensures { result ≡ is_refused progress }
+pub fn is_refused(progress: &Progress) -> bool
+    ensures { result ≡ is_refused progress.now }
 {
-    match progress {
-        Progress::Under(_, _, _) => false,
-        Progress::Refused(_, _) => true,
-    }
+    matches!(progress, Progress::Refused(_, _))
 }
 
 // The line `refused K N`, which has at most 50 bytes.
@@ -159,7 +149,7 @@ fn close_image(image: &mut [u8], length: usize, place: u64) -> usize
 {
     let held = bits::least(length, image.len());
     if place == 1 {
-        footer::finalize_raw_image(&mut image[0..held]);
+        let _ = footer::finalize_raw_image(&mut image[0..held]);
     }
     held
 }
@@ -172,6 +162,6 @@ pub fn finish(progress: Progress, image: &mut [u8]) -> usize
 {
     match progress {
         Progress::Under(_, length, place) => close_image(image, length, place),
-        Progress::Refused(place, number) => put_refused(image, place, number as u64),
+        Progress::Refused(place, refusal) => put_refused(image, place, refusal.number() as u64),
     }
 }

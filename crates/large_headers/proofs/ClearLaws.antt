@@ -2,25 +2,17 @@
 use mathlib.Core.Path.{◌≡◌, refl, ◌∙◌}
 use mathlib.Core.Bool.{Bool, true, false, not}
 use mathlib.Core.List.{List}
-use Prim.Native.Nat.{ℕ, ◌+◌, ◌≤◌, ◌<◌}
-use lib.Dec.{leb, ltb, eqb}
-use borrow.Author.Tests.{lt-ltb, le-ltb, not-true, not-false}
+use Prim.Native.Nat.{ℕ, ◌<◌}
+use lib.Dec.{ltb, eqb}
+use borrow.Author.Tests.{not-true, not-false}
 use Rattle.bits.specs.Choice.{both, implies, all_below}
 use Rattle.bits.proofs.PassLaws.{all_both, all_same, all_swap, imp_all, pass_stop, pass_end}
 use Rattle.format.specs.declared.Layout.{Layout}
 use Rattle.format.specs.Table as table
 use Rattle.image.specs.Sections.{functions_in}
 use Rattle.image.specs.Functions.{Func, func_of}
-use Rattle.image.specs.Admission.{apart, headers_apart2, body_apart, headers_apart, bodies_apart}
+use Rattle.image.specs.Admission.{headers_apart2, body_apart, headers_apart, bodies_apart}
 use Rattle.large_headers.specs.Clear.{clear_of, clear_at, header_clear, all_apart}
-
--- ---- a header against one function
-
-pub starts_before : (p w q v : ℕ) → p < q + v → leb (p + w) q ≡ apart p w q v
-starts_before p w q v h = rw (lt-ltb p (q + v) h)
-
-pub starts_past : (p w q v : ℕ) → q + v ≤ p → true ≡ apart p w q v
-starts_past p w q v h = rw (le-ltb p (q + v) h)
 
 -- ---- a header against all functions
 

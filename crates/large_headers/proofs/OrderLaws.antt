@@ -8,13 +8,11 @@ use native.Mathlib.Nat.{not-suc-le-zero}
 use native.Mathlib.Numerals.{add-one}
 use native.Mathlib.Omega.{arith}
 use lib.Dec.{leb, ltb}
-use borrow.Author.Tests.{leb-true, ltb-true, ltb-false, lt-ltb, le-ltb}
+use borrow.Author.Tests.{leb-true, ltb-true, ltb-false, lt-ltb}
 use Rattle.bits.specs.Choice.{pick, both, all_below}
 use Rattle.bits.proofs.TestLaws.{below, below_or, both_0, both_1, both_of, imp_use, all_at}
 use Rattle.bits.proofs.PassLaws.{pass_next, pass_stop}
-use Rattle.format.specs.declared.Field.{Field}
 use Rattle.format.specs.declared.Layout.{Layout}
-use Rattle.format.specs.declared.Layout.TheVariants.{Modern, Legacy}
 use Rattle.format.specs.Table as table
 use Rattle.image.specs.Sections.{functions_in}
 use Rattle.image.specs.Functions.{Func, func_of}
@@ -24,23 +22,6 @@ use Rattle.image.proofs.CheckLaws.{headers_apart_lem, bodies_apart_lem}
 use Rattle.large_headers.specs.Order.{end_with, first_with, bodies_with, headers_end, headers_start, bodies_end, ascends}
 use Rattle.large_headers.specs.Order.{ascends_at, ordered, in_order}
 use Rattle.large_headers.specs.Clear.{all_apart}
-
--- ---- the size of a large header's words
-
-pub large-width : (l : Layout) (f : Field) → f ≡ table.large_row l → (f.width ≡ (table.large_row l).width) × (f.width ≤ 20)
-large-width l f e = rw e (refl, few l)
-  where
-    few : (l : Layout) → (table.large_row l).width ≤ 20
-    few Modern = omega arith
-    few (Legacy big sources) = omega arith
-
--- the code's test of an empty body
-pub empty : (n : ℕ) → n ≡ 0 → ltb 0 n ≡ false
-empty n e = le-ltb 0 n (omega arith)
-
-pub not-empty : (n : ℕ) → n ≢ 0 → ltb 0 n ≡ true
-not-empty zero h = absurd (h refl)
-not-empty (suc n) h = lt-ltb 0 (suc n) (omega arith)
 
 -- ---- the pass
 

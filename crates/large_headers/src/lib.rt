@@ -28,23 +28,18 @@ fn end_with(f: Function, end: usize, width: usize) -> usize
     requires { WordSized f × (width ≤ legacy_large.width) }
     ensures { result ≡ end_with width end (as_func f) }
 {
-    if f.large {
-        return f.ptr + width;
-    }
-    end
+    if f.large { f.ptr + width } else { end }
 }
 
 // Where the first large header starts, with one function more.
 fn first_with(f: Function, first: usize) -> usize
     ensures { result ≡ first_with first (as_func f) }
 {
-    if !f.large {
-        return first;
+    if f.large && f.ptr < first {
+        f.ptr
+    } else {
+        first
     }
-    if f.ptr < first {
-        return f.ptr;
-    }
-    first
 }
 
 // Where the last body ends that is not empty, with one function more.
@@ -52,23 +47,15 @@ fn bodies_with(f: Function, end: usize) -> usize
     requires { WordSized f }
     ensures { result ≡ bodies_with end (as_func f) }
 {
-    if f.size == 0 {
-        return end;
-    }
-    if end < f.begin + f.size {
-        return f.begin + f.size;
-    }
-    end
+    let own = f.begin + f.size;
+    if f.size > 0 && end < own { own } else { end }
 }
 
 // Whether a function's large header, if it has one, is behind those that end at `end`.
 fn is_behind(f: Function, end: usize) -> bool
     ensures { result ≡ ascends end (as_func f) }
 {
-    if !f.large {
-        return true;
-    }
-    end <= f.ptr
+    !f.large || end <= f.ptr
 }
 
 // Whether the functions lie in order: each large header behind the one before it, and every body
@@ -82,8 +69,7 @@ fn in_order(image: &[u8], layout: Layout, n: usize) -> bool
     let mut end = 0;
     let mut first = footer::SIZE_LIMIT;
     let mut bodies = 0;
-    let mut i = 0;
-    while i < n {
+    for i in 0..n {
         let f = function_table::function_at(image, layout, i);
         if !is_behind(f, end) {
             return false;
@@ -91,7 +77,6 @@ fn in_order(image: &[u8], layout: Layout, n: usize) -> bool
         end = end_with(f, end, width);
         first = first_with(f, first);
         bodies = bodies_with(f, bodies);
-        i += 1;
     }
     bodies <= first
 }
@@ -103,17 +88,7 @@ fn are_apart(p: usize, w: usize, q: usize, v: usize) -> bool
     requires { (p + w < 8589934592) × (q + v < 8589934592) }
     ensures { result ≡ apart p w q v }
 {
-    if p < q + v {
-        return p + w <= q;
-    }
-    true
-}
-
-// Whether two ids are of two functions.
-fn are_two(i: usize, j: usize) -> bool
-    ensures { result ≡ not (eqb i j) }
-{
-    i != j
+    q + v <= p || p + w <= q
 }
 
 // Whether the header of `g` shares no byte with that of `f`, if `f` is another function and has one.
@@ -121,13 +96,7 @@ fn is_clear_of_header(g: Function, f: Function, width: usize, other: bool) -> bo
     requires { WordSized g × WordSized f × (width ≤ legacy_large.width) }
     ensures { result ≡ clear_of_header width other (as_func g) (as_func f) }
 {
-    if !other {
-        return true;
-    }
-    if !f.large {
-        return true;
-    }
-    are_apart(f.ptr, width, g.ptr, width)
+    !other || !f.large || are_apart(f.ptr, width, g.ptr, width)
 }
 
 // Whether the header of `g` shares no byte with the body of `f`, which may be the same function.
@@ -135,20 +104,14 @@ fn is_clear_of_body(g: Function, f: Function, width: usize) -> bool
     requires { WordSized g × WordSized f × (width ≤ legacy_large.width) }
     ensures { result ≡ clear_of_body width (as_func g) (as_func f) }
 {
-    if f.size == 0 {
-        return true;
-    }
-    are_apart(g.ptr, width, f.begin, f.size)
+    f.size == 0 || are_apart(g.ptr, width, f.begin, f.size)
 }
 
 fn is_clear_of(g: Function, f: Function, width: usize, other: bool) -> bool
     requires { WordSized g × WordSized f × (width ≤ legacy_large.width) }
     ensures { result ≡ clear_of width other (as_func g) (as_func f) }
 {
-    if !is_clear_of_header(g, f, width, other) {
-        return false;
-    }
-    is_clear_of_body(g, f, width)
+    is_clear_of_header(g, f, width, other) && is_clear_of_body(g, f, width)
 }
 
 // Whether the large header of function `j`, if it has one, is clear of every function.
@@ -162,13 +125,11 @@ fn is_header_clear(image: &[u8], layout: Layout, n: usize, j: usize) -> bool
         return true;
     }
     let width = large_width(layout);
-    let mut i = 0;
-    while i < n {
+    for i in 0..n {
         let f = function_table::function_at(image, layout, i);
-        if !is_clear_of(g, f, width, are_two(i, j)) {
+        if !is_clear_of(g, f, width, i != j) {
             return false;
         }
-        i += 1;
     }
     true
 }
@@ -179,12 +140,10 @@ fn are_headers_clear(image: &[u8], layout: Layout, n: usize) -> bool
     requires n_value { n ≡ functions_in image.now }
     ensures { result ≡ all_apart layout image.now }
 {
-    let mut j = 0;
-    while j < n {
+    for j in 0..n {
         if !is_header_clear(image, layout, n, j) {
             return false;
         }
-        j += 1;
     }
     true
 }
@@ -195,8 +154,5 @@ pub fn are_headers_apart(image: &[u8], layout: Layout, n: usize) -> bool
     requires n_value { n ≡ functions_in image.now }
     ensures { result ≡ all_apart layout image.now }
 {
-    if in_order(image, layout, n) {
-        return true;
-    }
-    are_headers_clear(image, layout, n)
+    in_order(image, layout, n) || are_headers_clear(image, layout, n)
 }

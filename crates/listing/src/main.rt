@@ -4,42 +4,21 @@
 // where standard output cannot be written.
 #![tactic(auto)]
 
-ghost use Rattle.std.specs.Prelude.{◌≤◌, length};
-
 use std::io::Read;
 
 // One byte more than the longest record, so that a byte after it is seen.
 const ROOM: usize = 65544;
 
-// Fills `bytes` as far as the input goes, and answers how far: to its end, to the end of the input or
-// to a read that fails.
-fn read_full<I: Read>(input: &mut I, bytes: &mut [u8]) -> usize
-    ensures { result ≤ length bytes.old }
-{
-    let mut done = 0;
-    while done < bytes.len() {
-        let n = input.read(&mut bytes[done..]).unwrap_or(0);
-        if n == 0 {
-            break;
-        }
-        done += n;
-    }
-    done
-}
-
 // Whether the input ends here: behind a read that was short, one more tells an end from a failure.
 fn is_at_end<I: Read>(input: &mut I) -> bool {
     let mut byte = [0u8; 1];
-    match input.read(&mut byte) {
-        Ok(n) => n == 0,
-        Err(_) => false,
-    }
+    matches!(input.read(&mut byte), Ok(0))
 }
 
 fn main(rt: HostRuntime) {
     let mut stdin = rt.stdin();
     let mut input = [0u8; ROOM];
-    let n = read_full(&mut stdin, &mut input);
+    let n = whole_reads::read_full(&mut stdin, &mut input);
     if n < ROOM && !is_at_end(&mut stdin) {
         let _ = rt.eprintln("standard input cannot be read");
         return;

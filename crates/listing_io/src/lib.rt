@@ -2,17 +2,17 @@
 // one room, by an index that is filled first.
 #![tactic(auto)]
 
-ghost use Rattle.std.specs.Prelude.{◌≡◌, ◌≤◌, length};
-ghost use Rattle.listing_pieces.specs.declared.Opened.TheVariants.{Listed};
+ghost use Rattle.std.specs.Prelude.{◌≡◌, ◌≤◌, length, Ok};
 ghost use Rattle.listing_pieces.specs.Pieces.{opened, Ready};
 
-use listing_pieces::{INDEX, Opened, Point, ROOM};
+use listing_pieces::{INDEX, Point, ROOM};
+use refusals::Refusal;
 use sections::Places;
 use std::io::Write;
 
-fn print_refusal<O: Write>(output: &mut O, number: u8) -> bool {
+fn print_refusal<O: Write>(output: &mut O, refusal: Refusal) -> bool {
     let mut line = [0u8; 32];
-    let end = listing_lines::put_refused(&mut line, 0, number as u64);
+    let end = listing_lines::put_refused(&mut line, 0, refusal.number() as u64);
     output.write_all(&line[0..end]).is_ok()
 }
 
@@ -28,14 +28,14 @@ fn print_lines<O: Write>(
     requires in_bounds { 65536 ≤ length room.old }
 {
     let mut point = Point::Counts;
+    // Stays a while loop: it goes from point to point, and no index is counted.
     while !listing_pieces::is_end(point) {
         let piece = listing_pieces::put_pieces(image, p, index, point, room);
         let end = piece.end;
         if output.write_all(&room[0..end]).is_err() {
             return false;
         }
-        let next = piece.next;
-        point = next;
+        point = piece.next;
     }
     true
 }
@@ -48,7 +48,7 @@ fn print_image<O: Write>(
     index: &mut [u32],
     room: &mut [u8],
 ) -> bool
-    requires input_value { opened input.now ≡ Listed p }
+    requires input_value { opened input.now ≡ Ok p }
     requires in_bounds { (49152 ≤ length index.old) × (65536 ≤ length room.old) }
 {
     let from = input_records::IMAGE_HEAD;
@@ -64,9 +64,8 @@ pub fn print<O: Write>(
     index: &mut [u32; INDEX],
     room: &mut [u8; ROOM],
 ) -> bool {
-    let judged = listing_pieces::open(input);
-    match judged {
-        Opened::Listed(p) => print_image(output, input, p, index, room),
-        Opened::Refused(number) => print_refusal(output, number),
+    match listing_pieces::open(input) {
+        Ok(p) => print_image(output, input, p, index, room),
+        Err(refusal) => print_refusal(output, refusal),
     }
 }

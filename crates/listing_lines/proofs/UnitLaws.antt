@@ -1,4 +1,5 @@
 -- The hex digits of units, one behind the other.
+use Rattle.std.specs.Prelude.{None, Option, Some}
 use mathlib.Core.Path.{◌≡◌, refl, ap}
 use mathlib.Core.Bool.{Bool, true, false}
 use mathlib.Core.List.{List, [], ◌∷◌, ◌++◌}
@@ -10,8 +11,6 @@ use Rattle.bits.proofs.WriteLaws.{sets_append}
 use Rattle.image.specs.Strings.{unit_size}
 use Rattle.string_walk.specs.Units.{unit_at}
 use Rattle.text.specs.Text.{hex4, hexes, hex8}
-use Rattle.listing_lines.specs.declared.Slot.{Slot}
-use Rattle.listing_lines.specs.declared.Slot.TheVariants.{Hash, None}
 use Rattle.listing_lines.specs.Lines.{slot_word, gap, units_shown}
 
 pub length_hex : (u : ℕ) → length (hex4 u) ≡ 4
@@ -91,7 +90,7 @@ pub gap-some : (n : ℕ) → (n ≡ 0 → ⊥) → gap n ≡ 32 ∷ []
 gap-some zero e = absurd (e refl)
 gap-some (suc n) e = refl
 
-pub length_slot : (slot : Slot) → length (slot_word slot) ≤ 8
+pub length_slot : (slot : Option ℕ) → length (slot_word slot) ≤ 8
 unfolding hex4 hex8
-length_slot (Hash h) = omega arith
+length_slot (Some h) = omega arith
 length_slot None = omega arith

@@ -1,11 +1,9 @@
 -- The lines that the listing program prints. 01, Programs.
 -- docs/FORMAT.md: Listing.
-use Rattle.std.specs.Prelude.{Bool, List, [], ◌∷◌, ◌++◌, ℕ, zero, suc, length}
+use Rattle.std.specs.Prelude.{Bool, List, [], ◌∷◌, ◌++◌, ℕ, zero, suc, length, None, Option, Some}
 use Rattle.bits.specs.Choice.{pick}
 use Rattle.string_walk.specs.Units.{unit_at}
 use Rattle.text.specs.Text.{space, line_feed, decimal, hexes, hex8, line}
-use Rattle.listing_lines.specs.declared.Slot.{Slot}
-use Rattle.listing_lines.specs.declared.Slot.TheVariants.{Hash, None}
 
 -- a word of one letter
 abbrev pub letter : ℕ → List ℕ
@@ -31,12 +29,12 @@ units_word [] = letter 0x2D
 units_word (u ∷ us) = hexes (u ∷ us)
 
 -- 02, No. 5: "a last field: the stored hash slot in eight hex digits, or `-` for a plain string"
-abbrev pub slot_word : Slot → List ℕ
-slot_word (Hash h) = hex8 h
+abbrev pub slot_word : Option ℕ → List ℕ
+slot_word (Some h) = hex8 h
 slot_word None = letter 0x2D
 
 -- the line of a string by its units and its slot
-unfoldable pub string_line : ℕ → Bool → Bool → List ℕ → Slot → List ℕ
+unfoldable pub string_line : ℕ → Bool → Bool → List ℕ → Option ℕ → List ℕ
 string_line id wide identifier units slot = line (string_words id wide identifier (length units) ++ (units_word units ∷ []))
     (slot_word slot)
 
@@ -46,7 +44,7 @@ gap zero = 0x2D ∷ space ∷ []
 gap (suc n) = space ∷ []
 
 -- what stands behind so many units
-abbrev pub closing : ℕ → Slot → List ℕ
+abbrev pub closing : ℕ → Option ℕ → List ℕ
 closing n slot = gap n ++ (slot_word slot ++ (line_feed ∷ []))
 
 -- "`f`: id, o overflowed or p plain, body start, size"

@@ -9,13 +9,6 @@ ghost use Rattle.text.specs.Text.{space, hexes, spaced, Wrote};
 ghost use Rattle.listing_lines.specs.Lines.{letter, refused_line, counts_line, string_words, slot_word, gap, closing};
 ghost use Rattle.listing_lines.specs.Lines.{function_line, units_shown};
 
-// The last field of a string's line: the hash that is stored for an identifier; a plain string has none.
-#[derive(Clone, Copy)]
-pub enum Slot {
-    Hash(u64),
-    None,
-}
-
 const SPACE: u8 = 32;
 
 const LINE_FEED: u8 = 10;
@@ -104,14 +97,12 @@ pub fn put_units(
     ensures { Wrote out.old at (hexes (units_shown image.now start wide first n)) result out.new
         × (result ≡ at + n * 4) }
 {
-    let mut i = 0;
-    while i < n {
+    for i in 0..n {
         text::put_hex(
             out,
             at + i * 4,
             string_walk::unit_at(image, start, wide, first + i),
         );
-        i += 1;
     }
     at + n * 4
 }
@@ -129,18 +120,18 @@ fn put_gap(out: &mut [u8], at: usize, count: usize) -> usize
     text::put_text(out, at, b" ")
 }
 
-fn put_slot(out: &mut [u8], at: usize, slot: Slot) -> usize
+fn put_slot(out: &mut [u8], at: usize, slot: Option<u64>) -> usize
     requires { at + 8 ≤ length out.old }
     ensures { Wrote out.old at (slot_word slot) result out.new × (result ≤ at + 8) }
 {
     match slot {
-        Slot::Hash(hash) => text::put_hex_word(out, at, hash),
-        Slot::None => text::put_text(out, at, b"-"),
+        Some(hash) => text::put_hex_word(out, at, hash),
+        None => text::put_text(out, at, b"-"),
     }
 }
 
 // All that stands behind a string's units.
-pub fn put_closing(out: &mut [u8], at: usize, count: usize, slot: Slot) -> usize
+pub fn put_closing(out: &mut [u8], at: usize, count: usize, slot: Option<u64>) -> usize
     requires { at + 11 ≤ length out.old }
     ensures { Wrote out.old at (closing count slot) result out.new × (result ≤ at + 11) }
 {

@@ -1,4 +1,5 @@
 -- What is printed for an input goes by what it is opened as; and no more of an input is needed than a program reads.
+use Rattle.std.specs.Prelude.{Err, Ok, Result}
 use mathlib.Core.Path.{◌≡◌, refl, ap, sym, ◌∙◌}
 use mathlib.Core.Bool.{Bool, true, false}
 use mathlib.Core.Logic.{◌⊎◌, inl, inr}
@@ -17,16 +18,11 @@ use Rattle.image.specs.Admission.{refusal}
 use Rattle.sections.specs.declared.Places.{Places}
 use Rattle.sections.specs.Places.{places_of, Laid}
 use Rattle.sections.proofs.SectionLaws.{sectioned}
-use Rattle.admission.specs.declared.Admission.{Admission}
-use Rattle.admission.specs.declared.Admission.TheVariants as admission-is
-use Rattle.admission.specs.Admission.{admission, number_of}
+use Rattle.admission.specs.Admission.{admission}
 use Rattle.admission.proofs.AnswerLaws.{is-laid}
 use Rattle.string_index.specs.Index.{words_for}
 use Rattle.listing_lines.specs.Lines.{refused_line}
-use Rattle.input_records.specs.declared.ImageHead.{ImageHead}
-use Rattle.input_records.specs.declared.ImageHead.TheVariants as head-is
 use Rattle.input_records.specs.Heads.{marked, layout_of, image_head_good, image_head}
-use Rattle.listing_pieces.specs.declared.Opened.TheVariants as opened-is
 use Rattle.listing_pieces.specs.Listing.{listed, image_listing, record_listing, listing}
 use Rattle.listing_pieces.specs.Pieces.{opened_image, opened_record, opened, printed, counts, pieces}
 use Rattle.listing_pieces.proofs.PieceLaws.{in_pieces}
@@ -39,16 +35,16 @@ image_printed l s = go (eqb (refusal l s) 0) (refusal l s)
   where
     go : (b : Bool) (n : ℕ)
         → pick b (listed l s) (refused_line n) ≡ printed s
-        (opened_image (pick b (admission-is.Laid (places_of l s)) (admission-is.Refused n)))
+        (opened_image (pick b (Ok (places_of l s)) (Err n)))
     go true n = refl
     go false n = refl
 
-record_printed : (h : ImageHead) (input : List ℕ) → record_listing h input ≡ printed (drop 7 input) (opened_record h input)
-record_printed (head-is.Refused n) input = refl
-record_printed (head-is.Image l n) input = rw (image_printed l (drop 7 input)) (go (eqb (length input) (7 + n)))
+record_printed : (h : Result (Layout × ℕ) ℕ) (input : List ℕ) → record_listing h input ≡ printed (drop 7 input) (opened_record h input)
+record_printed (Err n) input = refl
+record_printed (Ok (l, n)) input = rw (image_printed l (drop 7 input)) (go (eqb (length input) (7 + n)))
   where
     go : (b : Bool) → pick b (printed (drop 7 input) (opened_image (admission l (drop 7 input)))) (refused_line 15)
-        ≡ printed (drop 7 input) (pick b (opened_image (admission l (drop 7 input))) (opened-is.Refused 15))
+        ≡ printed (drop 7 input) (pick b (opened_image (admission l (drop 7 input))) (Err 15))
     go true = refl
     go false = refl
 
@@ -58,10 +54,10 @@ unfolding listing opened
 listing-printed input = record_printed (image_head input) input
 
 -- THE LISTING OF AN INPUT IS ITS REFUSAL, OR THE PIECES OF ITS IMAGE IN ORDER
-pub refused_listing : (input : List ℕ) (n : ℕ) → opened input ≡ opened-is.Refused n → listing input ≡ refused_line n
+pub refused_listing : (input : List ℕ) (n : ℕ) → opened input ≡ Err n → listing input ≡ refused_line n
 refused_listing input n e = listing-printed input ∙ ap (printed (drop 7 input)) e
 
-pub listing_in_pieces : (input : List ℕ) (p : Places) (n : ℕ) → opened input ≡ opened-is.Listed p
+pub listing_in_pieces : (input : List ℕ) (p : Places) (n : ℕ) → opened input ≡ Ok p
     → length (listing input) + 3 ≤ n
     → pieces p.layout (drop 7 input) n counts ≡ listing input
 listing_in_pieces input p n e h =
@@ -80,60 +76,60 @@ head_most input e =
 -- ---- an image that was opened is admitted
 
 module _ (input : List ℕ) (p : Places) (bytes : (i : ℕ) → get_or (drop 7 input) i 0 < 256) where
-  laid : (l : Layout) (a : Admission) → a ≡ admission l (drop 7 input) → opened_image a ≡ opened-is.Listed p
+  laid : (l : Layout) (a : Result Places ℕ) → a ≡ admission l (drop 7 input) → opened_image a ≡ Ok p
       → Laid p (drop 7 input)
-  laid l (admission-is.Laid q) e h =
+  laid l (Ok q) e h =
       let k : q ≡ p = cc in
-      let f : admission-is.Laid q ≡ admission-is.Laid p = ap admission-is.Laid k in
-      is-laid l (drop 7 input) (admission-is.Laid q) e p f bytes
-  laid l (admission-is.Refused n) e h = let z : ◌≡◌ {A = ℕ} 0 1 = cc in absurd (omega arith)
+      let f : Ok q ≡ Ok p = ap Ok k in
+      is-laid l (drop 7 input) (Ok q) e p f bytes
+  laid l (Err n) e h = let z : ◌≡◌ {A = ℕ} 0 1 = cc in absurd (omega arith)
 
-  from_record : (h : ImageHead) → opened_record h input ≡ opened-is.Listed p → Laid p (drop 7 input)
-  from_record (head-is.Refused n) e = let z : ◌≡◌ {A = ℕ} 0 1 = cc in absurd (omega arith)
-  from_record (head-is.Image l n) e = go (eqb (length input) (7 + n)) e
+  from_record : (h : Result (Layout × ℕ) ℕ) → opened_record h input ≡ Ok p → Laid p (drop 7 input)
+  from_record (Err n) e = let z : ◌≡◌ {A = ℕ} 0 1 = cc in absurd (omega arith)
+  from_record (Ok (l, n)) e = go (eqb (length input) (7 + n)) e
     where
-      go : (b : Bool) → pick b (opened_image (admission l (drop 7 input))) (opened-is.Refused 15) ≡ opened-is.Listed p
+      go : (b : Bool) → pick b (opened_image (admission l (drop 7 input))) (Err 15) ≡ Ok p
           → Laid p (drop 7 input)
       go true e = laid l (admission l (drop 7 input)) refl e
       go false e = let z : ◌≡◌ {A = ℕ} 0 1 = cc in absurd (omega arith)
 
-  pub opened_admitted : opened input ≡ opened-is.Listed p → Laid p (drop 7 input)
+  pub opened_admitted : opened input ≡ Ok p → Laid p (drop 7 input)
   unfolding opened
   opened_admitted e = from_record (image_head input) e
 
 module _ (input : List ℕ) (p : Places) where
   -- the input ends where its head says
-  opened_ends : opened input ≡ opened-is.Listed p → (7 ≤ length input) × (length input ≤ 65_543)
+  opened_ends : opened input ≡ Ok p → (7 ≤ length input) × (length input ≤ 65_543)
   unfolding opened image_head
   opened_ends e = go (image_head_good input) refl e
     where
       go : (b : Bool) → image_head_good input ≡ b
-          → opened_record (pick b (head-is.Image (layout_of (get_or input 2 0)) (word_at input 3)) (head-is.Refused 15)) input
-          ≡ opened-is.Listed p
+          → opened_record (pick b (Ok (layout_of (get_or input 2 0), word_at input 3)) (Err 15)) input
+          ≡ Ok p
           → (7 ≤ length input) × (length input ≤ 65_543)
       go false k e = let z : ◌≡◌ {A = ℕ} 0 1 = cc in absurd (omega arith)
       go true k e = ends (eqb (length input) (7 + word_at input 3)) refl e
         where
           ends : (b : Bool) → eqb (length input) (7 + word_at input 3) ≡ b
-              → pick b (opened_image (admission (layout_of (get_or input 2 0)) (drop 7 input))) (opened-is.Refused 15) ≡ opened-is.Listed p
+              → pick b (opened_image (admission (layout_of (get_or input 2 0)) (drop 7 input))) (Err 15) ≡ Ok p
               → (7 ≤ length input) × (length input ≤ 65_543)
           ends true g e =
               let n : length input ≡ 7 + word_at input 3 = eqb-true (length input) (7 + word_at input 3) g in
               (omega arith, omega (arith, head_most input k))
           ends false g e = let z : ◌≡◌ {A = ℕ} 0 1 = cc in absurd (omega arith)
 
-  pub opened-long : opened input ≡ opened-is.Listed p → 7 ≤ length input
+  pub opened-long : opened input ≡ Ok p → 7 ≤ length input
   opened-long e = (opened_ends e).0
 
   -- so that the index which the programs lend has words for all its strings
-  pub opened-words : ((i : ℕ) → get_or input i 0 < 256) → opened input ≡ opened-is.Listed p → words_for p.strings ≤ 49_152
+  pub opened-words : ((i : ℕ) → get_or input i 0 < 256) → opened input ≡ Ok p → words_for p.strings ≤ 49_152
   opened-words bytes e =
       let b : (i : ℕ) → get_or (drop 7 input) i 0 < 256 = λ i. rw (get_or-drop 7 input i 0) (bytes (7 + i)) in
       let z = sectioned p (drop 7 input) (opened_admitted input p b e).placed in
       omega (arith, length-drop 7 input, (opened_ends e).1)
 
 -- the image as the code takes it
-pub opened_part : (input : List ℕ) (p : Places) → ((i : ℕ) → get_or input i 0 < 256) → opened input ≡ opened-is.Listed p
+pub opened_part : (input : List ℕ) (p : Places) → ((i : ℕ) → get_or input i 0 < 256) → opened input ≡ Ok p
     → Laid p (take (length input - 7) (drop 7 input))
 opened_part input p bytes e =
     let b : (i : ℕ) → get_or (drop 7 input) i 0 < 256 = λ i. rw (get_or-drop 7 input i 0) (bytes (7 + i)) in
@@ -146,7 +142,7 @@ unfolding listing image_head
 long_refused input h = go (image_head_good input) refl
   where
     go : (b : Bool) → image_head_good input ≡ b
-        → record_listing (pick b (head-is.Image (layout_of (get_or input 2 0)) (word_at input 3)) (head-is.Refused 15)) input ≡ refused_line
+        → record_listing (pick b (Ok (layout_of (get_or input 2 0), word_at input 3)) (Err 15)) input ≡ refused_line
         15
     go true e =
         rw (ne_eqb (length input) (7 + word_at input 3) (λ z. omega (arith, head_most input e)))
@@ -164,24 +160,25 @@ enough input = go (below_or 65_543 (length input))
 -- ---- as the code judges a record whose head was read
 
 module _ (l : Layout) (n : ℕ) (input : List ℕ) where
-  pub record_ends : (length input ≡ 7 + n → ⊥) → opened-is.Refused 15 ≡ opened_record (head-is.Image l n) input
+  pub record_ends : (length input ≡ 7 + n → ⊥) → Err 15 ≡ opened_record (Ok (l, n)) input
   record_ends h = rw (ne_eqb (length input) (7 + n) h)
 
+-- an opened image is what admission answers for it
+opened_same : (r : Result Places ℕ) → opened_image r ≡ r
+opened_same (Ok p) = refl
+opened_same (Err n) = refl
+
 -- the input ends where its head says, and r is the answer of admission for its image
-pub record RecordJudged (l : Layout) (n : ℕ) (input : List ℕ) (r : Admission) : Type 0 where
+pub record RecordJudged (l : Layout) (n : ℕ) (input : List ℕ) (r : Result Places ℕ) : Type 0 where
   pub ends : length input ≡ 7 + n
   pub answer : r ≡ admission l (take (length input - 7) (drop 7 input))
 
-module _ {l : Layout} {n : ℕ} {input : List ℕ} {r : Admission} (z : RecordJudged l n input r) where
-  answer_is : opened_record (head-is.Image l n) input ≡ opened_image r
+module _ {l : Layout} {n : ℕ} {input : List ℕ} {r : Result Places ℕ} (z : RecordJudged l n input r) where
+  answer_is : opened_record (Ok (l, n)) input ≡ opened_image r
   answer_is =
       rw (eq-eqb (length input) (7 + n) z.ends)
       (ap opened_image (sym (z.answer
       ∙ ap (admission l) (take_all (length input - 7) (drop 7 input) (omega (arith, length-drop 7 input))))))
 
-  pub record_refused : (k m : ℕ) → r ≡ admission-is.Refused k → m ≡ number_of r
-      → opened-is.Refused m ≡ opened_record (head-is.Image l n) input
-  record_refused k m f g = ap opened-is.Refused (g ∙ ap number_of f) ∙ ap opened_image (sym f) ∙ sym answer_is
-
-  pub record_laid : (p : Places) → r ≡ admission-is.Laid p → opened-is.Listed p ≡ opened_record (head-is.Image l n) input
-  record_laid p f = ap opened_image (sym f) ∙ sym answer_is
+  pub record_judged : r ≡ opened_record (Ok (l, n)) input
+  record_judged = sym (opened_same r) ∙ sym answer_is

@@ -1,4 +1,5 @@
 -- A part of a listing, made batch by batch: so many bytes are left out, and so many there is room for.
+use Rattle.std.specs.Prelude.{Err, Ok, Result}
 use mathlib.Core.Path.{◌≡◌, refl, ap, sym, ◌∙◌, subst}
 use mathlib.Core.Bool.{Bool, true, false, not}
 use mathlib.Core.Logic.{◌⊎◌, inl, inr}
@@ -13,7 +14,6 @@ use lib.Seq.{sets, sets-eq, take_all, take-append-le, take-append-add, take-appe
 use lib.Seq.{take-nil, length-take-le}
 use Rattle.bits.specs.Choice.{pick}
 use Rattle.bits.specs.Outcome.{Answers}
-use Rattle.bits.specs.declared.Answer.TheVariants.{Length, Refused}
 use Rattle.bits.proofs.OutcomeLaws.{refused_outcome}
 use Rattle.bits.proofs.TestLaws.{below_or}
 use Rattle.bits.proofs.WriteLaws.{sets_append}
@@ -21,9 +21,6 @@ use Rattle.format.specs.declared.Layout.{Layout}
 use Rattle.footer.specs.Finalize.{size_limit}
 use Rattle.sections.specs.declared.Places.{Places}
 use Rattle.sections.specs.Places.{places_of}
-use Rattle.admission.specs.declared.Admission.{Admission}
-use Rattle.admission.specs.declared.Admission.TheVariants as admission-is
-use Rattle.admission.specs.Admission.{number_of}
 use Rattle.string_index.specs.Index.{fill_refusal, admitted_as}
 use Rattle.string_index.proofs.IndexLaws.{refused_as, laid_as}
 use Rattle.text.specs.Text.{Wrote}
@@ -228,17 +225,16 @@ module _ (n m : ℕ) (e : m ≡ pick (ltb n size_limit) n size_limit) where
   pub limit-written : (old new text : List ℕ) (r : ℕ) → Wrote old 0 (take m text) r new → Wrote old 0 (take (part_room n) text) r new
   limit-written old new text r w = subst (λ (k : ℕ). Wrote old 0 (take k text) r new) limit_is w
 
-module _ (l : Layout) (s x : List ℕ) (r : Admission) (e : r ≡ admitted_as l s (length x)) (room from : ℕ) (old : List ℕ) where
-  pub part_refused : (k n : ℕ) → r ≡ admission-is.Refused k → n ≡ number_of r
-      → Answers (listing_part room from l s (length x)) (Refused n) old old
+module _ (l : Layout) (s x : List ℕ) (r : Result Places ℕ) (e : r ≡ admitted_as l s (length x)) (room from : ℕ) (old : List ℕ) where
+  pub part_refused : (k : ℕ) → r ≡ Err k → Answers (listing_part room from l s (length x)) (Err k) old old
   unfolding listing_part
-  part_refused k n f g =
+  part_refused k f =
       let (h, z) = refused_as l s x r e k f in
-      refused_outcome (fill_refusal l s (length x)) n _ (omega arith, z ∙ sym (g ∙ ap number_of f)) old
+      refused_outcome (fill_refusal l s (length x)) k _ (omega arith, z) old
 
-  pub part_listed : (p : Places) → r ≡ admission-is.Laid p → (n : ℕ) (new : List ℕ) → room ≤ length old
+  pub part_listed : (p : Places) → r ≡ Ok p → (n : ℕ) (new : List ℕ) → room ≤ length old
       → Wrote old 0 (part from room (listed p.layout s)) n new
-      → Answers (listing_part room from l s (length x)) (Length n) old new
+      → Answers (listing_part room from l s (length x)) (Ok n) old new
   unfolding listing_part places_of
   part_listed p f n new h w =
       let (z, q) = laid_as l s x r e p f in
@@ -249,4 +245,4 @@ module _ (l : Layout) (s x : List ℕ) (r : Admission) (e : r ≡ admitted_as l 
       =
       w.1 ∙ sets-eq t old 0 (omega (arith, part_short from room (listed p.layout s)))
       ∙ ap (λ (j : ℕ). t ++ drop j old) (zero-add (length t)) in
-      rw (z, ← own) (ap Length m, k)
+      rw (z, ← own) (ap Ok m, k)

@@ -1,4 +1,5 @@
 -- The pieces of a listing, in order, are the listing; they are no more than its bytes and 3.
+use Rattle.std.specs.Prelude.{Option}
 use mathlib.Core.Path.{◌≡◌, refl, ap, sym, ◌∙◌, subst}
 use mathlib.Core.Bool.{true, false}
 use mathlib.Core.Logic.{◌⊎◌, inl, inr}
@@ -15,7 +16,6 @@ use Rattle.image.specs.Strings.{string_of}
 use Rattle.image.specs.Kinds.{is_identifier}
 use Rattle.text.specs.Text.{hex4, hexes, spaced}
 use Rattle.text.proofs.TextLaws.{spaced_snoc}
-use Rattle.listing_lines.specs.declared.Slot.{Slot}
 use Rattle.listing_lines.specs.Lines.{string_words, string_line, function_line, units_word, slot_word, closing}
 use Rattle.listing_lines.proofs.UnitLaws.{length-hexes}
 use Rattle.listing_pieces.specs.Listing.{lines_from, slot_of, string_line_in, function_line_in, listed}
@@ -44,7 +44,7 @@ unfolding hexes
 no_hexes a b = refl
 
 -- the last two words of a string's line and its line feed
-line_closes : (us : List ℕ) (slot : Slot)
+line_closes : (us : List ℕ) (slot : Option ℕ)
     → (units_word us ++ (32 ∷ [])) ++ (slot_word slot ++ (10 ∷ [])) ≡ hexes us ++ closing (length us) slot
 unfolding hexes
 line_closes [] slot = refl
@@ -128,7 +128,7 @@ module _ (l : Layout) (s : List ℕ) where
   strings_fall i (inl h) = rw (lt-ltb i (strings_in s) h) (omega arith)
   strings_fall i (inr h) = rw (le-ltb i (strings_in s) h) (omega arith)
 
-  closing-some : (n : ℕ) (slot : Slot) → 0 < length (closing n slot)
+  closing-some : (n : ℕ) (slot : Option ℕ) → 0 < length (closing n slot)
   closing-some zero slot = omega arith
   closing-some (suc n) slot = omega arith
 

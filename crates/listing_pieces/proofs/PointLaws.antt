@@ -1,4 +1,5 @@
 -- Each maker of a piece gives the piece at its point.
+use Rattle.std.specs.Prelude.{Option}
 use mathlib.Core.Path.{◌≡◌, refl, ap, sym, ◌∙◌, subst}
 use mathlib.Core.Bool.{Bool, true, false, not}
 use mathlib.Core.Logic.{◌⊎◌, inl, inr}
@@ -33,7 +34,6 @@ use Rattle.string_walk.proofs.RecordLaws.{record_string, record_count, record_un
 use Rattle.string_index.specs.declared.HeldString.{HeldString}
 use Rattle.string_index.specs.Filling.{Tells}
 use Rattle.text.specs.Text.{hexes, spaced, Wrote}
-use Rattle.listing_lines.specs.declared.Slot.{Slot}
 use Rattle.listing_lines.specs.Lines.{counts_line, string_words, function_line, closing, units_shown}
 use Rattle.listing_pieces.specs.declared.Point.{Point}
 use Rattle.listing_pieces.specs.declared.Point.TheVariants.{Counts, Strings, Units, Functions, End}
@@ -195,7 +195,7 @@ module _ {p : Places} {s : List ℕ} {t : Turn} {q : HeldString} (x : InLine p s
       let z = sectioned p s here in
       omega (arith, x.counted, rank_lt x.laid.admitted t.id (omega (arith, x.known)) (sym x.tells.flag ∙ e))
 
-  slot_is : (slot : Slot) → slot ≡ slot_at p.layout s q.identifier t.before → slot ≡ slot_of p.layout s t.id
+  slot_is : (slot : Option ℕ) → slot ≡ slot_at p.layout s q.identifier t.before → slot ≡ slot_of p.layout s t.id
   unfolding slot_of
   slot_is slot e = e ∙ rw (x.tells.flag, x.counted)
 
@@ -210,7 +210,7 @@ module _ {p : Places} {s : List ℕ} {t : Turn} {q : HeldString} (x : InLine p s
   counted-after = rw (rank_more p.layout s t.id, ← x.tells.flag, ← x.counted, set-bit q.identifier)
 
   -- no unit is left, and the end of the line is put
-  pub gives_closing : (j : ℕ) → q.place.count ≤ j → (slot : Slot) → slot ≡ slot_at p.layout s q.identifier t.before
+  pub gives_closing : (j : ℕ) → q.place.count ≤ j → (slot : Option ℕ) → slot ≡ slot_at p.layout s q.identifier t.before
       → (old new : List ℕ) (at end : ℕ) → Wrote old at (closing q.place.count slot) end new → end ≤ at + 11
       → (n : Turn) → n ≡ turn_after t q.identifier → Gives p s old at (Units t j) (piece end (Strings n)) new
   gives_closing j none slot e old new at end w most n m =

@@ -1,6 +1,6 @@
 -- What the listing program prints. 01, Programs: "The listing program reads one `IM` record; a byte after it gives 15."
 -- docs/FORMAT.md: Listing.
-use Rattle.std.specs.Prelude.{List, [], ◌++◌, ℕ, zero, suc, ◌+◌, eqb, ltb, length, take, drop}
+use Rattle.std.specs.Prelude.{List, [], ◌++◌, ℕ, zero, suc, ◌+◌, eqb, ltb, length, take, drop, None, Option, Some, Ok, Err, Result}
 use Rattle.refusals.specs.Numbers as refusals
 use Rattle.bits.specs.Choice.{pick}
 use Rattle.bits.specs.Outcome.{Outcome, outcome_for}
@@ -11,12 +11,8 @@ use Rattle.image.specs.Strings.{string_of, units_of}
 use Rattle.image.specs.Kinds.{is_identifier, rank_of, hash_in}
 use Rattle.image.specs.Functions.{func_of}
 use Rattle.image.specs.Admission.{refusal}
-use Rattle.input_records.specs.declared.ImageHead.{ImageHead}
-use Rattle.input_records.specs.declared.ImageHead.TheVariants.{Image, Refused}
 use Rattle.input_records.specs.Heads.{image_head_length, image_head}
 use Rattle.string_index.specs.Index.{fill_refusal}
-use Rattle.listing_lines.specs.declared.Slot.{Slot}
-use Rattle.listing_lines.specs.declared.Slot.TheVariants.{Hash, None}
 use Rattle.listing_lines.specs.Lines.{refused_line, counts_line, string_line, function_line}
 
 -- the lines of the ids from i on, n of them
@@ -25,8 +21,8 @@ lines_from f i zero = []
 lines_from f i (suc n) = f i ++ lines_from f (i + 1) n
 
 -- the last field of string i: the hash that is stored in its slot, stale or not; a plain string has none. 02, No. 5
-unfoldable pub slot_of : Layout → List ℕ → ℕ → Slot
-slot_of l s i = pick (is_identifier l s i) (Hash (hash_in l s (rank_of l s i))) None
+unfoldable pub slot_of : Layout → List ℕ → ℕ → Option ℕ
+slot_of l s i = pick (is_identifier l s i) (Some (hash_in l s (rank_of l s i))) None
 
 -- the line of string i, and of function i
 unfoldable pub string_line_in : Layout → List ℕ → ℕ → List ℕ
@@ -55,10 +51,10 @@ unfoldable pub listing_part : ℕ → ℕ → Layout → List ℕ → ℕ → Ou
 listing_part room from l s words = outcome_for (fill_refusal l s words) (take room (drop from (listed l s)))
 
 -- 15 comes before all others: the record is judged first, then whether it ends where the input does
-abbrev pub record_listing : ImageHead → List ℕ → List ℕ
-record_listing (Image l n) input =
+abbrev pub record_listing : Result (Layout × ℕ) ℕ → List ℕ → List ℕ
+record_listing (Ok (l, n)) input =
     pick (eqb (length input) (image_head_length + n)) (image_listing l (drop image_head_length input)) (refused_line refusals.job)
-record_listing (Refused n) input = refused_line n
+record_listing (Err n) input = refused_line n
 
 -- THE LISTING: all that is printed, for all that is read
 unfoldable pub listing : List ℕ → List ℕ

@@ -2,6 +2,7 @@
 -- the pieces in order are the listing.
 -- docs/FORMAT.md: Listing.
 use Rattle.std.specs.Prelude.{◌≡◌, Bool, true, false, List, [], ◌++◌, ℕ, zero, suc, ◌+◌, ◌-◌, ◌≤◌, ◌<◌, ltb, eqb, length, take, drop}
+use Rattle.std.specs.Prelude.{Option, Some, None, Result, Ok, Err}
 use Rattle.refusals.specs.Numbers as refusals
 use Rattle.bits.specs.Choice.{pick}
 use Rattle.format.specs.declared.Layout.{Layout}
@@ -11,19 +12,11 @@ use Rattle.image.specs.Kinds.{is_identifier, rank_of, hash_in}
 use Rattle.format.specs.Table.{if_set}
 use Rattle.sections.specs.declared.Places.{Places}
 use Rattle.sections.specs.Places.{Laid}
-use Rattle.admission.specs.declared.Admission.{Admission}
-use Rattle.admission.specs.declared.Admission.TheVariants as admission-is
 use Rattle.admission.specs.Admission.{admission}
 use Rattle.string_index.specs.Filling.{Indexed}
 use Rattle.text.specs.Text.{hexes, spaced, Wrote}
-use Rattle.listing_lines.specs.declared.Slot.{Slot}
-use Rattle.listing_lines.specs.declared.Slot.TheVariants.{Hash, None}
 use Rattle.listing_lines.specs.Lines.{refused_line, counts_line, string_words, closing}
-use Rattle.input_records.specs.declared.ImageHead.{ImageHead}
-use Rattle.input_records.specs.declared.ImageHead.TheVariants as head-is
 use Rattle.input_records.specs.Heads.{image_head_length, image_head}
-use Rattle.listing_pieces.specs.declared.Opened.{Opened}
-use Rattle.listing_pieces.specs.declared.Opened.TheVariants as opened-is
 use Rattle.listing_pieces.specs.declared.Point.{Point}
 use Rattle.listing_pieces.specs.declared.Point.TheVariants as point_is
 use Rattle.listing_pieces.specs.declared.Piece.{Piece}
@@ -32,23 +25,23 @@ use Rattle.listing_pieces.specs.Listing.{lines_from, slot_of, string_line_in, fu
 
 -- ---- what an input is: an admitted image, or a refusal
 
-abbrev pub opened_image : Admission → Opened
-opened_image (admission-is.Laid p) = opened-is.Listed p
-opened_image (admission-is.Refused n) = opened-is.Refused n
+abbrev pub opened_image : Result Places ℕ → Result Places ℕ
+opened_image (Ok p) = Ok p
+opened_image (Err n) = Err n
 
-abbrev pub opened_record : ImageHead → List ℕ → Opened
-opened_record (head-is.Image l n) input =
+abbrev pub opened_record : Result (Layout × ℕ) ℕ → List ℕ → Result Places ℕ
+opened_record (Ok (l, n)) input =
     pick (eqb (length input) (image_head_length + n)) (opened_image (admission l (drop image_head_length input)))
-    (opened-is.Refused refusals.job)
-opened_record (head-is.Refused n) input = opened-is.Refused n
+    (Err refusals.job)
+opened_record (Err n) input = Err n
 
-unfoldable pub opened : List ℕ → Opened
+unfoldable pub opened : List ℕ → Result Places ℕ
 opened input = opened_record (image_head input) input
 
 -- what is printed for it; s are the bytes behind the record's head
-abbrev pub printed : List ℕ → Opened → List ℕ
-printed s (opened-is.Listed p) = listed p.layout s
-printed s (opened-is.Refused n) = refused_line n
+abbrev pub printed : List ℕ → Result Places ℕ → List ℕ
+printed s (Ok p) = listed p.layout s
+printed s (Err n) = refused_line n
 
 -- ---- where a listing has come to
 
@@ -159,8 +152,8 @@ Good p s (point_is.Functions i) = Unit {0}
 Good p s point_is.End = Unit {0}
 
 -- the slot of a string by its flag and by the identifiers before it
-abbrev pub slot_at : Layout → List ℕ → Bool → ℕ → Slot
-slot_at l s identifier rank = pick identifier (Hash (hash_in l s rank)) None
+abbrev pub slot_at : Layout → List ℕ → Bool → ℕ → Option ℕ
+slot_at l s identifier rank = pick identifier (Some (hash_in l s rank)) None
 
 -- an admitted image and its index
 pub record Ready (p : Places) (s x : List ℕ) : Type 0 where

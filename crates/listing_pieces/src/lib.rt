@@ -3,10 +3,9 @@
 // on. Strings are looked up in an index (02, No. 13), so that a point is no more than a few numbers.
 #![tactic(auto)]
 
-ghost use Rattle.std.specs.Prelude.{◌≡◌, true, List, ℕ, ◌+◌, ◌-◌, ◌≤◌, ◌<◌, length, take, drop};
+ghost use Rattle.std.specs.Prelude.{◌≡◌, true, List, ℕ, ◌+◌, ◌-◌, ◌≤◌, ◌<◌, length, take, drop, Ok};
 ghost use Rattle.bits.specs.Outcome.{Answers};
 ghost use Rattle.sections.specs.Places.{Placed, Laid};
-ghost use Rattle.input_records.specs.declared.ImageHead.TheVariants.{Image};
 ghost use Rattle.string_index.specs.Index.{words_for, index_after};
 ghost use Rattle.text.specs.Text.{Wrote};
 ghost use Rattle.listing_pieces.specs.declared.Point.TheVariants.{Counts, Strings, Units, Functions};
@@ -14,19 +13,9 @@ ghost use Rattle.listing_pieces.specs.Listing.{listed, part_room, listing_part};
 ghost use Rattle.listing_pieces.specs.Pieces.{opened_record, opened, is_end, turn_after, spot_of, slot_at, Ready, Good};
 ghost use Rattle.listing_pieces.specs.Pieces.{Gives, GivesAll};
 
-use admission::Admission;
-use bits::Answer;
 use format::Layout;
-use input_records::ImageHead;
-use listing_lines::Slot;
+use refusals::Refusal;
 use sections::Places;
-
-// What an input is: one record with an admitted image, or refused.
-#[derive(Clone, Copy)]
-pub enum Opened {
-    Listed(Places),
-    Refused(u8),
-}
 
 // A string in its turn: its id, and how many identifiers have a lower one. That is the rank of an
 // identifier, which an index does not hold.
@@ -66,33 +55,23 @@ pub const ROOM: usize = 65536;
 pub const INDEX: usize = 49152;
 
 // Judges a record whose head was read: it ends where the input does, and its image is admitted.
-fn open_image(input: &[u8], layout: Layout, length: usize) -> Opened
-    ensures { result ≡ opened_record (Image layout length) input.now }
+fn open_image(input: &[u8], layout: Layout, length: usize) -> Result<Places, Refusal>
+    ensures { result ≡ opened_record (Ok (layout, length)) input.now }
 {
     let from = input_records::IMAGE_HEAD;
-    if input.len() < from {
-        return Opened::Refused(refusals::JOB);
+    if input.len() < from || input.len() - from != length {
+        return Err(refusals::JOB);
     }
-    if input.len() - from != length {
-        return Opened::Refused(refusals::JOB);
-    }
-    let answer = admission::admit(&input[from..], layout);
-    let Admission::Laid(p) = answer else {
-        return Opened::Refused(admission::number_of(answer));
-    };
-    Opened::Listed(p)
+    admission::admit(&input[from..], layout)
 }
 
 // Judges an input: 15 for a record that is not well formed or does not end where the input does,
 // then 1 to 6.
-pub fn open(input: &[u8]) -> Opened
+pub fn open(input: &[u8]) -> Result<Places, Refusal>
     ensures { result ≡ opened input.now }
 {
-    let head = input_records::image_head(input);
-    match head {
-        ImageHead::Refused(number) => Opened::Refused(number),
-        ImageHead::Image(layout, length) => open_image(input, layout, length),
-    }
+    let (layout, length) = input_records::image_head(input)?;
+    open_image(input, layout, length)
 }
 
 // ---- pieces, one for each kind of point
@@ -146,15 +125,15 @@ fn put_string(p: Places, index: &[u32], turn: Turn, out: &mut [u8], at: usize) -
 }
 
 // The hash slot of a string, as it is stored: that of its rank, if it is an identifier.
-fn slot_of(image: &[u8], p: Places, identifier: bool, rank: usize) -> Slot
+fn slot_of(image: &[u8], p: Places, identifier: bool, rank: usize) -> Option<u64>
     requires placed { Placed p image.now }
     requires rank_lt_identifiers { identifier ≡ true → rank < p.identifiers }
     ensures { result ≡ slot_at p.layout image.now identifier rank }
 {
     if !identifier {
-        return Slot::None;
+        return None;
     }
-    Slot::Hash(string_walk::stored_hash(image, p, rank))
+    Some(string_walk::stored_hash(image, p, rank))
 }
 
 // The string behind a string, in its turn.
@@ -259,13 +238,7 @@ fn put_piece(
 pub fn is_end(point: Point) -> bool
     ensures { result ≡ is_end (spot_of point) }
 {
-    match point {
-        Point::Counts => false,
-        Point::Strings(_) => false,
-        Point::Units(_, _) => false,
-        Point::Functions(_) => false,
-        Point::End => true,
-    }
+    matches!(point, Point::End)
 }
 
 // The next pieces, from the buffer's front on.
@@ -277,13 +250,10 @@ pub fn put_pieces(image: &[u8], p: Places, index: &[u32], from: Point, out: &mut
 {
     let mut point = from;
     let mut at = 0;
-    let mut i = 0;
-    while i < PIECES {
+    for _i in 0..PIECES {
         let piece = put_piece(image, p, index, point, out, at);
         at = piece.end;
-        let next = piece.next;
-        point = next;
-        i += 1;
+        point = piece.next;
     }
     Piece {
         end: at,
@@ -331,6 +301,7 @@ fn put_lines(
     let mut point = Point::Counts;
     let mut skip = from;
     let mut at = 0;
+    // Stays a while loop: it goes from point to point, and no index is counted.
     while !is_end(point) {
         if limit <= at {
             return at;
@@ -339,8 +310,7 @@ fn put_lines(
         let end = piece.end;
         at = put_rest(&room[0..end], skip, out, at, limit);
         skip = less(skip, end);
-        let next = piece.next;
-        point = next;
+        point = piece.next;
     }
     at
 }
@@ -364,15 +334,18 @@ fn put_part(
 // A part of an image's listing, from byte `from` on; it ends with the listing, with the buffer, or where it
 // has as many bytes as an image may have. The index is lent, and filled anew for each part. Refused as
 // filling is.
-pub fn list(image: &[u8], layout: Layout, from: usize, index: &mut [u32], out: &mut [u8]) -> Answer
+pub fn list(
+    image: &[u8],
+    layout: Layout,
+    from: usize,
+    index: &mut [u32],
+    out: &mut [u8],
+) -> Result<usize, Refusal>
     ensures answers { Answers (listing_part (part_room (length out.old)) from layout image.now
         (length index.old)) result out.old out.new }
     ensures index_after { index.new ≡ index_after layout image.now index.old }
 {
-    let answer = string_index::admit_indexed(image, layout, index);
-    let Admission::Laid(p) = answer else {
-        return Answer::Refused(admission::number_of(answer));
-    };
+    let p = string_index::admit_indexed(image, layout, index)?;
     let mut room = [0u8; ROOM];
-    Answer::Length(put_part(image, p, index, from, &mut room, out))
+    Ok(put_part(image, p, index, from, &mut room, out))
 }

@@ -24,30 +24,6 @@ field_row k h = (
       (both_0 (leb (table.row_of k).width 32) _ (both_1 (ltb k table.row_count) _ h)),
 )
 
--- a function without a large header: its body's moved offset b, and whether row k has too few bits for it
-pub record OffsetTested (mv : ℕ → ℕ) (f : Func) (k b : ℕ) (x : Bool) : Type 0 where
-  pub begin : b ≡ mv f.begin
-  pub small : f.large ≡ false
-  pub over : x ≡ beyond (table.row_of k) b
-
--- it has not: the moved info place i, and whether its row has
-pub record InfoTested (mv : ℕ → ℕ) (f : Func) (k b : ℕ) (x : Bool) (i : ℕ) (y : Bool) : Type 0 where
-  pub offset : OffsetTested mv f k b x
-  pub holds : x ≡ false
-  pub info : i ≡ mv f.info
-  pub over : y ≡ beyond table.legacy_info i
-
-module _ (mv : ℕ → ℕ) (f : Func) (k b : ℕ) (x : Bool) where
-  abbrev test : Field → Bool
-  test row = not (both (not f.large) (either (beyond row (mv f.begin)) (beyond table.legacy_info (mv f.info))))
-
-  pub fit_not : OffsetTested mv f k b x → x ≡ true → false ≡ test (table.row_of k)
-  fit_not te h = rw (te.small, ← te.begin, ← te.over, h)
-
-  pub fit_info : (i : ℕ) (y : Bool) → InfoTested mv f k b x i y → not y ≡ test (table.row_of k)
-  fit_info i y te =
-      rw (te.offset.small, ← te.offset.begin, ← te.offset.over, te.holds, ← te.info, ← te.over)
-
 -- ---- all functions
 
 module _ (l : Layout) (s : List ℕ) (mv : ℕ → ℕ) where

@@ -19,10 +19,7 @@ pub fn move_place(from: usize, to: usize, p: usize) -> usize
     requires { (p < 4294967296) × (to < 4294967296) }
     ensures { (result ≡ moved from to p) × (result < 8589934592) }
 {
-    if p < from {
-        return p;
-    }
-    p - from + to
+    if p < from { p } else { p - from + to }
 }
 
 // ---- refusal 12
@@ -41,10 +38,7 @@ fn offset_field(layout: Layout) -> usize
 {
     match layout {
         Layout::Modern => format::MODERN_OFFSET,
-        Layout::Legacy {
-            big_integers: _,
-            function_sources: _,
-        } => format::LEGACY_OFFSET,
+        Layout::Legacy { .. } => format::LEGACY_OFFSET,
     }
 }
 
@@ -54,13 +48,9 @@ fn does_fit(f: Function, offset: usize, from: usize, to: usize) -> bool
     ensures { result ≡ not
         (both (not f.large) (either (beyond (row_of offset) (moved from to f.begin)) (beyond legacy_info (moved from to f.info)))) }
 {
-    if f.large {
-        return true;
-    }
-    if is_beyond(offset, move_place(from, to, f.begin)) {
-        return false;
-    }
-    !is_beyond(format::LEGACY_INFO, move_place(from, to, f.info))
+    f.large
+        || !(is_beyond(offset, move_place(from, to, f.begin))
+            || is_beyond(format::LEGACY_INFO, move_place(from, to, f.info)))
 }
 
 // Whether every record without a large header can hold its moved places.
@@ -71,13 +61,11 @@ pub fn fields_fit(image: &[u8], p: Places, from: usize, to: usize) -> bool
 {
     let layout = p.layout;
     let offset = offset_field(layout);
-    let mut i = 0;
-    while i < p.functions {
+    for i in 0..p.functions {
         let f = function_table::function_at(image, layout, i);
         if !does_fit(f, offset, from, to) {
             return false;
         }
-        i += 1;
     }
     true
 }

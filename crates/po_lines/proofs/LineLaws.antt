@@ -1,19 +1,19 @@
 -- The lines of a file: where one ends, and what stands before its quoted text.
 use mathlib.Core.Path.{◌≡◌, refl, ap, sym, ◌∙◌}
-use mathlib.Core.Bool.{true, false}
+use mathlib.Core.Bool.{Bool, true, false}
 use mathlib.Core.Logic.{inl, inr}
 use mathlib.Core.List.{List, [], ◌∷◌, ◌++◌, map}
 use Prim.Native.Nat.{ℕ, suc, ◌+◌, ◌-◌, ◌≤◌, ◌<◌}
 use native.Mathlib.Nat.{add-zero, not-suc-le-zero}
-use native.Mathlib.Numerals.{add-one}
 use native.Mathlib.Omega.{arith}
-use borrow.Author.Tests.{eq-eqb, ne_eqb, le-leb, lt-leb, lt-ltb, le-ltb}
+use borrow.Author.Tests.{eq-eqb, ne_eqb, eqb-true, eqb-false, le-leb, lt-leb, lt-ltb, le-ltb}
 use lib.Dec.{leb, ltb, eqb}
 use lib.ListN.{length, get_or, take, drop, length-append, length-drop, drop_of_length-le}
-use lib.Seq.{drop-cons, drop-drop, take_all, split_at, get_or-drop, get_or-take, get_or-append-add, length-take-le}
+use lib.Seq.{drop-drop, take_all, split_at, get_or-drop, get_or-take, get_or-append-add, length-take-le}
 use Rattle.bits.specs.Choice.{pick}
-use Rattle.bits.proofs.TestLaws.{all_of, all_fails, below_or, both-none}
+use Rattle.bits.proofs.TestLaws.{all_of, all_fails, below_or}
 use Rattle.text.specs.Text.{line_feed}
+use Rattle.std.specs.List.{starts_with}
 use Rattle.po_lines.specs.Lines.{in_front, lines_of, last_of, is_ended}
 use Rattle.po_lines.specs.Kinds.{begins, is_printable, kind_of, line_of, read_lines}
 use Rattle.po_lines.specs.Taken.{FirstLow, IsLine, OutsideAt}
@@ -41,24 +41,19 @@ ended_none (c ∷ s) h = absurd (omega arith)
 
 -- ---- the first bytes of a line
 
-module _ (mark s : List ℕ) (i : ℕ) (h : i < length mark) (k : i < length s) where
-  pub begins-differ : (get_or s i 0 ≡ get_or mark i 0 → ⊥) → begins (drop i mark) (drop i s) ≡ false
-  unfolding begins
-  begins-differ n = rw (drop-cons mark i 0 h, drop-cons s i 0 k, ne_eqb _ _ n)
+-- the bytes of a mark are compared with those of the line, in the order of the call
+same_back : (a b : ℕ) → eqb a b ≡ eqb b a
+same_back a b = go (eqb a b) refl
+  where
+    go : (t : Bool) → eqb a b ≡ t → t ≡ eqb b a
+    go true e = sym (eq-eqb b a (sym (eqb-true a b e)))
+    go false e = sym (ne_eqb b a (λ q. eqb-false a b e (sym q)))
 
-  pub begins_more : get_or s i 0 ≡ get_or mark i 0 → begins (drop i mark) (drop i s) ≡ begins (drop (i + 1) mark) (drop (i + 1) s)
-  unfolding begins
-  begins_more e = rw (add-one, drop-cons mark i 0 h, drop-cons s i 0 k, eq-eqb _ _ e)
-
-pub begins_all : (mark s : List ℕ) (i : ℕ) → length mark ≤ i → begins (drop i mark) (drop i s) ≡ true
+pub begins_as : (mark s : List ℕ) → starts_with eqb s mark ≡ begins mark s
 unfolding begins
-begins_all mark s i h = rw (drop_of_length-le mark h)
-
-pub begins_short : (mark s : List ℕ) → length s < length mark → begins mark s ≡ false
-unfolding begins
-begins_short [] s h = absurd (not-suc-le-zero h)
-begins_short (m ∷ mark) [] h = refl
-begins_short (m ∷ mark) (b ∷ s) h = rw (begins_short mark s (omega arith)) (both-none (eqb b m))
+begins_as [] s = refl
+begins_as (m ∷ mark) [] = refl
+begins_as (m ∷ mark) (b ∷ s) = rw (same_back m b, ← begins_as mark s) refl
 
 -- ---- the part of a line behind its mark
 

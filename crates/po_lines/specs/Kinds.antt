@@ -1,13 +1,12 @@
 -- What a line is. 02, No. 1: "lines that are empty or begin with `#`; `msgid` then `msgstr`, each followed by one space and quoted text;
 -- after either, lines of quoted text alone that continue it"; "a raw byte below 32 within a line is outside the subset".
 -- docs/FORMAT.md: Translators' files.
-use Rattle.std.specs.Prelude.{◌≡◌, Bool, true, false, List, [], ◌∷◌, map, ℕ, ◌+◌, ◌≤◌, leb, eqb, length, get_or, drop}
+use Rattle.std.specs.Prelude.{◌≡◌, Option, Some, None, Bool, true, false, List, [], ◌∷◌, map, ℕ, ◌+◌, ◌≤◌, leb, eqb, length, get_or, drop}
 use Rattle.bits.specs.Choice.{pick, both, implies, all_below}
 use Rattle.text.specs.Text.{Wrote}
 use Rattle.po_text.specs.Marks.{quote_mark, msgid_mark, msgstr_mark}
 use Rattle.po_lines.specs.declared.Kind.{Kind}
 use Rattle.po_lines.specs.declared.Kind.TheVariants.{Blank, Msgid, Msgstr, More, Outside}
-use Rattle.po_lines.specs.declared.Put.{Put}
 use Rattle.po_lines.specs.declared.Quote.TheVariants.{Open}
 use Rattle.po_lines.specs.Lines.{lines_of}
 use Rattle.po_lines.specs.Quoted.{quote_end, is_closed, unescaped}
@@ -110,7 +109,12 @@ continues_value Outside = false
 
 -- ---- what a writer of the value of a line promises
 
-pub record PutLine (old : List ℕ) (at : ℕ) (line : List ℕ) (k : Kind) (r : Put) (new : List ℕ) : Type 0 where
-  pub wrote : Wrote old at (text_of k line) r.to new
-  pub few : r.to ≤ at + length line
-  pub closed : r.closed ≡ is_whole k line
+pub record PutLine (old : List ℕ) (at : ℕ) (line : List ℕ) (k : Kind) (to : ℕ) (new : List ℕ) : Type 0 where
+  pub wrote : Wrote old at (text_of k line) to new
+  pub few : to ≤ at + length line
+  pub closed : is_whole k line ≡ true
+
+-- so where its text, if it has any, is closed at its end
+abbrev pub PutLineAs : List ℕ → ℕ → List ℕ → Kind → Option ℕ → List ℕ → Type 0
+PutLineAs old at line k (Some to) new = PutLine old at line k to new
+PutLineAs old at line k None new = is_whole k line ≡ false

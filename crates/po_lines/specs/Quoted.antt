@@ -1,10 +1,9 @@
 -- Quoted text, one byte at a time from behind the opening quote on. 02, No. 1: "quoted text", "the escapes `\n`, `\t`, `\"`, `\\`".
 -- docs/FORMAT.md: Translators' files.
-use Rattle.std.specs.Prelude.{◌≡◌, Bool, true, false, List, [], ◌∷◌, ◌++◌, ℕ, ◌+◌, ◌≤◌, eqb, length}
+use Rattle.std.specs.Prelude.{◌≡◌, Option, Some, None, Bool, true, false, List, [], ◌∷◌, ◌++◌, ℕ, ◌+◌, ◌≤◌, eqb, length}
 use Rattle.bits.specs.Choice.{pick, either}
 use Rattle.text.specs.Text.{line_feed, Wrote}
 use Rattle.po_text.specs.Marks.{quote_mark, backslash, tab}
-use Rattle.po_lines.specs.declared.Put.{Put}
 use Rattle.po_lines.specs.declared.Step.{Step}
 use Rattle.po_lines.specs.declared.Quote.{Quote}
 use Rattle.po_lines.specs.declared.Quote.TheVariants.{Open, Escape, Closed, Wrong}
@@ -56,8 +55,13 @@ pub record Stepped (old : List ℕ) (at : ℕ) (q : Quote) (b : ℕ) (r : Step) 
   pub few : r.to ≤ at + 1
   pub next : r.quote ≡ quote_next q b
 
--- its value stands at a place of the buffer; it has no more bytes than the text
-pub record PutText (old : List ℕ) (at : ℕ) (text : List ℕ) (r : Put) (new : List ℕ) : Type 0 where
-  pub wrote : Wrote old at (unescaped Open text) r.to new
-  pub few : r.to ≤ at + length text
-  pub closed : r.closed ≡ is_closed (quote_end Open text)
+-- its value stands at a place of the buffer, up to `to`; it has no more bytes than the text
+pub record PutText (old : List ℕ) (at : ℕ) (text : List ℕ) (to : ℕ) (new : List ℕ) : Type 0 where
+  pub wrote : Wrote old at (unescaped Open text) to new
+  pub few : to ≤ at + length text
+  pub closed : is_closed (quote_end Open text) ≡ true
+
+-- so where the text is closed at its end
+abbrev pub PutTextAs : List ℕ → ℕ → List ℕ → Option ℕ → List ℕ → Type 0
+PutTextAs old at text (Some to) new = PutText old at text to new
+PutTextAs old at text None new = is_closed (quote_end Open text) ≡ false

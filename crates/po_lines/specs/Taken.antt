@@ -1,12 +1,8 @@
 -- What the reader of one line promises.
-use Rattle.std.specs.Prelude.{◌≡◌, true, false, ◌⊎◌, List, [], ◌∷◌, ℕ, ◌+◌, ◌-◌, ◌≤◌, ◌<◌, length, get_or, take, drop}
+use Rattle.std.specs.Prelude.{◌≡◌, true, false, ◌⊎◌, Option, Some, None, List, [], ◌∷◌, ℕ, ◌+◌, ◌-◌, ◌≤◌, ◌<◌, length, get_or, take, drop}
 use Rattle.text.specs.Text.{Wrote}
-use Rattle.po_lines.specs.declared.Ending.{Ending}
-use Rattle.po_lines.specs.declared.Ending.TheVariants.{Feed, Broken}
 use Rattle.po_lines.specs.declared.Kind.TheVariants.{Outside}
 use Rattle.po_lines.specs.declared.Took.{Took}
-use Rattle.po_lines.specs.declared.Taken.{Taken}
-use Rattle.po_lines.specs.declared.Taken.TheVariants.{Sound, Fault}
 use Rattle.po_lines.specs.Lines.{lines_of, is_ended}
 use Rattle.po_lines.specs.Kinds.{is_quoted, is_printable, Line, read_lines, opens_value}
 
@@ -28,9 +24,9 @@ pub record IsLine (s : List ℕ) (at end : ℕ) : Type 0 where
 abbrev pub OutsideAt : List ℕ → ℕ → Type 0
 OutsideAt s at = (is_ended s ≡ false) ⊎ ((l : Line) × (ls : List Line) × (read_lines (drop at s) ≡ l ∷ ls) × (l.kind ≡ Outside))
 
-abbrev pub EndsAt : List ℕ → ℕ → Ending → Type 0
-EndsAt s at (Feed end) = IsLine s at end
-EndsAt s at Broken = OutsideAt s at
+abbrev pub EndsAt : List ℕ → ℕ → Option ℕ → Type 0
+EndsAt s at (Some end) = IsLine s at end
+EndsAt s at None = OutsideAt s at
 
 -- the line at `at` was read: its text stands in the buffer from `to` on, where the text of a line takes no more bytes than the line
 pub record TookLine (s : List ℕ) (at : ℕ) (old : List ℕ) (to : ℕ) (r : Took) (new : List ℕ) : Type 0 where
@@ -44,6 +40,6 @@ pub record TookLine (s : List ℕ) (at : ℕ) (old : List ℕ) (to : ℕ) (r : T
   pub blank : is_quoted r.kind ≡ false → text ≡ []
   pub some : r.kind ≡ Outside → ⊥
 
-abbrev pub TakenAs : List ℕ → ℕ → List ℕ → ℕ → Taken → List ℕ → Type 0
-TakenAs s at old to (Sound r) new = TookLine s at old to r new
-TakenAs s at old to Fault new = OutsideAt s at
+abbrev pub TakenAs : List ℕ → ℕ → List ℕ → ℕ → Option Took → List ℕ → Type 0
+TakenAs s at old to (Some r) new = TookLine s at old to r new
+TakenAs s at old to None new = OutsideAt s at

@@ -4,8 +4,8 @@
 
 ghost use Rattle.std.specs.Prelude.{◌≡◌, ◌+◌, ◌≤◌, ◌<◌, length};
 ghost use Rattle.po_lines.specs.Lines.{is_ended};
-ghost use Rattle.po_lines.specs.Quoted.{is_escape, meant, quote_next, is_closed, Stepped, PutText};
-ghost use Rattle.po_lines.specs.Kinds.{mark_of, is_quoted, is_outside, begins, marked_as, behind_mark, PutLine};
+ghost use Rattle.po_lines.specs.Quoted.{is_escape, meant, quote_next, is_closed, Stepped, PutTextAs};
+ghost use Rattle.po_lines.specs.Kinds.{mark_of, is_quoted, is_outside, begins, marked_as, behind_mark, PutLineAs};
 ghost use Rattle.po_lines.specs.Taken.{FirstLow, IsLine, EndsAt, TakenAs};
 
 // What a line is.
@@ -37,16 +37,7 @@ const BACKSLASH: u8 = 92;
 fn is_escape(b: u8) -> bool
     ensures { result ≡ is_escape b }
 {
-    if b == 110 {
-        return true;
-    }
-    if b == 116 {
-        return true;
-    }
-    if b == QUOTE_MARK {
-        return true;
-    }
-    b == BACKSLASH
+    matches!(b, b'n' | b't' | QUOTE_MARK | BACKSLASH)
 }
 
 // Where quoted text stands behind an escape.
@@ -54,34 +45,28 @@ fn after_escape(b: u8) -> Quote
     ensures { result ≡ quote_next Quote.Escape b }
 {
     if is_escape(b) {
-        return Quote::Open;
+        Quote::Open
+    } else {
+        Quote::Wrong
     }
-    Quote::Wrong
 }
 
 // The byte that an escape stands for.
 fn meant(b: u8) -> u8
     ensures { result ≡ meant b }
 {
-    if b == 110 {
-        return 10;
+    match b {
+        b'n' => b'\n',
+        b't' => b'\t',
+        other => other,
     }
-    if b == 116 {
-        return 9;
-    }
-    b
 }
 
 // Whether the closing quote was the last byte.
 fn is_closed(quote: Quote) -> bool
     ensures { result ≡ is_closed quote }
 {
-    match quote {
-        Quote::Open => false,
-        Quote::Escape => false,
-        Quote::Closed => true,
-        Quote::Wrong => false,
-    }
+    matches!(quote, Quote::Closed)
 }
 
 // After one byte of quoted text: the place behind what is stored of its value, and where the text
@@ -136,32 +121,20 @@ fn take_byte(out: &mut [u8], at: usize, quote: Quote, b: u8) -> Step
     }
 }
 
-// A value that was stored: the place behind it, and whether its text was closed at the end.
-#[derive(Clone, Copy)]
-pub struct Put {
-    pub to: usize,
-    pub closed: bool,
-}
-
-// The value of quoted text from behind its opening quote on, stored from `at` on.
-fn put_unescaped(out: &mut [u8], at: usize, text: &[u8]) -> Put
+// The value of quoted text from behind its opening quote on, stored from `at` on: the place behind it,
+// if the text is closed at the end.
+fn put_unescaped(out: &mut [u8], at: usize, text: &[u8]) -> Option<usize>
     requires { at + length text.now ≤ length out.old }
-    ensures { PutText out.old at text.now result out.new }
+    ensures { PutTextAs out.old at text.now result out.new }
 {
     let mut to = at;
     let mut quote = Quote::Open;
-    let mut i = 0;
-    while i < text.len() {
-        let step = take_byte(out, to, quote, text[i]);
+    for b in text {
+        let step = take_byte(out, to, quote, *b);
         to = step.to;
-        let next = step.quote;
-        quote = next;
-        i += 1;
+        quote = step.quote;
     }
-    Put {
-        to,
-        closed: is_closed(quote),
-    }
+    if is_closed(quote) { Some(to) } else { None }
 }
 
 // ---- The kind of a line.
@@ -170,27 +143,14 @@ fn put_unescaped(out: &mut [u8], at: usize, text: &[u8]) -> Put
 fn begins(line: &[u8], mark: &[u8]) -> bool
     ensures { result ≡ begins mark.now line.now }
 {
-    if line.len() < mark.len() {
-        return false;
-    }
-    let mut i = 0;
-    while i < mark.len() {
-        if line[i] != mark[i] {
-            return false;
-        }
-        i += 1;
-    }
-    true
+    line.starts_with(mark)
 }
 
 // The kind of a line by how it begins.
 fn marked_as(line: &[u8]) -> Kind
     ensures { result ≡ marked_as line.now }
 {
-    if line.len() == 0 {
-        return Kind::Blank;
-    }
-    if begins(line, b"#") {
+    if line.is_empty() || begins(line, b"#") {
         return Kind::Blank;
     }
     if begins(line, b"msgid \"") {
@@ -210,36 +170,23 @@ fn mark_len(kind: Kind) -> usize
     ensures { result ≡ length (mark_of kind) }
 {
     match kind {
-        Kind::Blank => 0,
+        Kind::Blank | Kind::Outside => 0,
         Kind::Msgid => 7,
         Kind::Msgstr => 8,
         Kind::More => 1,
-        Kind::Outside => 0,
     }
 }
 
 fn is_quoted(kind: Kind) -> bool
     ensures { result ≡ is_quoted kind }
 {
-    match kind {
-        Kind::Blank => false,
-        Kind::Msgid => true,
-        Kind::Msgstr => true,
-        Kind::More => true,
-        Kind::Outside => false,
-    }
+    matches!(kind, Kind::Msgid | Kind::Msgstr | Kind::More)
 }
 
 fn is_outside(kind: Kind) -> bool
     ensures { result ≡ is_outside kind }
 {
-    match kind {
-        Kind::Blank => false,
-        Kind::Msgid => false,
-        Kind::Msgstr => false,
-        Kind::More => false,
-        Kind::Outside => true,
-    }
+    matches!(kind, Kind::Outside)
 }
 
 // What stands behind the opening quote of a line of a kind.
@@ -250,16 +197,14 @@ fn quoted(line: &[u8], kind: Kind) -> &[u8]
     &line[from..]
 }
 
-// The value of a line of a kind, stored from `at` on.
-fn put_line(out: &mut [u8], at: usize, line: &[u8], kind: Kind) -> Put
+// The value of a line of a kind, stored from `at` on: the place behind it, if its text, where it has
+// any, is closed at the end.
+fn put_line(out: &mut [u8], at: usize, line: &[u8], kind: Kind) -> Option<usize>
     requires { at + length line.now ≤ length out.old }
-    ensures { PutLine out.old at line.now kind result out.new }
+    ensures { PutLineAs out.old at line.now kind result out.new }
 {
     if !is_quoted(kind) {
-        return Put {
-            to: at,
-            closed: true,
-        };
+        return Some(at);
     }
     put_unescaped(out, at, quoted(line, kind))
 }
@@ -270,10 +215,7 @@ fn put_line(out: &mut [u8], at: usize, line: &[u8], kind: Kind) -> Put
 pub fn is_ended(file: &[u8]) -> bool
     ensures { result ≡ is_ended file.now }
 {
-    if file.len() == 0 {
-        return true;
-    }
-    file[file.len() - 1] == 10
+    file.is_empty() || file[file.len() - 1] == b'\n'
 }
 
 // The first place from `at` on with a byte below 32: in the subset a line feed.
@@ -281,37 +223,25 @@ fn first_low(file: &[u8], at: usize) -> usize
     requires { at ≤ length file.now }
     ensures { FirstLow file.now at result }
 {
-    let mut i = at;
-    while i < file.len() {
+    for i in at..file.len() {
         if file[i] < 32 {
             return i;
         }
-        i += 1;
     }
-    i
+    file.len()
 }
 
-// Where a line ends: the place of its line feed. Broken: another byte below 32 stands in it, or no
-// line feed behind it.
-#[derive(Clone, Copy)]
-pub enum Ending {
-    Feed(usize),
-    Broken,
-}
-
-// The end of the line that starts at `at`.
-fn line_end(file: &[u8], at: usize) -> Ending
+// The end of the line that starts at `at`: the place of its line feed. None where another byte below
+// 32 stands in it, or no line feed behind it.
+fn line_end(file: &[u8], at: usize) -> Option<usize>
     requires { at < length file.now }
     ensures { EndsAt file.now at result }
 {
     let end = first_low(file, at);
-    if file.len() <= end {
-        return Ending::Broken;
+    if file.len() <= end || file[end] != b'\n' {
+        return None;
     }
-    if file[end] != 10 {
-        return Ending::Broken;
-    }
-    Ending::Feed(end)
+    Some(end)
 }
 
 // A line that was read: what it is, the place behind its stored value, and that of the next line.
@@ -322,40 +252,29 @@ pub struct Took {
     pub next: usize,
 }
 
-#[derive(Clone, Copy)]
-pub enum Taken {
-    Sound(Took),
-    Fault,
-}
-
-// The line from `at` up to its line feed at `end`, its value stored from `to` on.
-fn take_ended(out: &mut [u8], to: usize, file: &[u8], at: usize, end: usize) -> Taken
+// The line from `at` up to its line feed at `end`, its value stored from `to` on. None where it is
+// outside the subset.
+fn take_ended(out: &mut [u8], to: usize, file: &[u8], at: usize, end: usize) -> Option<Took>
     requires { IsLine file.now at end × (to + length file.now ≤ at + length out.old) }
     ensures { TakenAs file.now at out.old to result out.new }
 {
     let kind = marked_as(&file[at..end]);
     if is_outside(kind) {
-        return Taken::Fault;
+        return None;
     }
-    let put = put_line(out, to, &file[at..end], kind);
-    if !put.closed {
-        return Taken::Fault;
-    }
-    Taken::Sound(Took {
+    let behind = put_line(out, to, &file[at..end], kind)?;
+    Some(Took {
         kind,
-        to: put.to,
+        to: behind,
         next: end + 1,
     })
 }
 
-// The line that starts at `at`, its value stored from `to` on.
-pub fn take_line(out: &mut [u8], to: usize, file: &[u8], at: usize) -> Taken
+// The line that starts at `at`, its value stored from `to` on. None where it is outside the subset.
+pub fn take_line(out: &mut [u8], to: usize, file: &[u8], at: usize) -> Option<Took>
     requires { (at < length file.now) × (to + length file.now ≤ at + length out.old) }
     ensures { TakenAs file.now at out.old to result out.new }
 {
-    let found = line_end(file, at);
-    let Ending::Feed(end) = found else {
-        return Taken::Fault;
-    };
+    let end = line_end(file, at)?;
     take_ended(out, to, file, at, end)
 }

@@ -7,6 +7,7 @@ use Prim.Native.Nat.{ℕ, zero, suc, ◌+◌, ◌/◌, ◌%◌, ◌<◌}
 use native.Mathlib.Nat.{not-suc-le-zero}
 use native.Mathlib.Omega.{arith}
 use lib.ListN.{length, get_or, length-map}
+use Rattle.std.specs.Prelude.{Option, Some, None}
 use Rattle.bits.specs.Choice.{pick, both}
 use Rattle.bits.proofs.TestLaws.{which, all_at, all_of, all_fails, both_1, both-none, below_or}
 use Rattle.bits.proofs.PassLaws.{all_same}
@@ -17,8 +18,6 @@ use Rattle.utf.specs.Utf8.{is_utf8, utf16}
 use Rattle.po_lines.specs.Lines.{is_ended}
 use Rattle.po_lines.specs.Kinds.{read_lines}
 use Rattle.po_pairs.specs.declared.Stand.TheVariants.{Between}
-use Rattle.po_pairs.specs.declared.Pairs.{Pairs}
-use Rattle.po_pairs.specs.declared.Pairs.TheVariants.{Read as ReadPairs, Outside}
 use Rattle.po_pairs.specs.Order.{stand_after, ends_well}
 use Rattle.po_pairs.specs.Pairs.{values_in, Pair, paired, unpaired, msgid_of, msgstr_of, is_new, all_new, different, id_of, in_subset}
 use Rattle.po_pairs.specs.Pairs.{outside, pairs, read_file}
@@ -100,7 +99,7 @@ module _ (text ends : List ℕ) (vs : List (List ℕ)) (g : Held text ends vs) w
       all_same (λ j. not (same (id_in text ends j) (id_in text ends i))) (λ j. not (same (get_or ids j []) (get_or ids i []))) i
       (λ j k. rw (same_id i h, same_id j (omega arith)))))
 
-pub no_pairs : {A : Type 0} (k : ℕ) → Outside ≡ ReadPairs k → A
+pub no_pairs : {A : Type 0} (k : ℕ) → None ≡ Some k → A
 no_pairs k e = absurd (let z : ◌≡◌ {A = ℕ} 0 1 = cc in omega arith)
 
 -- ---- what a file says, in the order of the tests
@@ -124,9 +123,9 @@ module _ (s : List ℕ) where
     unfolding read_file in_subset
     file_read = rw (u, e, w)
 
-    module _ (text ends work : List ℕ) (g : Held text ends (values_in s)) (n : ℕ) (c : n ≡ length (values_in s)) (r : Pairs)
+    module _ (text ends work : List ℕ) (g : Held text ends (values_in s)) (n : ℕ) (c : n ≡ length (values_in s)) (r : Option ℕ)
         (p : r ≡ pairs_or (all_new (id_in text ends) (n / 2)) (n / 2))
-        (k : r ≡ ReadPairs (n / 2) → ChainedPairs text ends (length ends) (n / 2) work) where
+        (k : r ≡ Some (n / 2) → ChainedPairs text ends (length ends) (n / 2) work) where
       pub file-answered : ReadAs (read_file s) r text ends work
       file-answered =
           let count : n / 2 ≡ length (paired (values_in s)) = rw c (sym (pairs_count (values_in s))) in
@@ -135,11 +134,11 @@ module _ (s : List ℕ) where
           rw file_read (go (different (map id_of (paired (values_in s)))) count (rw new at p) (rw count at k))
         where
           go : (d : Bool) → n / 2 ≡ length (paired (values_in s)) → r ≡ pairs_or d (n / 2)
-              → (r ≡ ReadPairs (length (paired (values_in s)))
+              → (r ≡ Some (length (paired (values_in s)))
               → ChainedPairs text ends (length ends) (length (paired (values_in s))) work)
               → ReadAs (pick d (pairs (paired (values_in s))) outside) r text ends work
           go true count e f =
-              let a : r ≡ ReadPairs (length (paired (values_in s))) = rw count at e in (a, pairs_held text ends (values_in s) g, f a)
+              let a : r ≡ Some (length (paired (values_in s))) = rw count at e in (a, pairs_held text ends (values_in s) g, f a)
           go false count e f = e
 
 -- the values of a file in the subset are pairs: nothing is lost where they are taken two by two

@@ -1,6 +1,6 @@
 -- The values of a file in lent room: one behind the other in a text, with the place where each ends.
 use Rattle.std.specs.Prelude.{◌≡◌, Bool, true, false, ◌⊎◌, List, [], ◌∷◌, ◌++◌, ℕ, suc, ◌+◌, ◌-◌, ◌*◌, ◌/◌, ◌%◌, ◌≤◌, ◌<◌, length}
-use Rattle.std.specs.Prelude.{get_or, set, drop}
+use Rattle.std.specs.Prelude.{get_or, set, drop, Option, Some, None}
 use Rattle.bits.specs.Choice.{pick}
 use Rattle.format.specs.Hash.{hash_of}
 use Rattle.utf.specs.Utf8.{utf16}
@@ -9,13 +9,8 @@ use Rattle.chains.specs.Chains.{Chained}
 use Rattle.po_lines.specs.declared.Kind.{Kind}
 use Rattle.po_lines.specs.Lines.{is_ended}
 use Rattle.po_lines.specs.Kinds.{Line, read_lines, opens_value, continues_value}
-use Rattle.po_pairs.specs.declared.Stand.{Stand}
 use Rattle.po_pairs.specs.declared.Stand.TheVariants.{Between}
 use Rattle.po_pairs.specs.declared.Reached.{Reached}
-use Rattle.po_pairs.specs.declared.Values.{Values}
-use Rattle.po_pairs.specs.declared.Values.TheVariants.{Held as HeldValues, Faulty}
-use Rattle.po_pairs.specs.declared.Pairs.{Pairs}
-use Rattle.po_pairs.specs.declared.Pairs.TheVariants.{Read as ReadPairs, Outside}
 use Rattle.po_pairs.specs.Order.{stand_after, ends_well, is_astray, in_value}
 use Rattle.po_pairs.specs.Pairs.{values_in, Pair, msgid_of, msgstr_of, Read, outside, pairs}
 
@@ -85,10 +80,10 @@ pub record Turned (s text ends : List ℕ) (p r : Reached) : Type 0 where
   pub onward : is_astray r.stand ≡ false → p.at < r.at
 
 -- after all
-abbrev pub HeldAs : List ℕ → List ℕ → List ℕ → Values → Type 0
-HeldAs s text ends (HeldValues n) =
+abbrev pub HeldAs : List ℕ → List ℕ → List ℕ → Option ℕ → Type 0
+HeldAs s text ends (Some n) =
     (ends_well (stand_after Between (read_lines s)) ≡ true) × (n ≡ length (values_in s)) × Held text ends (values_in s)
-HeldAs s text ends Faulty = Unread s
+HeldAs s text ends None = Unread s
 
 -- ---- pairs
 
@@ -112,11 +107,11 @@ abbrev pub ChainedPairs : List ℕ → List ℕ → ℕ → ℕ → List ℕ →
 ChainedPairs text ends m k w = Chained (λ q. true) (bucket_in text ends m) m k w
 
 -- k pairs, unless a msgid is given twice
-abbrev pub pairs_or : Bool → ℕ → Pairs
-pairs_or new k = pick new (ReadPairs k) Outside
+abbrev pub pairs_or : Bool → ℕ → Option ℕ
+pairs_or new k = pick new (Some k) None
 
 -- what the reader promises: the number of pairs, each in the lent room and in the chains; or that the file is outside the subset
-abbrev pub ReadAs : Read → Pairs → List ℕ → List ℕ → List ℕ → Type 0
-ReadAs outside r text ends w = r ≡ Outside
+abbrev pub ReadAs : Read → Option ℕ → List ℕ → List ℕ → List ℕ → Type 0
+ReadAs outside r text ends w = r ≡ None
 ReadAs (pairs ps) r text ends w =
-    (r ≡ ReadPairs (length ps)) × HeldPairs text ends ps × ChainedPairs text ends (length ends) (length ps) w
+    (r ≡ Some (length ps)) × HeldPairs text ends ps × ChainedPairs text ends (length ends) (length ps) w

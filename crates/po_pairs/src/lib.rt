@@ -11,7 +11,7 @@ ghost use Rattle.po_pairs.specs.Pairs.{is_new, all_new, read_file};
 ghost use Rattle.po_pairs.specs.Held.{ends_after, count_after, Roomy, ReadTo, Turned, HeldAs, bucket_in, ChainedPairs, ReadAs};
 ghost use Rattle.po_pairs.specs.Held.{AllWithin, id_in, pairs_or};
 
-use po_lines::{Kind, Taken};
+use po_lines::Kind;
 
 // Where the lines of a file stand: between two pairs, in a msgid or a msgstr that lines may continue,
 // or outside the subset.
@@ -29,52 +29,26 @@ pub enum Stand {
 fn follow(stand: Stand, kind: Kind) -> Stand
     ensures { result ≡ Order·follow stand kind }
 {
-    match stand {
-        Stand::Between => match kind {
-            Kind::Blank => Stand::Between,
-            Kind::Msgid => Stand::InId,
-            Kind::Msgstr => Stand::Astray,
-            Kind::More => Stand::Astray,
-            Kind::Outside => Stand::Astray,
-        },
-        Stand::InId => match kind {
-            Kind::Blank => Stand::Astray,
-            Kind::Msgid => Stand::Astray,
-            Kind::Msgstr => Stand::InStr,
-            Kind::More => Stand::InId,
-            Kind::Outside => Stand::Astray,
-        },
-        Stand::InStr => match kind {
-            Kind::Blank => Stand::Between,
-            Kind::Msgid => Stand::InId,
-            Kind::Msgstr => Stand::Astray,
-            Kind::More => Stand::InStr,
-            Kind::Outside => Stand::Astray,
-        },
-        Stand::Astray => Stand::Astray,
+    match (stand, kind) {
+        (Stand::Between | Stand::InStr, Kind::Blank) => Stand::Between,
+        (Stand::Between | Stand::InStr, Kind::Msgid) => Stand::InId,
+        (Stand::InId, Kind::More) => Stand::InId,
+        (Stand::InId, Kind::Msgstr) => Stand::InStr,
+        (Stand::InStr, Kind::More) => Stand::InStr,
+        _ => Stand::Astray,
     }
 }
 
 fn ends_well(stand: Stand) -> bool
     ensures { result ≡ ends_well stand }
 {
-    match stand {
-        Stand::Between => true,
-        Stand::InId => false,
-        Stand::InStr => true,
-        Stand::Astray => false,
-    }
+    matches!(stand, Stand::Between | Stand::InStr)
 }
 
 fn is_astray(stand: Stand) -> bool
     ensures { result ≡ is_astray stand }
 {
-    match stand {
-        Stand::Between => false,
-        Stand::InId => false,
-        Stand::InStr => false,
-        Stand::Astray => true,
-    }
+    matches!(stand, Stand::Astray)
 }
 
 // ---- Values.
@@ -97,12 +71,7 @@ fn put_end(ends: &mut [u32], n: usize, kind: Kind, to: usize) -> usize
     ensures { (result ≡ count_after n kind) × (ends.new ≡ ends_after ends.old n kind to) }
 {
     match kind {
-        Kind::Blank => n,
-        Kind::Msgid => {
-            ends[n] = to as u32;
-            n + 1
-        }
-        Kind::Msgstr => {
+        Kind::Msgid | Kind::Msgstr => {
             ends[n] = to as u32;
             n + 1
         }
@@ -110,7 +79,7 @@ fn put_end(ends: &mut [u32], n: usize, kind: Kind, to: usize) -> usize
             ends[n - 1] = to as u32;
             n
         }
-        Kind::Outside => n,
+        Kind::Blank | Kind::Outside => n,
     }
 }
 
@@ -120,9 +89,7 @@ fn astray(p: Reached) -> Reached
 {
     Reached {
         stand: Stand::Astray,
-        values: p.values,
-        to: p.to,
-        at: p.at,
+        ..p
     }
 }
 
@@ -131,17 +98,14 @@ fn take_turn(text: &mut [u8], ends: &mut [u32], file: &[u8], p: Reached) -> Reac
     requires { Roomy file.now text.old ends.old × ReadTo file.now text.old ends.old p × (p.at < length file.now) }
     ensures { Turned file.now text.new ends.new p result }
 {
-    let taken = po_lines::take_line(text, p.to, file, p.at);
-    let Taken::Sound(line) = taken else {
+    let Some(line) = po_lines::take_line(text, p.to, file, p.at) else {
         return astray(p);
     };
-    let old = p.stand;
-    let kind = line.kind;
-    let stand = follow(old, kind);
+    let stand = follow(p.stand, line.kind);
     if is_astray(stand) {
         return astray(p);
     }
-    let values = put_end(ends, p.values, kind, line.to);
+    let values = put_end(ends, p.values, line.kind, line.to);
     Reached {
         stand,
         values,
@@ -150,15 +114,9 @@ fn take_turn(text: &mut [u8], ends: &mut [u32], file: &[u8], p: Reached) -> Reac
     }
 }
 
-// How many values were read.
-#[derive(Clone, Copy)]
-pub enum Values {
-    Held(usize),
-    Faulty,
-}
-
-// The values of a file, one behind the other in `text`, and where each ends.
-fn read_values(file: &[u8], text: &mut [u8], ends: &mut [u32]) -> Values
+// The values of a file, one behind the other in `text`, and where each ends: how many. None where the
+// lines are outside the subset.
+fn read_values(file: &[u8], text: &mut [u8], ends: &mut [u32]) -> Option<usize>
     requires { Roomy file.now text.old ends.old }
     ensures { HeldAs file.now text.new ends.new result }
 {
@@ -168,19 +126,18 @@ fn read_values(file: &[u8], text: &mut [u8], ends: &mut [u32]) -> Values
         to: 0,
         at: 0,
     };
+    // Stays a while loop: it goes on by as many bytes as a line has, and no index is counted.
     while p.at < file.len() {
-        let next = take_turn(text, ends, file, p);
-        p = next;
-        let stand = p.stand;
-        if is_astray(stand) {
-            return Values::Faulty;
+        p = take_turn(text, ends, file, p);
+        if is_astray(p.stand) {
+            return None;
         }
     }
-    let stand = p.stand;
-    if ends_well(stand) {
-        return Values::Held(p.values);
+    if ends_well(p.stand) {
+        Some(p.values)
+    } else {
+        None
     }
-    Values::Faulty
 }
 
 // ---- Pairs.
@@ -193,10 +150,7 @@ fn same_values(text: &[u8], ends: &[u32], i: usize, j: usize) -> bool
 {
     let a = string_edits::value_at(text, ends, i);
     let b = string_edits::value_at(text, ends, j);
-    if a.len() != b.len() {
-        return false;
-    }
-    footer::same_bytes(a, b)
+    a.len() == b.len() && footer::same_bytes(a, b)
 }
 
 // The bucket, of `m`, of msgid `q`.
@@ -215,6 +169,7 @@ fn is_new(text: &[u8], ends: &[u32], work: &[u32], m: usize, q: usize, bucket: u
     ensures { result ≡ is_new (id_in text.now ends.now) q }
 {
     let mut c = chains::word_at(work, bucket);
+    // Stays a while loop: it follows a chain, and no index is counted.
     while 0 < c {
         let j = c - 1;
         if same_values(text, ends, j + j, q + q) {
@@ -233,56 +188,43 @@ fn enter_all(text: &[u8], ends: &[u32], work: &mut [u32], m: usize, pairs: usize
     ensures value { result ≡ all_new (id_in text.now ends.now) pairs }
     ensures chained_pairs_2 { result ≡ true → ChainedPairs text.now ends.now m pairs work.new }
 {
-    let mut q = 0;
-    while q < pairs {
+    for q in 0..pairs {
         let bucket = bucket_of(text, ends, m, q);
         if !is_new(text, ends, work, m, q, bucket) {
             return false;
         }
         chains::enter(work, m, q, bucket);
-        q += 1;
     }
     true
 }
 
-// How many pairs were read, or that the file is outside the subset.
-#[derive(Clone, Copy)]
-pub enum Pairs {
-    Read(usize),
-    Outside,
-}
-
-// The pairs of values that stand in a text, entered into chains with a bucket for each word of `ends`,
-// unless a msgid is given twice.
-fn pair_up(text: &[u8], ends: &[u32], work: &mut [u32], values: usize) -> Pairs
+// The pairs of values that stand in a text, entered into chains with a bucket for each word of `ends`:
+// how many. None where a msgid is given twice.
+fn pair_up(text: &[u8], ends: &[u32], work: &mut [u32], values: usize) -> Option<usize>
     requires all_within { AllWithin text.now ends.now values × (values ≤ length ends.now) × (length ends.now < 2147483648) }
     requires ends_nonzero { (0 < length ends.now) × (length ends.now + length ends.now ≤ length work.old) }
     ensures value { result ≡ pairs_or (all_new (id_in text.now ends.now) (values / 2)) (values / 2) }
-    ensures chained_pairs { result ≡ Pairs.Read (values / 2)
+    ensures chained_pairs { result ≡ Some (values / 2)
         → ChainedPairs text.now ends.now (length ends.now) (values / 2) work.new }
 {
     chains::clear(work, 0, ends.len());
     if enter_all(text, ends, work, ends.len(), values / 2) {
-        return Pairs::Read(values / 2);
+        Some(values / 2)
+    } else {
+        None
     }
-    Pairs::Outside
 }
 
 // The pairs of a file: msgid, msgstr, msgid, msgstr, .. one behind the other in `text`, where each
 // ends in `ends`, and all of them in chains by their msgids, with a bucket for each word of `ends`.
-pub fn read_pairs(file: &[u8], text: &mut [u8], ends: &mut [u32], work: &mut [u32]) -> Pairs
+// Answers how many pairs there are. None where the file is outside the subset.
+pub fn read_pairs(file: &[u8], text: &mut [u8], ends: &mut [u32], work: &mut [u32]) -> Option<usize>
     requires { Roomy file.now text.old ends.old × (length ends.old + length ends.old ≤ length work.old) }
     ensures { ReadAs (read_file file.now) result text.new ends.new work.new }
 {
-    if !utf::is_utf8(file) {
-        return Pairs::Outside;
+    if !utf::is_utf8(file) || !po_lines::is_ended(file) {
+        return None;
     }
-    if !po_lines::is_ended(file) {
-        return Pairs::Outside;
-    }
-    let found = read_values(file, text, ends);
-    let Values::Held(values) = found else {
-        return Pairs::Outside;
-    };
+    let values = read_values(file, text, ends)?;
     pair_up(text, ends, work, values)
 }

@@ -5,18 +5,20 @@ use mathlib.Core.Logic.{◌⊎◌, inl, inr}
 use mathlib.Core.List.{List, [], ◌∷◌, ◌++◌}
 use Prim.Native.Nat.{ℕ, ◌+◌, ◌≤◌, ◌<◌}
 use native.Mathlib.Omega.{arith}
-use borrow.Author.Tests.{ltb-true, lt-ltb, le-ltb, le-leb, lt-leb}
-use lib.Dec.{ltb}
+use borrow.Author.Tests.{eq-eqb, ne_eqb, ltb-true, lt-ltb, le-ltb, le-leb, lt-leb}
+use lib.Dec.{ltb, eqb}
 use lib.ListN.{length, length-append}
 use lib.Seq.{sets}
 use Rattle.bits.specs.Choice.{both}
-use Rattle.bits.proofs.TestLaws.{both_0, both_1}
+use Rattle.bits.proofs.TestLaws.{both_0, both_1, below_or}
 use Rattle.bits.proofs.WriteLaws.{sets_append}
 use Rattle.text.specs.Text.{Wrote}
 use Rattle.utf.specs.Utf16.{bytes_of_point, is_high, is_low, point_of, is_utf16_from, is_utf16, utf8_of_from, utf8_of}
 use Rattle.po_text.specs.Written.{can_write, writable, escaped}
 use Rattle.po_text.proofs.EscapeLaws.{escaped_append}
-use Rattle.po_strings.specs.Texts.{is_held, no_point, FirstPoint}
+use Rattle.po_strings.specs.declared.Text.{Text}
+use Rattle.po_strings.specs.Texts.{is_held, units_left, no_point, FirstPoint}
+use Rattle.po_strings.proofs.UnitLaws.{left_end}
 
 -- ---- which units are surrogates
 
@@ -84,6 +86,19 @@ module _ (u : ℕ) (us : List ℕ) where
             bytes = λ z. rw (e, is-high u h g);
             written = rw (e, can u (omega arith), can v (omega arith), can (point_of u v) (omega arith));
           }
+
+-- ---- no code point: at the end, or where a surrogate stands alone
+
+pub none_valid : (us left : List ℕ) → FirstPoint us left no_point → is_utf16 us ≡ false
+none_valid us left f = rw (le-ltb no_point no_point (omega arith)) at f.valid
+
+module _ (s : List ℕ) (t : Text) (i : ℕ) (none : (t.count ≤ i) ⊎ (is_utf16 (units_left s t i) ≡ false)) where
+  pub valid_end : is_utf16 (units_left s t i) ≡ true → units_left s t i ≡ []
+  valid_end v = go none
+    where
+      go : (t.count ≤ i) ⊎ (is_utf16 (units_left s t i) ≡ false) → units_left s t i ≡ []
+      go (inl h) = left_end s t i h
+      go (inr h) = absurd (let z : ◌≡◌ {A = Bool} false true = sym h ∙ v in let y : ◌≡◌ {A = ℕ} 0 1 = cc in omega arith)
 
 -- ---- a turn of the loops over code points; c is the first one of `us`, and `left` is behind it
 
@@ -153,3 +168,19 @@ held_end us z e h = rw e at h
 pub escaped_end : (us : List ℕ) → us ≡ [] → escaped (utf8_of us) ≡ []
 unfolding utf8_of_from escaped
 escaped_end us e = rw e
+
+-- where no code point follows, a text is judged by whether it ends there
+pub judged_end : (s : List ℕ) (t : Text) (i : ℕ) (z : Bool) → (t.count ≤ i) ⊎ (is_utf16 (units_left s t i) ≡ false)
+    → i ≤ t.count → both (is_utf16 (units_left s t i)) (writable (units_left s t i)) ≡ z → eqb i t.count ≡ z
+judged_end s t i z none b e = go none
+  where
+    at_end : t.count ≤ i → eqb i t.count ≡ z
+    at_end h = eq-eqb i t.count (omega arith) ∙ held_end (units_left s t i) z (left_end s t i h) e
+
+    go : (t.count ≤ i) ⊎ (is_utf16 (units_left s t i) ≡ false) → eqb i t.count ≡ z
+    go (inl h) = at_end h
+    go (inr h) =
+        elim (below_or i t.count) [
+          | inl l ↦ ne_eqb i t.count (λ k. omega arith) ∙ (rw h at e)
+          | inr g ↦ at_end g
+        ]

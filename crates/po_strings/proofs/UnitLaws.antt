@@ -9,7 +9,6 @@ use borrow.Author.Tests.{eq-eqb, ne_eqb}
 use lib.Dec.{eqb}
 use lib.ListN.{length}
 use Rattle.bits.specs.Choice.{both}
-use Rattle.format.specs.Hash.{hash_step, hash_from, hash_of}
 use Rattle.footer.specs.Footer.{same}
 use Rattle.image.specs.Strings.{unit_size}
 use Rattle.string_walk.specs.Units.{unit_at}
@@ -37,21 +36,6 @@ module _ (s : List ℕ) (t : Text) where
           → t.start + i * unit_size w + unit_size w ≤ length s
       go true h k = omega arith
       go false h k = omega arith
-
-  -- ---- hashed
-
-  pub hash_start : hash_from 0 (units_left s t 0) ≡ hash_of (units_in s t)
-  unfolding hash_of
-  hash_start = rw left_all
-
-  pub hash_turn : (h i x : ℕ) → i < t.count → hash_from h (units_left s t i) ≡ x
-      → hash_from (hash_step h (unit_at s t.start t.wide i)) (units_left s t (i + 1)) ≡ x
-  unfolding hash_from
-  hash_turn h i x k e = rw (left_next i k) at e
-
-  pub hash_end : (h i x : ℕ) → t.count ≤ i → hash_from h (units_left s t i) ≡ x → h ≡ x
-  unfolding hash_from
-  hash_end h i x k e = rw (left_end i k) at e
 
 -- ---- compared
 

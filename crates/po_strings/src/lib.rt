@@ -2,15 +2,14 @@
 // which are judged, counted and written as a translators' file has them (02, No. 1).
 #![tactic(auto)]
 
-ghost use Rattle.std.specs.Prelude.{◌≡◌, true, ◌+◌, ◌*◌, ◌≤◌, ◌<◌, ltb, length};
-ghost use Rattle.bits.specs.Choice.{both};
+ghost use Rattle.std.specs.Prelude.{◌≡◌, true, ◌+◌, ◌*◌, ◌≤◌, ◌<◌, length};
 ghost use Rattle.format.specs.Hash.{hash_of};
 ghost use Rattle.footer.specs.Footer.{same};
 ghost use Rattle.text.specs.Text.{Wrote};
 ghost use Rattle.utf.specs.Utf16.{is_utf16, utf8_of};
-ghost use Rattle.po_text.specs.Written.{can_write, escaped};
+ghost use Rattle.po_text.specs.Written.{escaped};
 ghost use Rattle.string_walk.specs.Units.{unit_at};
-ghost use Rattle.po_strings.specs.Texts.{is_held, text_of, Inside, units_in, units_left, no_point, FirstPoint};
+ghost use Rattle.po_strings.specs.Texts.{is_held, text_of, Inside, units_in, NextPoint};
 
 use string_walk::StringRecord;
 
@@ -33,14 +32,12 @@ pub fn text_of(string: StringRecord) -> Text
     }
 }
 
-// A code point of a text, or `NO_POINT` for a surrogate that stands alone, and the unit behind it.
+// A code point of a text, and the unit behind it.
 #[derive(Clone, Copy)]
 struct Point {
     value: u64,
     next: usize,
 }
-
-const NO_POINT: u64 = 0x110000;
 
 // Unit `i` of a text.
 fn unit_of(image: &[u8], t: Text, i: usize) -> u64
@@ -55,13 +52,7 @@ pub fn hash_units(image: &[u8], t: Text) -> u32
     requires { Inside image.now t }
     ensures { result ≡ hash_of (units_in image.now t) }
 {
-    let mut h: u32 = 0;
-    let mut i = 0;
-    while i < t.count {
-        h = utf::hash_step(h, unit_of(image, t, i) as u32);
-        i += 1;
-    }
-    h
+    string_find::hash_units(image, t.start, t.wide, t.count)
 }
 
 // Whether two texts have the same units, whatever their widths.
@@ -72,80 +63,53 @@ pub fn have_same_units(image: &[u8], a: Text, b: Text) -> bool
     if a.count != b.count {
         return false;
     }
-    let mut i = 0;
-    while i < a.count {
+    for i in 0..a.count {
         if unit_of(image, a, i) != unit_of(image, b, i) {
             return false;
         }
-        i += 1;
     }
     true
 }
 
-// The code point that starts with high surrogate `high`, which is unit `i`.
-fn paired(image: &[u8], t: Text, i: usize, high: u64) -> Point
+// The code point that starts with high surrogate `high`, which is unit `i`. None where it stands alone.
+fn paired(image: &[u8], t: Text, i: usize, high: u64) -> Option<Point>
     requires inside { Inside image.now t × (i < t.count) }
     requires high_value { (high ≡ unit_at image.now t.start t.wide i) × (55296 ≤ high) × (high < 56320) }
-    ensures { FirstPoint (units_left image.now t i) (units_left image.now t result.next) result.value
-        × (i < result.next) × (result.next ≤ t.count) }
+    ensures { NextPoint image.now t i result }
 {
     let next = i + 1;
     if next == t.count {
-        return Point {
-            value: NO_POINT,
-            next,
-        };
+        return None;
     }
     let low = unit_of(image, t, next);
-    if low < 0xDC00 {
-        return Point {
-            value: NO_POINT,
-            next,
-        };
+    if low < 0xDC00 || 0xE000 <= low {
+        return None;
     }
-    if 0xE000 <= low {
-        return Point {
-            value: NO_POINT,
-            next,
-        };
-    }
-    Point {
+    Some(Point {
         value: 0x10000 + (high - 0xD800) * 0x400 + (low - 0xDC00),
         next: next + 1,
-    }
+    })
 }
 
-// The code point that starts with unit `i`.
-fn next_point(image: &[u8], t: Text, i: usize) -> Point
-    requires { Inside image.now t × (i < t.count) }
-    ensures { FirstPoint (units_left image.now t i) (units_left image.now t result.next) result.value
-        × (i < result.next) × (result.next ≤ t.count) }
+// The code point that starts with unit `i`. None at the end, and where a surrogate stands alone.
+fn next_point(image: &[u8], t: Text, i: usize) -> Option<Point>
+    requires { Inside image.now t × (i ≤ t.count) }
+    ensures { NextPoint image.now t i result }
 {
+    if i == t.count {
+        return None;
+    }
     let unit = unit_of(image, t, i);
-    let next = i + 1;
-    if unit < 0xD800 {
-        return Point { value: unit, next };
+    if unit < 0xD800 || 0xE000 <= unit {
+        return Some(Point {
+            value: unit,
+            next: i + 1,
+        });
     }
     if unit < 0xDC00 {
         return paired(image, t, i, unit);
     }
-    if unit < 0xE000 {
-        return Point {
-            value: NO_POINT,
-            next,
-        };
-    }
-    Point { value: unit, next }
-}
-
-// Whether there is a code point, which can be written.
-fn is_good(value: u64) -> bool
-    ensures { result ≡ both (ltb value no_point) (can_write value) }
-{
-    if NO_POINT <= value {
-        return false;
-    }
-    po_text::can_write(value)
+    None
 }
 
 // Whether a text is a value that a file has.
@@ -157,14 +121,14 @@ pub fn is_held(image: &[u8], t: Text) -> bool
         return false;
     }
     let mut i = 0;
-    while i < t.count {
-        let point = next_point(image, t, i);
-        if !is_good(point.value) {
+    // Stays a while loop, as those below: a code point has one unit or two.
+    while let Some(point) = next_point(image, t, i) {
+        if !po_text::can_write(point.value) {
             return false;
         }
         i = point.next;
     }
-    true
+    i == t.count
 }
 
 // How many bytes a text is written with.
@@ -174,8 +138,7 @@ pub fn written_length(image: &[u8], t: Text) -> usize
 {
     let mut n = 0;
     let mut i = 0;
-    while i < t.count {
-        let point = next_point(image, t, i);
+    while let Some(point) = next_point(image, t, i) {
         n += po_text::point_length(point.value);
         i = point.next;
     }
@@ -190,8 +153,7 @@ pub fn put_units(out: &mut [u8], at: usize, image: &[u8], t: Text) -> usize
 {
     let mut to = at;
     let mut i = 0;
-    while i < t.count {
-        let point = next_point(image, t, i);
+    while let Some(point) = next_point(image, t, i) {
         to = po_text::put_point(out, to, point.value);
         i = point.next;
     }

@@ -1,9 +1,9 @@
--- The pair of some units: the last that fits. A string's units are hashed one by one, and its pair is found by the chain of their bucket.
+-- The pair of some units: the last that fits. A string's pair is found by the chain of the bucket of its units.
 use mathlib.Core.Path.{◌≡◌, refl, ap, sym, ◌∙◌}
 use mathlib.Core.Bool.{Bool, true, false, not}
 use mathlib.Core.Logic.{◌⊎◌, inl, inr, ◌≢◌}
 use mathlib.Core.List.{List}
-use Prim.Native.Nat.{ℕ, zero, suc, ◌+◌, ◌-◌, ◌*◌, ◌%◌, ◌≤◌, ◌<◌}
+use Prim.Native.Nat.{ℕ, zero, suc, ◌%◌, ◌≤◌, ◌<◌}
 use native.Mathlib.Omega.{arith}
 use borrow.Author.Tests.{lt-ltb, le-ltb, ne_eqb, eq-eqb, not-true, not-false}
 use lib.Dec.{ltb, eqb}
@@ -11,17 +11,16 @@ use lib.ListN.{length}
 use Rattle.bits.specs.Choice.{both, implies}
 use Rattle.bits.proofs.TestLaws.{which, below, below_or, both_1}
 use Rattle.format.specs.declared.Layout.{Layout}
-use Rattle.format.specs.Hash.{hash_step, hash_from, hash_of}
+use Rattle.format.specs.Hash.{hash_of}
 use Rattle.footer.specs.Footer.{same}
 use Rattle.image.specs.Kinds.{is_identifier}
-use Rattle.image.specs.Strings.{unit_size, string_of, units_of}
+use Rattle.image.specs.Strings.{string_of, units_of}
 use Rattle.utf.specs.Utf8.{utf16}
 use Rattle.sections.specs.declared.Places.{Places}
 use Rattle.sections.specs.Places.{Placed}
 use Rattle.string_walk.specs.declared.StringRecord.{StringRecord}
 use Rattle.string_walk.specs.Places.{Stands}
 use Rattle.string_walk.specs.Records.{is_ranked}
-use Rattle.string_walk.specs.Units.{unit_at}
 use Rattle.string_walk.proofs.RankLaws.{ranked_flag}
 use Rattle.string_find.specs.Find.{units_at}
 use Rattle.footer.proofs.SameLaws.{same-is}
@@ -31,31 +30,7 @@ use Rattle.chains.proofs.WalkLaws.{Walked, walk_from, walk_end, walk_lower, walk
 use Rattle.po_targets.specs.Targets.{applied, fits, pair_for, target_of}
 use Rattle.po_targets.specs.Marks.{bucket_of}
 
--- ---- units hashed one by one, where they stand
-
-module _ (s : List ℕ) (start : ℕ) (wide : Bool) (n : ℕ) where
-  pub hash_start : hash_from 0 (units_at s start wide 0 (n - 0)) ≡ hash_of (units_at s start wide 0 n)
-  unfolding hash_of
-  hash_start = let k : n - 0 ≡ n = omega arith in rw k
-
-  module _ (i h x : ℕ) where
-    pub hash_next : (g u : ℕ) → i < n → u ≡ unit_at s start wide i → g ≡ hash_step h u
-        → hash_from h (units_at s start wide i (n - i)) ≡ x
-        → hash_from g (units_at s start wide (i + 1) (n - (i + 1))) ≡ x
-    unfolding hash_from units_at
-    hash_next g u l e f r =
-        let k : n - i ≡ suc (n - (i + 1)) = omega arith in
-        let j : suc i ≡ i + 1 = omega arith in
-        rw (f, e) (rw (k, j) at r)
-
-    pub hash_end : n ≤ i → hash_from h (units_at s start wide i (n - i)) ≡ x → h ≡ x
-    unfolding hash_from units_at
-    hash_end l r = let k : n - i ≡ 0 = omega arith in rw k at r
-
--- room for unit i of n
-pub room_unit : (w : Bool) (start n i m : ℕ) → i < n → start + n * unit_size w ≤ m → start + i * unit_size w + unit_size w ≤ m
-room_unit true start n i m h r = omega arith
-room_unit false start n i m h r = omega arith
+-- ---- the bucket that a string's hash names
 
 -- the bucket of a string
 pub string_bucket : (p : Places) (s : List ℕ) → Placed p s → (i : ℕ) (r : StringRecord) → Stands p s i r → (m h : ℕ)

@@ -1,7 +1,7 @@
 -- The strings that the pairs of a translators' file go to. 02, No. 1: "Each other msgid is looked up in the image as given, identifiers
 -- left out, and every plain string with that value gets the msgstr". Pairs are told by their number: msgids and msgstrs in UTF-8.
 -- docs/FORMAT.md: Translators' files.
-use Rattle.std.specs.Prelude.{Bool, not, List, ℕ, zero, suc, ltb, length}
+use Rattle.std.specs.Prelude.{Option, Some, None, Bool, not, List, ℕ, zero, suc, ltb, length}
 use Rattle.bits.specs.Choice.{pick, both, implies, all_below}
 use Rattle.format.specs.declared.Layout.{Layout}
 use Rattle.footer.specs.Footer.{same}
@@ -26,6 +26,11 @@ pair_for ids strs units (suc k) = pick (fits ids strs units k) (suc k) (pair_for
 -- the pair that string i gets its msgstr from, counted so: "identifiers left out"
 unfoldable pub target_of : Layout → List ℕ → (ℕ → List ℕ) → (ℕ → List ℕ) → ℕ → ℕ → ℕ
 target_of l s ids strs k i = pick (is_identifier l s i) 0 (pair_for ids strs (units_of (string_of l s i)) k)
+
+-- a pair, counted so
+abbrev pub counted : Option ℕ → ℕ
+counted (Some q) = suc q
+counted None = 0
 
 -- string i is plain and has these units
 abbrev pub is_plain : Layout → List ℕ → List ℕ → ℕ → Bool

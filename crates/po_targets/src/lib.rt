@@ -3,15 +3,13 @@
 // each pair that is to be applied must be found.
 #![tactic(auto)]
 
-ghost use Rattle.std.specs.Prelude.{◌≡◌, not, ℕ, suc, ◌+◌, ◌*◌, ◌≤◌, ◌<◌, eqb, length, get_or};
+ghost use Rattle.std.specs.Prelude.{◌≡◌, not, ℕ, suc, ◌+◌, ◌≤◌, ◌<◌, eqb, length, get_or};
 ghost use Rattle.bits.specs.Choice.{implies};
-ghost use Rattle.format.specs.Hash.{hash_of};
-ghost use Rattle.image.specs.Strings.{unit_size, units_of, string_of};
+ghost use Rattle.image.specs.Strings.{units_of, string_of};
 ghost use Rattle.sections.specs.Places.{Placed, Laid};
 ghost use Rattle.string_walk.specs.Places.{Stands};
 ghost use Rattle.string_edits.specs.Lists.{Within};
-ghost use Rattle.string_find.specs.Find.{units_at};
-ghost use Rattle.po_targets.specs.Targets.{applied, fits, pair_for, target_of, all_found};
+ghost use Rattle.po_targets.specs.Targets.{applied, fits, pair_for, target_of, counted, all_found};
 ghost use Rattle.po_targets.specs.Marks.{id_in, str_in, Different, Entered, all_flagged, mark_of, Looked};
 
 use sections::Places;
@@ -19,32 +17,14 @@ use string_walk::StringRecord;
 
 // ---- one string
 
-// The hash of the `count` units of a string whose bytes start at `start`.
-fn hash_units(image: &[u8], start: usize, wide: bool, count: usize) -> u32
-    requires { start + count * unit_size wide ≤ length image.now }
-    ensures { result ≡ hash_of (units_at image.now start wide 0 count) }
-{
-    let mut h: u32 = 0;
-    let mut i = 0;
-    while i < count {
-        h = utf::hash_step(h, string_walk::unit_at(image, start, wide, i) as u32);
-        i += 1;
-    }
-    h
-}
-
 // Whether pair `q` is applied: neither its msgid nor its msgstr is empty.
 fn is_applied(text: &[u8], ends: &[u32], q: usize) -> bool
     requires { Within text.now ends.now (q + q) × Within text.now ends.now (suc (q + q)) × (q < 536870913) }
     ensures { result ≡ applied (id_in text.now ends.now q)
         (str_in text.now ends.now q) }
 {
-    let id = string_edits::value_at(text, ends, q + q);
-    if id.len() == 0 {
-        return false;
-    }
-    let str = string_edits::value_at(text, ends, q + q + 1);
-    str.len() != 0
+    !string_edits::value_at(text, ends, q + q).is_empty()
+        && !string_edits::value_at(text, ends, q + q + 1).is_empty()
 }
 
 // Whether pair `q` is applied and has the units of string `id`.
@@ -70,8 +50,8 @@ fn is_pair(
     string_find::has_units(image, p, id, string, value, count)
 }
 
-// One more than the pair that is applied and has the units of string `id`; 0 where there is none. The
-// `pairs` pairs are in the chains of `m` buckets.
+// The pair that is applied and has the units of string `id`, if there is one. The `pairs` pairs are in
+// the chains of `m` buckets.
 fn find_pair(
     image: &[u8],
     p: Places,
@@ -82,22 +62,23 @@ fn find_pair(
     pairs: usize,
     work: &[u32],
     m: usize,
-) -> usize
+) -> Option<usize>
     requires placed { Placed p image.now × Stands p image.now id string }
     requires entered { Entered text.now ends.now pairs m work.now × (m + m ≤ length work.now) }
-    ensures { (result ≡ pair_for (id_in text.now ends.now) (str_in text.now ends.now)
-        (units_of (string_of p.layout image.now id)) pairs) × (result ≤ pairs) }
+    ensures { (counted result ≡ pair_for (id_in text.now ends.now) (str_in text.now ends.now)
+        (units_of (string_of p.layout image.now id)) pairs) × (counted result ≤ pairs) }
 {
     let place = string.place;
-    let bucket = hash_units(image, string.start, place.wide, place.count) as usize % m;
+    let bucket = string_find::hash_units(image, string.start, place.wide, place.count) as usize % m;
     let mut c = chains::word_at(work, bucket);
+    // Stays a while loop: it follows a chain, and no index is counted.
     while 0 < c {
         if is_pair(image, p, id, string, text, ends, c - 1) {
-            return c;
+            return Some(c - 1);
         }
         c = chains::word_at(work, m + (c - 1));
     }
-    0
+    None
 }
 
 // The same, with identifiers left out.
@@ -111,15 +92,15 @@ fn target_of(
     pairs: usize,
     work: &[u32],
     m: usize,
-) -> usize
+) -> Option<usize>
     requires placed { Placed p image.now × Stands p image.now id string }
     requires entered { Entered text.now ends.now pairs m work.now × (m + m ≤ length work.now) }
-    ensures { (result ≡ target_of p.layout image.now (id_in text.now ends.now)
-        (str_in text.now ends.now) pairs id) × (result ≤ pairs) }
+    ensures { (counted result ≡ target_of p.layout image.now (id_in text.now ends.now)
+        (str_in text.now ends.now) pairs id) × (counted result ≤ pairs) }
 {
     let rank = string.rank;
     if string_walk::is_identifier(rank) {
-        return 0;
+        return None;
     }
     find_pair(image, p, id, string, text, ends, pairs, work, m)
 }
@@ -142,12 +123,10 @@ fn mark_string(
     requires looked { Looked p image.now text.now ends.now pairs m id work.old }
     ensures { Looked p image.now text.now ends.now pairs m (suc id) work.new }
 {
-    let target = target_of(image, p, id, string, text, ends, pairs, work, m);
-    if target == 0 {
-        return;
+    if let Some(q) = target_of(image, p, id, string, text, ends, pairs, work, m) {
+        work[m + m + q] = 1;
+        work[m + m + m + id] = (q + q + 2) as u32;
     }
-    work[m + m + (target - 1)] = 1;
-    work[m + m + m + id] = (target + target) as u32;
 }
 
 // All strings in one pass.
@@ -165,10 +144,9 @@ fn mark_strings(
     ensures { Looked p image.now text.now ends.now pairs m p.strings work.new }
 {
     let mut c = string_walk::first_string();
-    while c.id < p.strings {
+    for id in 0..p.strings {
         let step = string_walk::string_at(image, p, c);
-        let string = step.string;
-        mark_string(image, p, c.id, string, text, ends, pairs, work, m);
+        mark_string(image, p, id, step.string, text, ends, pairs, work, m);
         c = step.next;
     }
 }
@@ -179,10 +157,7 @@ fn is_settled(text: &[u8], ends: &[u32], q: usize, flag: usize) -> bool
     ensures { result ≡ implies (applied (id_in text.now ends.now q)
         (str_in text.now ends.now q)) (not (eqb flag 0)) }
 {
-    if !is_applied(text, ends, q) {
-        return true;
-    }
-    flag != 0
+    !is_applied(text, ends, q) || flag != 0
 }
 
 // Whether each pair that is applied was found.
@@ -190,12 +165,10 @@ fn are_found(text: &[u8], ends: &[u32], pairs: usize, work: &[u32], m: usize) ->
     requires { Entered text.now ends.now pairs m work.now × (m + m + m ≤ length work.now) }
     ensures { result ≡ all_flagged text.now ends.now pairs m work.now }
 {
-    let mut q = 0;
-    while q < pairs {
+    for q in 0..pairs {
         if !is_settled(text, ends, q, chains::word_at(work, m + m + q)) {
             return false;
         }
-        q += 1;
     }
     true
 }

@@ -19,29 +19,14 @@ const BACKSLASH: u64 = 92;
 pub fn can_write(u: u64) -> bool
     ensures { result ≡ can_write u }
 {
-    if 32 <= u {
-        return true;
-    }
-    if u == LINE_FEED {
-        return true;
-    }
-    u == TAB
+    32 <= u || u == LINE_FEED || u == TAB
 }
 
 // Whether a byte is written with a backslash.
 fn is_special(b: u64) -> bool
     ensures { result ≡ is_special b }
 {
-    if b == LINE_FEED {
-        return true;
-    }
-    if b == TAB {
-        return true;
-    }
-    if b == QUOTE_MARK {
-        return true;
-    }
-    b == BACKSLASH
+    matches!(b, LINE_FEED | TAB | QUOTE_MARK | BACKSLASH)
 }
 
 // What stands behind the backslash.
@@ -49,13 +34,11 @@ fn letter_of(b: u64) -> u64
     requires { b < 256 }
     ensures { (result ≡ letter_of b) × (result < 256) }
 {
-    if b == LINE_FEED {
-        return 110;
+    match b {
+        LINE_FEED => b'n' as u64,
+        TAB => b't' as u64,
+        _ => b,
     }
-    if b == TAB {
-        return 116;
-    }
-    b
 }
 
 // How many bytes a byte of a value is written with.
@@ -69,16 +52,12 @@ fn escape_length(b: u64) -> usize
 pub fn point_length(c: u64) -> usize
     ensures { (result ≡ length (escaped (bytes_of_point c))) × (result ≤ 4) }
 {
-    if c < 0x80 {
-        return escape_length(c);
+    match c {
+        0..=0x7F => escape_length(c),
+        0x80..=0x7FF => 2,
+        0x800..=0xFFFF => 3,
+        _ => 4,
     }
-    if c < 0x800 {
-        return 2;
-    }
-    if c < 0x10000 {
-        return 3;
-    }
-    4
 }
 
 // Two bytes.

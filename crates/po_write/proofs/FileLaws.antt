@@ -1,4 +1,5 @@
 -- The file of the first strings, one string more.
+use Rattle.std.specs.Prelude.{Err, Ok}
 use mathlib.Core.Path.{◌≡◌, refl, ap, ◌∙◌}
 use mathlib.Core.Bool.{Bool, true, false}
 use mathlib.Core.Logic.{inl, inr}
@@ -12,7 +13,6 @@ use lib.ListN.{length, length-append}
 use lib.Seq.{sets}
 use Rattle.bits.specs.Choice.{pick}
 use Rattle.bits.specs.Outcome.{made, roomed, Answers}
-use Rattle.bits.specs.declared.Answer.TheVariants.{Length, Refused}
 use Rattle.bits.proofs.TestLaws.{below}
 use Rattle.bits.proofs.OutcomeLaws.{roomed_short, roomed-fits, told_all}
 use Rattle.format.specs.declared.Layout.{Layout}
@@ -92,11 +92,11 @@ module _ (room n : ℕ) where
       go false = g
 
 module _ (new old : List ℕ) where
-  pub no_room : room_for (length old) < length new → Answers (roomed (room_for (length old)) (made new)) (Refused 13) old old
+  pub no_room : room_for (length old) < length new → Answers (roomed (room_for (length old)) (made new)) (Err 13) old old
   no_room h = rw (roomed_short (room_for (length old)) new h) (refl, refl)
 
   pub in_room : (n : ℕ) (exit : List ℕ) → n ≡ length new → n ≤ length old → n ≤ longest_file → exit ≡ sets old 0 new
-      → Answers (roomed (room_for (length old)) (made new)) (Length n) old exit
+      → Answers (roomed (room_for (length old)) (made new)) (Ok n) old exit
   in_room n exit e h g w =
       rw (e, roomed-fits (room_for (length old)) new (fits-room (length old) (length new) (omega arith) (omega arith)))
       (told_all new old exit (omega arith) w)

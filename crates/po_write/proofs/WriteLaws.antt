@@ -1,4 +1,5 @@
 -- What `write_po` makes, by the way that it takes: 1 to 6, 13 for the work space, else what the file has room for.
+use Rattle.std.specs.Prelude.{Err, Ok, Result}
 use mathlib.Core.Path.{◌≡◌, refl, ap, sym, ◌∙◌}
 use mathlib.Core.Bool.{Bool, true, false}
 use mathlib.Core.List.{List, [], ◌∷◌, ◌++◌}
@@ -11,27 +12,23 @@ use lib.Seq.{length-take-le}
 use Rattle.refusals.specs.Numbers as refusals
 use Rattle.bits.specs.Choice.{pick, check, judge}
 use Rattle.bits.specs.Outcome.{refused, made, outcome_for, roomed, Answers}
-use Rattle.bits.specs.declared.Answer.{Answer}
-use Rattle.bits.specs.declared.Answer.TheVariants.{Refused}
 use Rattle.bits.proofs.OutcomeLaws.{one_answer, roomed_more}
 use Rattle.format.specs.declared.Layout.{Layout}
 use Rattle.image.specs.Sections.{strings_in}
 use Rattle.image.specs.Admission.{checks}
 use Rattle.sections.specs.declared.Places.{Places}
 use Rattle.sections.specs.Places.{places_of}
-use Rattle.admission.specs.declared.Admission.{Admission}
-use Rattle.admission.specs.declared.Admission.TheVariants as answer
-use Rattle.admission.specs.Admission.{admission, number_of}
+use Rattle.admission.specs.Admission.{admission}
 use Rattle.admission.proofs.AnswerLaws.{refused_is, refused_then, laid-is, laid_then, laid_layout}
 use Rattle.po_write.specs.File.{po_of, words_for, write_refusal, longest_file, room_for, write_po, work_after}
 use Rattle.po_write.proofs.FileLaws.{fits-room}
 
 -- the answer, and both lent buffers afterwards
-abbrev pub Writes : Layout → List ℕ → List ℕ → List ℕ → Answer → List ℕ → List ℕ → Type 0
+abbrev pub Writes : Layout → List ℕ → List ℕ → List ℕ → Result ℕ ℕ → List ℕ → List ℕ → Type 0
 Writes l s work out a work' out' = Answers (write_po l s (length work) (length out)) a out out' × (work' ≡ work_after l s work)
 
 -- two runs on the same input end alike
-pub one_write : (l : Layout) (s work out : List ℕ) (a a' : Answer) (work₁ work₂ out₁ out₂ : List ℕ)
+pub one_write : (l : Layout) (s work out : List ℕ) (a a' : Result ℕ ℕ) (work₁ work₂ out₁ out₂ : List ℕ)
     → Writes l s work out a work₁ out₁ → Writes l s work out a' work₂ out₂
     → (a ≡ a') × (out₁ ≡ out₂) × (work₁ ≡ work₂)
 one_write l s work out a a' work₁ work₂ out₁ out₂ p q =
@@ -55,29 +52,27 @@ lent-words n work h = let k : n - 0 ≡ n = omega arith in rw k (length-take-le 
 
 module _ (l : Layout) (s work out : List ℕ) where
   -- a refusal before the file leaves both as they are
-  stopped : (n : ℕ) → 0 < n → write_refusal l s (length work) ≡ n → Writes l s work out (Refused n) work out
+  stopped : (n : ℕ) → 0 < n → write_refusal l s (length work) ≡ n → Writes l s work out (Err n) work out
   unfolding write_po work_after roomed
   stopped n h e = rw (e, ne_eqb n 0 (λ z. omega arith)) ((refl, refl), refl)
 
-  module _ (r : Admission) (e : r ≡ admission l s) where
-    pub image_refused : (k n : ℕ) → r ≡ answer.Refused k → n ≡ number_of r → Writes l s work out (Refused n) work out
+  module _ (r : Result Places ℕ) (e : r ≡ admission l s) where
+    pub image_refused : (k : ℕ) → r ≡ Err k → Writes l s work out (Err k) work out
     unfolding write_refusal
-    image_refused k n f g =
-        let m : k ≡ n = sym (g ∙ ap number_of f) in
-        stopped n (omega (arith, (refused_is l s r e k f).1)) (refused_then l s r e k f _ ∙ m)
+    image_refused k f = stopped k (refused_is l s r e k f).1 (refused_then l s r e k f _)
 
-    module _ (p : Places) (f : r ≡ answer.Laid p) where
+    module _ (p : Places) (f : r ≡ Ok p) where
       strings_are : p.strings ≡ strings_in s
       unfolding places_of
       strings_are = ap (λ (q : Places). q.strings) (laid-is l s r e p f).1
 
-      pub work_short : length work < 4 * p.strings → Writes l s work out (Refused 13) work out
+      pub work_short : length work < 4 * p.strings → Writes l s work out (Err 13) work out
       unfolding write_refusal judge
       work_short h =
           stopped 13 (omega arith)
           (laid_then l s r e p f _ ∙ rw (lt-ltb (length work) (words_for s) (omega (arith, strings_are))))
 
-      pub file_made : 4 * p.strings ≤ length work → (a : Answer) (work' out' : List ℕ)
+      pub file_made : 4 * p.strings ≤ length work → (a : Result ℕ ℕ) (work' out' : List ℕ)
           → Answers (roomed (room_for (length out)) (made (po_of p.layout s))) a out out' × (work' ≡ replicate (4 * p.strings) 0)
           → Writes l s work out a (work' ++ drop (4 * p.strings - 0) work) out'
       unfolding write_po work_after write_refusal judge

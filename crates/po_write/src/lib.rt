@@ -16,10 +16,9 @@ ghost use Rattle.po_write.specs.Strings.{is_first};
 ghost use Rattle.po_write.specs.File.{file_at, room_for, po_of, write_po, work_after};
 ghost use Rattle.po_write.specs.Work.{text_at, Filled, kept_text, Sought};
 
-use admission::Admission;
-use bits::Answer;
 use format::Layout;
 use po_strings::Text;
+use refusals::Refusal;
 use sections::Places;
 use string_walk::StringRecord;
 
@@ -63,6 +62,7 @@ fn is_first(image: &[u8], p: Places, work: &[u32], id: usize, bucket: usize, t: 
     ensures { result ≡ is_first p.layout image.now id }
 {
     let mut c = chains::word_at(work, bucket);
+    // Stays a while loop: it follows a chain, and no index is counted.
     while 0 < c {
         let other = text_at(work, p.strings, c - 1);
         if po_strings::have_same_units(image, other, t) {
@@ -104,10 +104,9 @@ fn fill(image: &[u8], p: Places, work: &mut [u32]) -> usize
 {
     let mut total = 0;
     let mut c = string_walk::first_string();
-    while c.id < p.strings {
+    for id in 0..p.strings {
         let step = string_walk::string_at(image, p, c);
-        let string = step.string;
-        total += take_turn(image, p, c.id, string, work);
+        total += take_turn(image, p, id, step.string, work);
         c = step.next;
     }
     total
@@ -146,32 +145,33 @@ fn put_entries(out: &mut [u8], image: &[u8], p: Places, work: &[u32])
     ensures { out.new ≡ sets out.old 0 (po_of p.layout image.now) }
 {
     let mut to = 0;
-    let mut j = 0;
-    while j < p.strings {
+    for j in 0..p.strings {
         to = put_kept(out, to, image, p, work, j);
-        j += 1;
     }
 }
 
 // The file, in room enough; else 13.
-fn put_file(out: &mut [u8], image: &[u8], p: Places, work: &[u32], total: usize) -> Answer
+fn put_file(
+    out: &mut [u8],
+    image: &[u8],
+    p: Places,
+    work: &[u32],
+    total: usize,
+) -> Result<usize, Refusal>
     requires laid { Laid p image.now × Filled p.layout image.now p.strings p.strings work.now }
     requires total_value { total ≡ length (po_of p.layout image.now) }
     ensures { Answers (roomed (room_for (length out.old)) (made (po_of p.layout image.now))) result
         out.old out.new }
 {
-    if out.len() < total {
-        return Answer::Refused(refusals::ROOM);
-    }
-    if LONGEST < total {
-        return Answer::Refused(refusals::ROOM);
+    if out.len() < total || LONGEST < total {
+        return Err(refusals::ROOM);
     }
     put_entries(out, image, p, work);
-    Answer::Length(total)
+    Ok(total)
 }
 
 // The file of an admitted image, in work space of just the words that are asked for, which end as zeros.
-fn write_known(image: &[u8], p: Places, work: &mut [u32], out: &mut [u8]) -> Answer
+fn write_known(image: &[u8], p: Places, work: &mut [u32], out: &mut [u8]) -> Result<usize, Refusal>
     requires { Laid p image.now × (length work.old ≡ 4 * p.strings) }
     ensures { Answers (roomed (room_for (length out.old)) (made (po_of p.layout image.now))) result
         out.old out.new × (work.new ≡ replicate (4 * p.strings) 0) }
@@ -188,17 +188,19 @@ fn write_known(image: &[u8], p: Places, work: &mut [u32], out: &mut [u8]) -> Ans
 // for work: four words for each string of the image, which end as zeros. Refused with 1 to 6 where the
 // image is not admitted; with 13 where `work` is shorter, and then it stays as it is; with 13 where
 // `out` has no room, or the file has 2^32 bytes or more. Then no byte of `out` changes.
-pub fn write_po(image: &[u8], layout: Layout, work: &mut [u32], out: &mut [u8]) -> Answer
+pub fn write_po(
+    image: &[u8],
+    layout: Layout,
+    work: &mut [u32],
+    out: &mut [u8],
+) -> Result<usize, Refusal>
     ensures { Answers (write_po layout image.now (length work.old) (length out.old)) result
         out.old out.new × (work.new ≡ work_after layout image.now work.old) }
 {
-    let admitted = admission::admit(image, layout);
-    let Admission::Laid(p) = admitted else {
-        return Answer::Refused(admission::number_of(admitted));
-    };
+    let p = admission::admit(image, layout)?;
     let words = 4 * p.strings;
     if work.len() < words {
-        return Answer::Refused(refusals::ROOM);
+        return Err(refusals::ROOM);
     }
     write_known(image, p, &mut work[0..words], out)
 }

@@ -1,4 +1,5 @@
 -- The answers of the reader: one law for each way out, over the number of a reading by id.
+use Rattle.std.specs.Prelude.{Err, Ok, Result}
 use mathlib.Core.Path.{◌≡◌, refl, sym, ◌∙◌, ap}
 use mathlib.Core.List.{List, [], ◌∷◌, ◌++◌}
 use Prim.Native.Nat.{ℕ, ◌≤◌, ◌<◌}
@@ -16,24 +17,18 @@ use Rattle.sections.specs.declared.Places.{Places}
 use Rattle.sections.specs.Places.{places_of}
 use Rattle.sections.specs.Places as places
 use Rattle.function_table.specs.declared.Function.{Function}
-use Rattle.function_table.specs.declared.FunctionRead.TheVariants as function-is
 use Rattle.function_table.specs.Functions.{as_func, as_function}
-use Rattle.admission.specs.declared.Admission.{Admission}
-use Rattle.admission.specs.declared.Admission.TheVariants.{Laid, Refused}
-use Rattle.admission.specs.Admission.{admission, number_of}
+use Rattle.admission.specs.Admission.{admission}
 use Rattle.admission.proofs.AnswerLaws.{judged_none, refused_is, refused_then, laid-is, laid_then, laid_layout}
 use Rattle.string_walk.specs.declared.Counts.{Counts}
 use Rattle.string_walk.specs.declared.Location.{Location}
-use Rattle.string_walk.specs.declared.Location.TheVariants as location-is
 use Rattle.string_walk.specs.declared.StringRecord.{StringRecord}
-use Rattle.string_walk.specs.Places as location
 use Rattle.string_walk.specs.Places.{Locates}
 use Rattle.string_walk.specs.Records.{record_of}
 use Rattle.string_walk.specs.Walk.{visits}
 use Rattle.string_walk.proofs.RecordLaws.{record_is}
 use Rattle.string_walk.proofs.WalkLaws.{located_at, located_none}
-use Rattle.reader.specs.declared.StringRead.TheVariants as string-is
-use Rattle.reader.specs.Reading.{id_refusal, string_read, body_read}
+use Rattle.reader.specs.Reading.{id_refusal, located, string_read, body_read}
 
 -- ---- a reading by id
 
@@ -53,16 +48,14 @@ module _ (l : Layout) (s : List ℕ) (count id : ℕ) {A : Type 0} (found : A) (
   abbrev answered : A
   answered = pick (eqb (id_refusal l s count id) 0) found (refused (id_refusal l s count id))
 
-  pub not_admitted : (r : Admission) → r ≡ admission l s → (k : ℕ) → r ≡ Refused k → (n : ℕ) → n ≡ number_of r
-      → refused n ≡ answered
-  not_admitted r e k f n g =
+  pub not_admitted : (r : Result Places ℕ) → r ≡ admission l s → (k : ℕ) → r ≡ Err k → refused k ≡ answered
+  not_admitted r e k f =
       let i : id_refusal l s count id ≡ k
       = judged_behind l s count id ∙ refused_then l s r e k f (check 7 (leb count id) ∷ []) in
       let h : 0 < k = (refused_is l s r e k f).1 in
-      let j : n ≡ k = g ∙ ap number_of f in
-      rw (i, ne_eqb k 0 (λ y. omega arith)) (ap refused j)
+      rw (i, ne_eqb k 0 (λ y. omega arith))
 
-  module _ (p : Places) (f : admission l s ≡ Laid p) where
+  module _ (p : Places) (f : admission l s ≡ Ok p) where
     own : judge (checks l s ++ (check 7 (leb count id) ∷ [])) ≡ judge (check 7 (leb count id) ∷ [])
     own = laid_then l s (admission l s) refl p f (check 7 (leb count id) ∷ [])
 
@@ -76,18 +69,17 @@ module _ (l : Layout) (s : List ℕ) (count id : ℕ) {A : Type 0} (found : A) (
 
 -- ---- strings, bodies, the debug offset
 
-module _ (l : Layout) (s : List ℕ) (r : Admission) (e : r ≡ admission l s) (id k : ℕ) (f : r ≡ Refused k) (n : ℕ)
-    (g : n ≡ number_of r) where
-  pub string_refused : string-is.Refused n ≡ string_read l s id
+module _ (l : Layout) (s : List ℕ) (r : Result Places ℕ) (e : r ≡ admission l s) (id k : ℕ) (f : r ≡ Err k) where
+  pub string_refused : Err k ≡ string_read l s id
   unfolding string_read
   string_refused =
-      not_admitted l s (strings_in s) id (string-is.Found (record_of l s id) (visits l s id)) string-is.Refused r e k f n g
+      not_admitted l s (strings_in s) id (Ok (located l s id)) Err r e k f
 
-  pub body_refused : function-is.Refused n ≡ body_read l s id
+  pub body_refused : Err k ≡ body_read l s id
   unfolding body_read
-  body_refused = not_admitted l s (functions_in s) id (function-is.Found (as_function (func_of l s id))) function-is.Refused r e k f n g
+  body_refused = not_admitted l s (functions_in s) id (Ok (as_function (func_of l s id))) Err r e k f
 
-module _ (l : Layout) (s : List ℕ) (p : Places) (f : admission l s ≡ Laid p) where
+module _ (l : Layout) (s : List ℕ) (p : Places) (f : admission l s ≡ Ok p) where
   pub counts : (p.strings ≡ strings_in s) × (p.functions ≡ functions_in s)
   unfolding places_of
   counts =
@@ -98,47 +90,54 @@ module _ (l : Layout) (s : List ℕ) (p : Places) (f : admission l s ≡ Laid p)
   own_layout = laid_layout l s (admission l s) refl p f
 
   module _ (id : ℕ) where
-    pub body_absent : p.functions ≤ id → function-is.Refused 7 ≡ body_read l s id
+    pub body_absent : p.functions ≤ id → Err 7 ≡ body_read l s id
     unfolding body_read
     body_absent h =
-        no_such_id l s (functions_in s) id (function-is.Found (as_function (func_of l s id))) function-is.Refused p f
+        no_such_id l s (functions_in s) id (Ok (as_function (func_of l s id))) Err p f
         (omega (arith, counts.1))
 
     pub body_found : id < p.functions → (q : Function) → as_func q ≡ func_of p.layout s id
-        → function-is.Found q ≡ body_read l s id
+        → Ok q ≡ body_read l s id
     unfolding body_read
     body_found h q g =
         let w : as_func q ≡ func_of l s id = g ∙ ap (λ (x : Layout). func_of x s id) own_layout in
-        ap (λ (y : Func). function-is.Found (as_function y)) w
-        ∙ id_found l s (functions_in s) id (function-is.Found (as_function (func_of l s id))) function-is.Refused p f
+        ap (λ (y : Func). Ok (as_function y)) w
+        ∙ id_found l s (functions_in s) id (Ok (as_function (func_of l s id))) Err p f
         (omega (arith, counts.1))
 
 -- the image is admitted with these places, and its string id was looked for
-pub record StringSought (l : Layout) (s : List ℕ) (id : ℕ) (p : Places) (loc : Location) : Type 0 where
-  pub answer : admission l s ≡ Laid p
+pub record StringSought (l : Layout) (s : List ℕ) (id : ℕ) (p : Places) (loc : Result Location ℕ) : Type 0 where
+  pub answer : admission l s ≡ Ok p
   pub laid : places.Laid p s
   pub located : Locates p s id refusals.id loc
 
-module _ {l : Layout} {s : List ℕ} {id : ℕ} {p : Places} {loc : Location} (z : StringSought l s id p loc) where
+module _ {l : Layout} {s : List ℕ} {id : ℕ} {p : Places} {loc : Result Location ℕ} (z : StringSought l s id p loc) where
   -- no such string
-  pub string-absent : (m : ℕ) → loc ≡ location-is.Refused m → (n : ℕ) → n ≡ location.number_of loc
-      → string-is.Refused n ≡ string_read l s id
+  string-absent : (m : ℕ) → loc ≡ Err m → loc ≡ string_read l s id
   unfolding string_read
-  string-absent m u n v =
+  string-absent m u =
       let (w, b) = located_none p s id refusals.id loc z.located m u in
-      ap string-is.Refused (v ∙ ap location.number_of u ∙ w)
-      ∙ no_such_id l s (strings_in s) id (string-is.Found (record_of l s id) (visits l s id)) string-is.Refused p z.answer
+      u ∙ ap Err w
+      ∙ no_such_id l s (strings_in s) id (Ok (located l s id)) Err p z.answer
       (omega (arith, (counts l s p z.answer).0))
 
   -- the string that was located
-  pub string_found : (i : ℕ) (q : StringRecord) (c : Counts) → loc ≡ location-is.At i q c
-      → string-is.Found q c ≡ string_read l s id
+  string_found : (q : Location) → loc ≡ Ok q → loc ≡ string_read l s id
   unfolding string_read
-  string_found i q c u =
-      let (_, known, st, v) = located_at p s id refusals.id loc z.located i q c u in
+  string_found q u =
+      let (same, known, st, v) = located_at p s id refusals.id loc z.located q u in
       let own : p.layout ≡ l = own_layout l s p z.answer in
-      let w : q ≡ record_of l s id = record_is p s z.laid.placed id q st ∙ ap (λ (k : Layout). record_of k s id) own in
-      let m : c ≡ visits l s id = v ∙ ap (λ (k : Layout). visits k s id) own in
-      rw (w, m)
-      (id_found l s (strings_in s) id (string-is.Found (record_of l s id) (visits l s id)) string-is.Refused p z.answer
-      (omega (arith, (counts l s p z.answer).0)))
+      let w : q.string ≡ record_of l s id = record_is p s z.laid.placed id q.string st ∙ ap (λ (k : Layout). record_of k s id) own in
+      let m : q.counts ≡ visits l s id = v ∙ ap (λ (k : Layout). visits k s id) own in
+      let whole : q ≡ located l s id = rw (← m, ← w, ← same) in
+      u ∙ ap Ok whole
+      ∙ id_found l s (strings_in s) id (Ok (located l s id)) Err p z.answer
+      (omega (arith, (counts l s p z.answer).0))
+
+  -- either way
+  pub string_sought : loc ≡ string_read l s id
+  string_sought = go loc refl
+    where
+      go : (x : Result Location ℕ) → loc ≡ x → loc ≡ string_read l s id
+      go (Ok q) u = string_found q u
+      go (Err m) u = string-absent m u

@@ -1,4 +1,5 @@
 -- A signed 32-bit delta added to a number, in 64 bits: the sum is exact.
+use Rattle.std.specs.Prelude.{None, Some}
 use mathlib.Core.Path.{◌≡◌, refl}
 use mathlib.Core.Bool.{true, false}
 use mathlib.Core.Logic.{inl, inr}
@@ -14,7 +15,6 @@ use mir.Facts.{to_z-of_z}
 use Rattle.bits.proofs.TestLaws.{below_or, which}
 use Rattle.format.specs.Table.{legacy_info}
 use Rattle.format.specs.Record.{value_of}
-use Rattle.records.specs.declared.Sum.TheVariants.{Fits, Beyond}
 use Rattle.records.specs.Sum.{fitting, summed, SumOutside}
 use Rattle.records.specs.Sum.SumOutside.{below, past}
 use Rattle.records.specs.Records.{info_sum}
@@ -53,17 +53,17 @@ module _ (n : ℕ) (delta : ℤ) (b : n < 2 ^ 41) (h : SFits w32 delta) where
 -- ---- its ways out
 
 -- "a sum below 0"
-pub below_zero : (width : ℕ) (total : ℤ) → lt_z total (pos 0) ≡ true → Beyond ≡ fitting width total
+pub below_zero : (width : ℕ) (total : ℤ) → lt_z total (pos 0) ≡ true → None ≡ fitting width total
 below_zero width (pos n) e = absurd (omega (arith, ltb-true n 0 e))
 below_zero width (negsuc n) e = refl
 
 -- "or past their width"
-pub past_width : (width : ℕ) (total : ℤ) → 2 ^ width ≤ nat_abs total → Beyond ≡ fitting width total
+pub past_width : (width : ℕ) (total : ℤ) → 2 ^ width ≤ nat_abs total → None ≡ fitting width total
 past_width width (pos n) h = rw (le-ltb n (2 ^ width) h)
 past_width width (negsuc n) h = refl
 
 pub within_width : (width : ℕ) (total : ℤ) → lt_z total (pos 0) ≡ false → nat_abs total < 2 ^ width
-    → Fits (nat_abs total) ≡ fitting width total
+    → Some (nat_abs total) ≡ fitting width total
 within_width width (pos n) e h = rw (lt-ltb n (2 ^ width) h)
 within_width width (negsuc n) e h = cc
 
@@ -73,7 +73,7 @@ not_negative (negsuc n) e = let z : ◌≡◌ {A = ℕ} 0 1 = cc in absurd (omeg
 
 -- ---- a sum that fits is no larger than its place
 
-fitting-lt : (width : ℕ) (total : ℤ) (v : ℕ) → fitting width total ≡ Fits v → v < 2 ^ width
+fitting-lt : (width : ℕ) (total : ℤ) (v : ℕ) → fitting width total ≡ Some v → v < 2 ^ width
 fitting-lt width (pos n) v e =
     elim (below_or n (2 ^ width)) [
       | inl k ↦ let s : v ≡ n = cc (rw (lt-ltb n (2 ^ width) k) at e) in omega arith
@@ -81,10 +81,10 @@ fitting-lt width (pos n) v e =
     ]
 fitting-lt width (negsuc n) v e = let z : ◌≡◌ {A = ℕ} 0 1 = cc in absurd (omega arith)
 
-pub sum_lt : (width : ℕ) (delta : ℤ) (n v : ℕ) → summed width delta n ≡ Fits v → v < 2 ^ width
+pub sum_lt : (width : ℕ) (delta : ℤ) (n v : ℕ) → summed width delta n ≡ Some v → v < 2 ^ width
 sum_lt width delta n v e = fitting-lt width (pos n +ℤ delta) v e
 
-pub info_lt : (delta : ℤ) (n v : ℕ) → info_sum delta n ≡ Fits v → v < 2 ^ legacy_info.width
+pub info_lt : (delta : ℤ) (n v : ℕ) → info_sum delta n ≡ Some v → v < 2 ^ legacy_info.width
 unfolding info_sum
 info_lt delta n v e =
     elim (which (eqb (value_of legacy_info n) 0)) [
@@ -94,7 +94,7 @@ info_lt delta n v e =
 
 -- ---- a sum is none exactly where it lies outside
 
-pub beyond_outside : (width : ℕ) (total : ℤ) → fitting width total ≡ Beyond → SumOutside width total
+pub beyond_outside : (width : ℕ) (total : ℤ) → fitting width total ≡ None → SumOutside width total
 beyond_outside width (pos n) e =
     elim (below_or n (2 ^ width)) [
       | inl k ↦ let z : ◌≡◌ {A = ℕ} 0 1 = cc (rw (lt-ltb n (2 ^ width) k) at e) in absurd (omega arith)
@@ -102,6 +102,6 @@ beyond_outside width (pos n) e =
     ]
 beyond_outside width (negsuc n) e = below n
 
-pub outside_beyond : (width : ℕ) (total : ℤ) → SumOutside width total → fitting width total ≡ Beyond
+pub outside_beyond : (width : ℕ) (total : ℤ) → SumOutside width total → fitting width total ≡ None
 outside_beyond width total (below n) = refl
 outside_beyond width total (past n h) = rw (le-ltb n (2 ^ width) h)

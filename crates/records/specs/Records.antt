@@ -1,6 +1,6 @@
 -- A row of the table that is a field of a record, and the edits of a record. 01, Image rules and Bodies; 02, No. 8.
 -- docs/FORMAT.md: Function records, Record leaves.
-use Rattle.std.specs.Prelude.{Bool, true, ℕ, ◌+◌, ◌%◌, ◌^◌, ℤ, leb, ltb, eqb}
+use Rattle.std.specs.Prelude.{Bool, true, ℕ, ◌+◌, ◌%◌, ◌^◌, ℤ, leb, ltb, eqb, None, Option, Some}
 use Rattle.bits.specs.Choice.{pick, both}
 use Rattle.bits.specs.Words.{whole}
 use Rattle.format.specs.declared.Field.{Field}
@@ -10,13 +10,10 @@ use Rattle.format.specs.Table.{row_of, row_count, modern_offset, modern_size, mo
 use Rattle.format.specs.Table.{legacy_name, legacy_info, legacy_frame, legacy_environment, legacy_read_cache, legacy_write_cache}
 use Rattle.format.specs.Table.{legacy_flags}
 use Rattle.format.specs.Record.{value_of, with_value, pointer, put_pointer}
-use Rattle.records.specs.declared.Shifted.{Shifted}
-use Rattle.records.specs.declared.Shifted.TheVariants as shifted-is
-use Rattle.records.specs.declared.Sum.{Sum}
-use Rattle.records.specs.declared.Sum.TheVariants.{Fits, Beyond}
 use Rattle.records.specs.Sum.{summed, word_bits}
 use Rattle.records.specs.declared.LegacyFunctionHeader.{LegacyFunctionHeader}
 use Rattle.records.specs.declared.ModernFunctionHeader.{ModernFunctionHeader}
+use Rattle.bits.specs.declared.Words.{Words}
 
 -- row k is a field of a record: it lies in one of its two words, and its value fits 32 bits
 abbrev pub is_record_row : ℕ → Bool
@@ -28,12 +25,12 @@ is_record_row k =
 -- ---- sums
 
 -- delta added to what a field holds
-abbrev pub field_sum : Field → ℤ → ℕ → Sum
+abbrev pub field_sum : Field → ℤ → ℕ → Option ℕ
 field_sum f delta n = summed f.width delta (value_of f n)
 
 -- delta added to a legacy info place: "info 0 and debug 0 never move"
-unfoldable pub info_sum : ℤ → ℕ → Sum
-info_sum delta n = pick (eqb (value_of legacy_info n) 0) (Fits 0) (field_sum legacy_info delta n)
+unfoldable pub info_sum : ℤ → ℕ → Option ℕ
+info_sum delta n = pick (eqb (value_of legacy_info n) 0) (Some 0) (field_sum legacy_info delta n)
 
 -- ---- edits
 
@@ -43,14 +40,14 @@ pub data Edited : Type 0 where
   beyond : Edited
 
 -- the code's answer as this
-abbrev pub as_edited : Shifted → Edited
-as_edited (shifted-is.To w) = edited (whole w)
-as_edited shifted-is.Beyond = beyond
+abbrev pub as_edited : Option Words → Edited
+as_edited (Some w) = edited (whole w)
+as_edited None = beyond
 
 -- what is made of a sum that fits
-abbrev pub with_sum : Sum → (ℕ → Edited) → Edited
-with_sum (Fits v) edit = edit v
-with_sum Beyond edit = beyond
+abbrev pub with_sum : Option ℕ → (ℕ → Edited) → Edited
+with_sum (Some v) edit = edit v
+with_sum None edit = beyond
 
 -- a record without a large header: its body offset, and legacy its info place; where either sum does not fit, neither is written
 unfoldable pub shift_small : Layout → ℤ → ℕ → Edited

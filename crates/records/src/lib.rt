@@ -17,20 +17,6 @@ use bits::Words;
 // The bits of a large pointer, and of a word that holds a place.
 pub const WORD_BITS: usize = 32;
 
-// A sum, where its place can hold it: it is not below 0 and has no more bits.
-#[derive(Clone, Copy)]
-pub enum Sum {
-    Fits(u64),
-    Beyond,
-}
-
-// A record after a shift; none where a sum does not fit.
-#[derive(Clone, Copy)]
-pub enum Shifted {
-    To(Words),
-    Beyond,
-}
-
 // The fields of a legacy record.
 #[derive(Clone, Copy)]
 pub struct LegacyFunctionHeader {
@@ -83,23 +69,23 @@ pub fn with_exact(w: Words, k: usize, v: u64) -> Words
 }
 
 // A signed delta added to a number, exactly, where the sum is not below 0 and has at most `width` bits.
-pub fn add_delta(n: u64, delta: i32, width: usize) -> Sum
+pub fn add_delta(n: u64, delta: i32, width: usize) -> Option<u64>
     requires { (n < 2 ^ 41) × (width ≤ 32) }
     ensures { result ≡ summed width delta n }
 {
     let total = n as i64 + delta as i64;
     if total < 0 {
-        return Sum::Beyond;
+        return None;
     }
     let sum = total as u64;
     if 1u64 << width <= sum {
-        return Sum::Beyond; // its place would cut it
+        return None; // its place would cut it
     }
-    Sum::Fits(sum)
+    Some(sum)
 }
 
 // A delta added to what a field holds.
-pub fn field_sum(w: Words, k: usize, delta: i32) -> Sum
+pub fn field_sum(w: Words, k: usize, delta: i32) -> Option<u64>
     requires { is_record_row k ≡ true }
     ensures { result ≡ field_sum (row_of k) delta (whole w) }
 {
@@ -107,11 +93,11 @@ pub fn field_sum(w: Words, k: usize, delta: i32) -> Sum
 }
 
 // A delta added to a legacy info place, but for 0, which says that there is none.
-pub fn info_sum(w: Words, delta: i32) -> Sum
+pub fn info_sum(w: Words, delta: i32) -> Option<u64>
     ensures { result ≡ info_sum delta (whole w) }
 {
     if value(w, format::LEGACY_INFO) == 0 {
-        return Sum::Fits(0);
+        return Some(0);
     }
     field_sum(w, format::LEGACY_INFO, delta)
 }
@@ -155,54 +141,39 @@ pub fn with_legacy_pointer(w: Words, p: u64) -> Words
 }
 
 // A modern record without a large header, its body offset moved.
-pub fn shift_modern_offset(w: Words, delta: i32) -> Shifted
+pub fn shift_modern_offset(w: Words, delta: i32) -> Option<Words>
     ensures { as_edited result ≡ shift_small Modern delta (whole w) }
 {
-    let sum = field_sum(w, format::MODERN_OFFSET, delta);
-    let Sum::Fits(offset) = sum else {
-        return Shifted::Beyond;
-    };
-    Shifted::To(with_exact(w, format::MODERN_OFFSET, offset))
+    let offset = field_sum(w, format::MODERN_OFFSET, delta)?;
+    Some(with_exact(w, format::MODERN_OFFSET, offset))
 }
 
 // A legacy record without a large header, its body offset moved, and its info place unless that is 0.
 // Where either cannot be, neither is.
-pub fn shift_legacy_offsets(w: Words, delta: i32) -> Shifted
+pub fn shift_legacy_offsets(w: Words, delta: i32) -> Option<Words>
     ensures { as_edited result ≡ shift_small (Legacy false false) delta (whole w) }
 {
-    let offset_sum = field_sum(w, format::LEGACY_OFFSET, delta);
-    let Sum::Fits(offset) = offset_sum else {
-        return Shifted::Beyond;
-    };
+    let offset = field_sum(w, format::LEGACY_OFFSET, delta)?;
     let placed = with_exact(w, format::LEGACY_OFFSET, offset);
-    let moved_info = info_sum(w, delta);
-    let Sum::Fits(info) = moved_info else {
-        return Shifted::Beyond; // the offset's move goes with it
-    };
-    Shifted::To(with_exact(placed, format::LEGACY_INFO, info))
+    let info = info_sum(w, delta)?;
+    Some(with_exact(placed, format::LEGACY_INFO, info))
 }
 
 // A modern record with a large header, its pointer moved.
-pub fn shift_modern_pointer(w: Words, delta: i32) -> Shifted
+pub fn shift_modern_pointer(w: Words, delta: i32) -> Option<Words>
     ensures { as_edited result ≡ shift_pointer Modern delta (whole w) }
 {
-    let sum = add_delta(modern_pointer(w), delta, WORD_BITS);
-    let Sum::Fits(pointer) = sum else {
-        return Shifted::Beyond;
-    };
-    Shifted::To(with_modern_pointer(w, pointer))
+    let pointer = add_delta(modern_pointer(w), delta, WORD_BITS)?;
+    Some(with_modern_pointer(w, pointer))
 }
 
 // A legacy record with a large header, its pointer moved: the whole number, not what a reader gives
 // modulo 2^32.
-pub fn shift_legacy_pointer(w: Words, delta: i32) -> Shifted
+pub fn shift_legacy_pointer(w: Words, delta: i32) -> Option<Words>
     ensures { as_edited result ≡ shift_pointer (Legacy false false) delta (whole w) }
 {
-    let sum = add_delta(legacy_pointer(w), delta, WORD_BITS);
-    let Sum::Fits(pointer) = sum else {
-        return Shifted::Beyond;
-    };
-    Shifted::To(with_legacy_pointer(w, pointer))
+    let pointer = add_delta(legacy_pointer(w), delta, WORD_BITS)?;
+    Some(with_legacy_pointer(w, pointer))
 }
 
 // The low word's fields of a legacy record, in a record that is 0 elsewhere.

@@ -1,37 +1,96 @@
-// The refusal numbers of document 01, by the names that it gives them. Definitions have the same names
-// (specs/Numbers.antt).
+// A refusal, by the names that document 01 gives them. Contracts see one as its number: the definitions
+// have the same names (specs/Numbers.antt).
 #![tactic(auto)]
 
-pub const SIZE: u8 = 1;
+ghost use Rattle.std.specs.Prelude.{◌≡◌};
 
-pub const MAGIC: u8 = 2;
+use std::marker::Model;
 
-pub const SECTIONS: u8 = 3;
+// 01's table: each name has the number of its row.
+#[derive(Clone, Copy, Debug, PartialEq, Eq)]
+enum Name {
+    Size = 1,
+    Magic,
+    Sections,
+    Kinds,
+    String,
+    Function,
+    Id,
+    Value,
+    Inside,
+    Empty,
+    Limit,
+    Field,
+    Room,
+    Absent,
+    Job,
+    File,
+    Twice,
+}
 
-pub const KINDS: u8 = 4;
+// Why a call is refused: the error of every `Result` here.
+#[derive(Clone, Copy, Debug, PartialEq, Eq)]
+pub struct Refusal {
+    name: Name,
+}
 
-pub const STRING: u8 = 5;
+impl Model for Refusal {
+    ghost use Rattle.std.specs.Prelude.{ℕ};
 
-pub const FUNCTION: u8 = 6;
+    ghost Value = { ℕ };
 
-pub const ID: u8 = 7;
+    ghost use Rattle.refusals.specs.Names.{number, of_number, number_back};
 
-pub const VALUE: u8 = 8;
+    ghost view = { number };
 
-pub const INSIDE: u8 = 9;
+    ghost inverse = { of_number };
 
-pub const EMPTY: u8 = 10;
+    ghost inverse_ok = { λ a h. number_back a };
+}
 
-pub const LIMIT: u8 = 11;
+impl Refusal {
+    // The number that callers outside get.
+    pub fn number(self) -> u8
+        ensures { result ≡ self }
+    {
+        self.name as u8
+    }
+}
 
-pub const FIELD: u8 = 12;
+pub const SIZE: Refusal = Refusal { name: Name::Size };
 
-pub const ROOM: u8 = 13;
+pub const MAGIC: Refusal = Refusal { name: Name::Magic };
 
-pub const ABSENT: u8 = 14;
+pub const SECTIONS: Refusal = Refusal {
+    name: Name::Sections,
+};
 
-pub const JOB: u8 = 15;
+pub const KINDS: Refusal = Refusal { name: Name::Kinds };
 
-pub const FILE: u8 = 16;
+pub const STRING: Refusal = Refusal { name: Name::String };
 
-pub const TWICE: u8 = 17;
+pub const FUNCTION: Refusal = Refusal {
+    name: Name::Function,
+};
+
+pub const ID: Refusal = Refusal { name: Name::Id };
+
+pub const VALUE: Refusal = Refusal { name: Name::Value };
+
+pub const INSIDE: Refusal = Refusal { name: Name::Inside };
+
+pub const EMPTY: Refusal = Refusal { name: Name::Empty };
+
+pub const LIMIT: Refusal = Refusal { name: Name::Limit };
+
+pub const FIELD: Refusal = Refusal { name: Name::Field };
+
+pub const ROOM: Refusal = Refusal { name: Name::Room };
+
+pub const ABSENT: Refusal = Refusal { name: Name::Absent };
+
+pub const JOB: Refusal = Refusal { name: Name::Job };
+
+pub const FILE: Refusal = Refusal { name: Name::File };
+
+pub const TWICE: Refusal = Refusal { name: Name::Twice };

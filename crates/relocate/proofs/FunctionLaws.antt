@@ -1,4 +1,4 @@
--- A function after the patch: its places, its record and its large header.
+-- A function after the patch: its record and its large header.
 use mathlib.Core.Path.{◌≡◌, ap, sym, ◌∙◌}
 use mathlib.Core.Bool.{Bool, true, false}
 use mathlib.Core.List.{List}
@@ -20,31 +20,8 @@ use Rattle.format.specs.Number.{bytes_for}
 use Rattle.format.specs.Record.{with_value, pointer, put_pointer}
 use Rattle.image.specs.Sections.{record_at}
 use Rattle.image.specs.Functions.{Func}
-use Rattle.edits.specs.Edit.{write_all, put_small, pointed, put_header, move_func}
+use Rattle.edits.specs.Edit.{write_all, put_small, pointed, put_header}
 use Rattle.sections.proofs.SectionLaws.{record_size}
-use Rattle.relocate.specs.declared.Cause.{Cause}
-use Rattle.relocate.specs.declared.Cause.TheVariants.{Strings, Body}
-use Rattle.relocate.specs.Relocate.{func_for}
-
--- ---- its places
-
-pub moved-is : (mv : ℕ → ℕ) (f : Func) (p b i : ℕ) → p ≡ mv f.ptr → b ≡ mv f.begin → i ≡ mv f.info
-    → record { large = f.large; ptr = p; begin = b; size = f.size; info = i } ≡ move_func mv f
-moved-is mv f p b i x y z = rw (x, y, z)
-
-module _ (mv : ℕ → ℕ) (f g : Func) (p : Cause) (i : ℕ) (e : g ≡ move_func mv f) where
-  pub after_strings : p ≡ Strings → g ≡ func_for mv p i f
-  after_strings h = rw h e
-
-  module _ (id size : ℕ) (h : p ≡ Body id size) where
-    pub after_other : (i ≡ id → ⊥) → g ≡ func_for mv p i f
-    after_other n = rw (h, ne_eqb i id n) e
-
-    pub after_own : i ≡ id → record { large = g.large; ptr = g.ptr; begin = f.begin; size = size; info = g.info } ≡ func_for mv p i
-        f
-    after_own n =
-        rw (h, eq-eqb i id n)
-        (ap (λ (x : Func). record { large = x.large; ptr = x.ptr; begin = f.begin; size = size; info = x.info }) e)
 
 -- ---- its record
 

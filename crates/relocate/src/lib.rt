@@ -46,11 +46,10 @@ fn moved_function(f: Function, from: usize, to: usize) -> Function
     ensures { as_func result ≡ move_func (moved from to) (as_func f) }
 {
     Function {
-        large: f.large,
         ptr: moved_fields::move_place(from, to, f.ptr),
         begin: moved_fields::move_place(from, to, f.begin),
-        size: f.size,
         info: moved_fields::move_place(from, to, f.info),
+        ..f
     }
 }
 
@@ -60,19 +59,13 @@ fn function_after(f: Function, m: Move, i: usize) -> Function
     ensures { as_func result ≡ func_for (moved_place m) m.cause i (as_func f) }
 {
     let moved = moved_function(f, m.from, m.to);
-    let cause = m.cause;
-    let Cause::Body { id, size } = cause else {
-        return moved;
-    };
-    if i != id {
-        return moved;
-    }
-    Function {
-        large: moved.large,
-        ptr: moved.ptr,
-        begin: f.begin,
-        size,
-        info: moved.info,
+    match m.cause {
+        Cause::Body { id, size } if id == i => Function {
+            begin: f.begin,
+            size,
+            ..moved
+        },
+        _ => moved,
     }
 }
 
@@ -80,11 +73,7 @@ fn function_after(f: Function, m: Move, i: usize) -> Function
 fn writes_all(m: Move) -> bool
     ensures { result ≡ writes_all m.cause }
 {
-    let cause = m.cause;
-    match cause {
-        Cause::Strings => true,
-        Cause::Body { id: _, size: _ } => false,
-    }
+    matches!(m.cause, Cause::Strings)
 }
 
 // ---- its record
@@ -101,10 +90,7 @@ fn small_record(words: Words, layout: Layout, f: Function) -> Words
             let placed = records::with_exact(words, format::MODERN_OFFSET, begin);
             records::with_exact(placed, format::MODERN_SIZE, size)
         }
-        Layout::Legacy {
-            big_integers: _,
-            function_sources: _,
-        } => {
+        Layout::Legacy { .. } => {
             let placed = records::with_exact(words, format::LEGACY_OFFSET, begin);
             let sized = records::with_exact(placed, format::LEGACY_SIZE, size);
             records::with_exact(sized, format::LEGACY_INFO, f.info as u64)
@@ -119,10 +105,7 @@ fn with_pointer(words: Words, layout: Layout, ptr: u64) -> Words
 {
     match layout {
         Layout::Modern => records::with_modern_pointer(words, ptr),
-        Layout::Legacy {
-            big_integers: _,
-            function_sources: _,
-        } => records::with_legacy_pointer(words, ptr),
+        Layout::Legacy { .. } => records::with_legacy_pointer(words, ptr),
     }
 }
 
@@ -133,13 +116,11 @@ fn large_record(words: Words, layout: Layout, all: bool, old: u64, new: u64) -> 
     requires bound { new < 4294967296 }
     ensures { whole result ≡ pointed layout all new (whole words) }
 {
-    if all {
-        return with_pointer(words, layout, new);
+    if all || new != old {
+        with_pointer(words, layout, new)
+    } else {
+        words
     }
-    if new == old {
-        return words;
-    }
-    with_pointer(words, layout, new)
 }
 
 // A record in a slot of its own.
@@ -149,10 +130,7 @@ fn store_record(slot: &mut [u8], layout: Layout, words: Words)
 {
     match layout {
         Layout::Modern => bits::store12(slot, words),
-        Layout::Legacy {
-            big_integers: _,
-            function_sources: _,
-        } => bits::store16(slot, words),
+        Layout::Legacy { .. } => bits::store16(slot, words),
     }
 }
 
@@ -179,10 +157,7 @@ fn put_header(out: &mut [u8], layout: Layout, f: Function)
     format::put_exact(out, ptr, format::LARGE_OFFSET, f.begin as u64);
     match layout {
         Layout::Modern => format::put_exact(out, ptr, format::MODERN_LARGE_SIZE, size),
-        Layout::Legacy {
-            big_integers: _,
-            function_sources: _,
-        } => {
+        Layout::Legacy { .. } => {
             format::put_exact(out, ptr, format::LEGACY_LARGE_SIZE, size);
             format::put_exact(out, ptr, format::LEGACY_LARGE_INFO, f.info as u64);
         }
@@ -215,10 +190,8 @@ fn relocate_functions(out: &mut [u8], image: &[u8], layout: Layout, m: Move, n: 
     requires n_value { n ≡ functions_in image.now }
     ensures { out.new ≡ write_all (groups n (function_group layout image.now m)) out.old }
 {
-    let mut i = 0;
-    while i < n {
+    for i in 0..n {
         relocate_function(out, image, layout, m, i);
-        i += 1;
     }
 }
 

@@ -1,4 +1,5 @@
 -- The builder: where strings start, the two loops over the ends, the refusals in order, and what an accepted input is.
+use Rattle.std.specs.Prelude.{Err, Ok, Result}
 use mathlib.Core.Path.{◌≡◌, refl, ap, sym, ◌∙◌}
 use mathlib.Core.Bool.{Bool, true, false, not}
 use mathlib.Core.Logic.{inl, inr}
@@ -15,8 +16,6 @@ use lib.Seq.{length-take-le}
 use Rattle.bits.specs.Choice.{pick, all_below, judge}
 use Rattle.bits.specs.Bytes.{ascii}
 use Rattle.bits.specs.Outcome.{Outcome, refused, made, answered, roomed, Answers}
-use Rattle.bits.specs.declared.Answer.{Answer}
-use Rattle.bits.specs.declared.Answer.TheVariants.{Length, Refused}
 use Rattle.bits.proofs.TestLaws.{both_0, both_1, both_of, which, all_at, all_fails, all_next}
 use Rattle.bits.proofs.JudgeLaws.{judge_pass}
 use Rattle.bits.proofs.OutcomeLaws.{roomed_short, roomed-fits, roomed_more, lent-front}
@@ -144,16 +143,16 @@ ascii-is text ends size r b s e f = sym (rw (s, sub-zero) at e) ∙ f
 
 -- the last test is of the length
 by_limit : (b : Bool) (n : ℕ) (new : List ℕ) → n ≡ length new
-    → pick b (Refused 11) (Length n) ≡ answered (pick (eqb (pick b 11 0) 0) (made new) (refused (pick b 11 0)))
+    → pick b (Err 11) (Ok n) ≡ answered (pick (eqb (pick b 11 0) 0) (made new) (refused (pick b 11 0)))
 by_limit true n new e = refl
-by_limit false n new e = ap Length e
+by_limit false n new e = ap Ok e
 
 -- a length is answered where nothing refuses
-none_met : (j n : ℕ) (new : List ℕ) → Length n ≡ answered (pick (eqb j 0) (made new) (refused j)) → (j ≡ 0)
+none_met : (j n : ℕ) (new : List ℕ) → Ok n ≡ answered (pick (eqb j 0) (made new) (refused j)) → (j ≡ 0)
     × (n ≡ length new)
 none_met j n new e = go (eqb j 0) refl e
   where
-    go : (b : Bool) → eqb j 0 ≡ b → Length n ≡ answered (pick b (made new) (refused j)) → (j ≡ 0) × (n ≡ length new)
+    go : (b : Bool) → eqb j 0 ≡ b → Ok n ≡ answered (pick b (made new) (refused j)) → (j ≡ 0) × (n ≡ length new)
     go true t f = (eqb-true j 0 t, cc)
     go false t f = let z : ◌≡◌ {A = ℕ} 0 1 = cc in absurd (omega arith)
 
@@ -179,30 +178,30 @@ unfolding ends_within ends_ascend
 ends_within_lem {text} {ends} o = within_all text ends (length ends) o.ascends o.last
 
 module _ (v : ℕ) (text ends body : List ℕ) where
-  refuses : (n : ℕ) → judge (checks v text ends body) ≡ n → (n ≡ 0 → ⊥) → Refused n ≡ answered (built v text ends body)
+  refuses : (n : ℕ) → judge (checks v text ends body) ≡ n → (n ≡ 0 → ⊥) → Err n ≡ answered (built v text ends body)
   unfolding built
   refuses n e h = rw (e, ne_eqb n 0 h)
 
-  pub unordered : ends_ascend ends ≡ false → Refused 15 ≡ answered (built v text ends body)
+  pub unordered : ends_ascend ends ≡ false → Err 15 ≡ answered (built v text ends body)
   unfolding checks judge
   unordered a = refuses 15 (rw a) (λ e. omega arith)
 
-  pub past_text : ends_ascend ends ≡ true → length text < start_of ends (length ends) → Refused 15 ≡ answered (built v text ends body)
+  pub past_text : ends_ascend ends ≡ true → length text < start_of ends (length ends) → Err 15 ≡ answered (built v text ends body)
   unfolding checks judge ends_within
   past_text a h = refuses 15 (rw (a, within-not text ends (length ends) h)) (λ e. omega arith)
 
-  pub old_version : EndsOrdered text ends → v < least_version → Refused 15 ≡ answered (built v text ends body)
+  pub old_version : EndsOrdered text ends → v < least_version → Err 15 ≡ answered (built v text ends body)
   unfolding checks judge
   old_version o h = refuses 15 (rw (o.ascends, ends_within_lem o, lt-ltb v least_version h)) (λ e. omega arith)
 
-  pub not_ascii : Current v text ends → ascii (storage_of text ends) ≡ false → Refused 8 ≡ answered (built v text ends body)
+  pub not_ascii : Current v text ends → ascii (storage_of text ends) ≡ false → Err 8 ≡ answered (built v text ends body)
   unfolding checks judge
   not_ascii d h =
       let o : EndsOrdered text ends = d.ordered in
       refuses 8 (rw (o.ascends, ends_within_lem o, le-ltb v least_version d.version, h)) (λ e. omega arith)
 
   module _ (f : AsciiStrings v text ends) where
-    pub not-small : all_small ends ≡ false → Refused 12 ≡ answered (built v text ends body)
+    pub not-small : all_small ends ≡ false → Err 12 ≡ answered (built v text ends body)
     unfolding checks judge
     not-small h =
         let o : EndsOrdered text ends = f.current.ordered in
@@ -231,7 +230,7 @@ pub record BuildAccepted (v : ℕ) (text ends body : List ℕ) (n : ℕ) : Type 
   pub measured : n ≡ length_of (length ends) (length (storage_of text ends)) (length body)
   pub limit : n ≤ size_limit
 
-pub accepted : (v : ℕ) (text ends body : List ℕ) (n : ℕ) → Length n ≡ answered (built v text ends body)
+pub accepted : (v : ℕ) (text ends body : List ℕ) (n : ℕ) → Ok n ≡ answered (built v text ends body)
     → BuildAccepted v text ends body n
 unfolding built checks ends_within
 accepted v text ends body n e =
@@ -254,7 +253,7 @@ accepted v text ends body n e =
     }
 
 -- the same, of an answer that was found to be a length
-pub fine : (v : ℕ) (text ends body : List ℕ) (r : Answer) (n : ℕ) → r ≡ answered (built v text ends body) → r ≡ Length n
+pub fine : (v : ℕ) (text ends body : List ℕ) (r : Result ℕ ℕ) (n : ℕ) → r ≡ answered (built v text ends body) → r ≡ Ok n
     → BuildAccepted v text ends body n
 fine v text ends body r n e f = accepted v text ends body n (sym f ∙ e)
 
@@ -271,7 +270,7 @@ module _ (v : ℕ) (text ends body out : List ℕ) where
   outcome = roomed (length out) (built v text ends body)
 
   -- a refusal goes out as it is
-  pub goes_out : (r : Answer) → r ≡ answered (built v text ends body) → (n : ℕ) → r ≡ Refused n → Answers outcome r out out
+  pub goes_out : (r : Result ℕ ℕ) → r ≡ answered (built v text ends body) → (n : ℕ) → r ≡ Err n → Answers outcome r out out
   unfolding roomed
   goes_out r e n f = go (built v text ends body) e
     where
@@ -286,7 +285,7 @@ module _ (v : ℕ) (text ends body out : List ℕ) where
   unfolding new
   long_as n ok = ok.measured ∙ sym (length-minimal v (storage_of text ends) ends body)
 
-  pub no_room : (n : ℕ) → BuildAccepted v text ends body n → length out < n → Answers outcome (Refused 13) out out
+  pub no_room : (n : ℕ) → BuildAccepted v text ends body n → length out < n → Answers outcome (Err 13) out out
   unfolding new
   no_room n ok h = rw (ok.makes, roomed_short (length out) new (omega (arith, long_as n ok))) (refl, refl)
 
@@ -298,7 +297,7 @@ module _ (v : ℕ) (text ends body out : List ℕ) where
         rw (sub-zero, sub-zero, y.last, length-take-le n out y.room)
         (y.accepted.measured, (y.accepted.limit, y.accepted.ascends))
 
-    pub written_out : (q : Answer) (part : List ℕ)
+    pub written_out : (q : Result ℕ ℕ) (part : List ℕ)
         → Answers (made (minimal v (take (size - 0) (drop 0 text)) ends body)) q (take (n - 0) (drop 0 out)) part
         → Answers outcome q out (put_mid 0 (n - 0) out part)
     unfolding new

@@ -1,4 +1,5 @@
 -- The parts of the image: their lengths, and each written at its place.
+use Rattle.std.specs.Prelude.{Result}
 use mathlib.Core.Path.{◌≡◌, refl, ap, ◌∙◌}
 use mathlib.Core.Bool.{false}
 use mathlib.Core.List.{List, [], ◌++◌, append-nil}
@@ -10,7 +11,6 @@ use lib.ListN.{length, take, drop, replicate, length-append, length-replicate, l
 use lib.Seq.{sets, length-sets}
 use Rattle.bits.specs.Bytes.{bytes_of, up4, zeros_to4}
 use Rattle.bits.specs.Outcome.{Answers, made}
-use Rattle.bits.specs.declared.Answer.{Answer}
 use Rattle.bits.proofs.ListLaws.{AllBelow, below_zeros}
 use Rattle.bits.proofs.ByteLaws.{length-bytes_of}
 use Rattle.bits.proofs.WriteLaws.{sets_then, part_sets}
@@ -21,7 +21,6 @@ use Rattle.format.specs.Number.{number_held, bytes_for, with_number}
 use Rattle.format.specs.Entry.{entry}
 use Rattle.format.proofs.RecordLaws.{Apart}
 use Rattle.format.proofs.NumberLaws.{number_put, number_kept, number_below, Written, number-within}
-use Rattle.header_write.specs.declared.Wrote.{Wrote}
 use Rattle.header_write.specs.Slots.{Writes}
 use Rattle.header_write.specs.Headers.{modern_header, on_header}
 use Rattle.header_write.proofs.HeaderLaws.{length-modern_header}
@@ -71,7 +70,7 @@ length-tail_of begin body = simp (length-append, length-zeros_to4, length-large_
 
 -- ---- the header, in a buffer of zeros
 
-pub header_is : (v n z : ℕ) (r : Wrote) (s : List ℕ)
+pub header_is : (v n z : ℕ) (r : Result (Unit {0}) ℕ) (s : List ℕ)
     → Writes (on_header (modern_header v (replicate source_hash_row.width 0) 1 1 0 n z) (replicate header_length 0)) r
     (replicate header_length 0) s
     → s ≡ header_of v n z
@@ -271,7 +270,7 @@ module _ (v : ℕ) (storage ends body : List ℕ) where
   unfolding minimal
   minimal-is s x e l = rw e (finalized_over (all_but_footer v storage ends body) x (replicate footer_length 0) l refl)
 
-  pub image_made : (o o1 o2 o3 : List ℕ) (r : Answer) → ImageFilled v storage ends body o o1 o2 → Answers (finalize_of o2) r o2 o3
+  pub image_made : (o o1 o2 o3 : List ℕ) (r : Result ℕ ℕ) → ImageFilled v storage ends body o o1 o2 → Answers (finalize_of o2) r o2 o3
       → Answers (made (minimal v storage ends body)) r o o3
   image_made o o1 o2 o3 r y a =
       let m = all_but_footer v storage ends body in

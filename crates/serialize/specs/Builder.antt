@@ -1,12 +1,10 @@
 -- The builder: its refusals in order, and its outcome. 01, Refusal numbers: "Builder: 15, 8, 12, 11, 13".
 -- docs/FORMAT.md: Builder, Order.
-use Rattle.std.specs.Prelude.{Bool, not, List, [], ◌∷◌, ℕ, suc, leb, ltb, length}
+use Rattle.std.specs.Prelude.{Bool, not, List, [], ◌∷◌, ℕ, suc, leb, ltb, length, Err, Ok, Result}
 use Rattle.refusals.specs.Numbers as refusals
 use Rattle.bits.specs.Choice.{pick, all_below, Check, check, judge}
 use Rattle.bits.specs.Bytes.{ascii}
 use Rattle.bits.specs.Outcome.{Outcome, outcome_for}
-use Rattle.bits.specs.declared.Answer.{Answer}
-use Rattle.bits.specs.declared.Answer.TheVariants.{Length, Refused}
 use Rattle.format.specs.Entry.{is_over}
 use Rattle.footer.specs.Finalize.{size_limit}
 use Rattle.serialize.specs.Parts.{start_of, place_of, storage_of, minimal}
@@ -43,5 +41,5 @@ unfoldable pub built : ℕ → List ℕ → List ℕ → List ℕ → Outcome
 built version text ends body = outcome_for (judge (checks version text ends body)) (minimal version (storage_of text ends) ends body)
 
 -- the answer by the length alone
-abbrev pub length_answer : ℕ → Answer
-length_answer n = pick (ltb size_limit n) (Refused refusals.limit) (Length n)
+abbrev pub length_answer : ℕ → Result ℕ ℕ
+length_answer n = pick (ltb size_limit n) (Err refusals.limit) (Ok n)

@@ -16,8 +16,9 @@ ghost use Rattle.serialize.specs.Parts.{start_of, kinds_at, small_at, storage_at
 ghost use Rattle.serialize.specs.Parts.{header_of, record_of, small_table, sections, large_header, tail_of, minimal};
 ghost use Rattle.serialize.specs.Builder.{ends_ascend, all_small, length_answer, built};
 
-use bits::{Answer, Words};
+use bits::Words;
 use header_write::headers;
+use refusals::Refusal;
 
 // The first version with modern headers.
 const LEAST_VERSION: u32 = 97;
@@ -66,34 +67,22 @@ fn body_at(strings: usize, size: usize) -> usize
 
 // ---- Strings.
 
-// A cast in a call of its own, which needs no proof that an element of a slice fits.
-fn wide(x: u32) -> usize
-    ensures { (result ≡ x) × (result < 2 ^ 32) }
-{
-    x as usize
-}
-
 // Where string `i` starts, and the one before it ends.
 fn start_of(ends: &[u32], i: usize) -> usize
     requires { i ≤ length ends.now }
     ensures { (result ≡ start_of ends.now i) × (result < 2 ^ 32) }
 {
-    if i == 0 {
-        return 0;
-    }
-    wide(ends[i - 1])
+    if i == 0 { 0 } else { ends[i - 1] as usize }
 }
 
 // Whether no end is below the one before; the first is held to 0.
 fn ends_ascend(ends: &[u32]) -> bool
     ensures { result ≡ ends_ascend ends.now }
 {
-    let mut i = 0;
-    while i < ends.len() {
+    for i in 0..ends.len() {
         if start_of(ends, i + 1) < start_of(ends, i) {
             return false;
         }
-        i += 1;
     }
     true
 }
@@ -102,8 +91,7 @@ fn ends_ascend(ends: &[u32]) -> bool
 fn all_small(ends: &[u32]) -> bool
     ensures { result ≡ all_small ends.now }
 {
-    let mut i = 0;
-    while i < ends.len() {
+    for i in 0..ends.len() {
         let start = start_of(ends, i);
         if format::FAR <= start {
             return false;
@@ -111,7 +99,6 @@ fn all_small(ends: &[u32]) -> bool
         if start + format::LONG <= start_of(ends, i + 1) {
             return false;
         }
-        i += 1;
     }
     true
 }
@@ -120,45 +107,45 @@ fn all_small(ends: &[u32]) -> bool
 
 // The length of an image, or the refusal of one that is too long. A count that is over the limit by
 // itself is refused before it is part of a sum.
-fn limited(strings: usize, size: usize, body: usize) -> Answer
+fn limited(strings: usize, size: usize, body: usize) -> Result<usize, Refusal>
     requires { size < 2 ^ 32 }
     ensures { result ≡ length_answer (length_of strings size body) }
 {
     if footer::SIZE_LIMIT < strings {
-        return Answer::Refused(refusals::LIMIT);
+        return Err(refusals::LIMIT);
     }
     if footer::SIZE_LIMIT < body {
-        return Answer::Refused(refusals::LIMIT);
+        return Err(refusals::LIMIT);
     }
     let large_at = bits::up4(body_at(strings, size) + body);
     let length = large_at + format::width(format::MODERN_LARGE_WHOLE) + footer::FOOTER_LEN;
     if footer::SIZE_LIMIT < length {
-        return Answer::Refused(refusals::LIMIT);
+        return Err(refusals::LIMIT);
     }
-    Answer::Length(length)
+    Ok(length)
 }
 
 // The length of the image, or why there is none.
-fn measure(version: u32, text: &[u8], ends: &[u32], body: &[u8]) -> Answer
+fn measure(version: u32, text: &[u8], ends: &[u32], body: &[u8]) -> Result<usize, Refusal>
     ensures { result ≡ answered (built version text.now ends.now body.now) }
 {
     if !ends_ascend(ends) {
-        return Answer::Refused(refusals::JOB);
+        return Err(refusals::JOB);
     }
     let size = start_of(ends, ends.len());
     let given = text.len();
     if given < size {
-        return Answer::Refused(refusals::JOB);
+        return Err(refusals::JOB);
     }
     if version < LEAST_VERSION {
-        return Answer::Refused(refusals::JOB);
+        return Err(refusals::JOB);
     }
     let storage = &text[0..size];
     if !bits::ascii(storage) {
-        return Answer::Refused(refusals::VALUE);
+        return Err(refusals::VALUE);
     }
     if !all_small(ends) {
-        return Answer::Refused(refusals::FIELD);
+        return Err(refusals::FIELD);
     }
     limited(ends.len(), size, body.len())
 }
@@ -172,7 +159,7 @@ fn put_header(image: &mut [u8], version: u32, strings: u32, size: u32)
 {
     let mut header = [0u8; format::HEADER_LEN];
     let hash = [0u8; format::SOURCE_HASH_LEN];
-    headers::write_modern_header(&mut header, version, hash, 1, 1, 0, strings, size);
+    let _ = headers::write_modern_header(&mut header, version, hash, 1, 1, 0, strings, size);
     bits::put_bytes(image, 0, &header);
 }
 
@@ -207,8 +194,7 @@ fn put_small_table(image: &mut [u8], ends: &[u32])
     ensures { image.new ≡ sets image.old small_at
         (small_table ends.now (length ends.now)) }
 {
-    let mut i = 0;
-    while i < ends.len() {
+    for i in 0..ends.len() {
         let start = start_of(ends, i);
         let len = start_of(ends, i + 1) - start;
         bits::put_word(
@@ -216,7 +202,6 @@ fn put_small_table(image: &mut [u8], ends: &[u32])
             storage_at(i),
             format::entry(false, start as u64, len as u64),
         );
-        i += 1;
     }
 }
 
@@ -268,7 +253,13 @@ fn put_tail(image: &mut [u8], begin: usize, body: &[u8])
 }
 
 // The whole image, in a buffer of its length.
-fn put_image(image: &mut [u8], version: u32, storage: &[u8], ends: &[u32], body: &[u8]) -> Answer
+fn put_image(
+    image: &mut [u8],
+    version: u32,
+    storage: &[u8],
+    ends: &[u32],
+    body: &[u8],
+) -> Result<usize, Refusal>
     requires image_len { length image.old ≡ length_of (length ends.now) (length storage.now) (length body.now) }
     requires image_len_bound { length image.old ≤ size_limit }
     requires ends_value { ends_ascend ends.now ≡ true }
@@ -292,17 +283,14 @@ pub fn build_minimal_modern(
     ends: &[u32],
     body: &[u8],
     out: &mut [u8],
-) -> Answer
+) -> Result<usize, Refusal>
     ensures { Answers
         (roomed (length out.old) (built version text.now ends.now body.now)) result
         out.old out.new }
 {
-    let measured = measure(version, text, ends, body);
-    let Answer::Length(length) = measured else {
-        return measured;
-    };
+    let length = measure(version, text, ends, body)?;
     if out.len() < length {
-        return Answer::Refused(refusals::ROOM);
+        return Err(refusals::ROOM);
     }
     let size = start_of(ends, ends.len());
     put_image(&mut out[0..length], version, &text[0..size], ends, body)

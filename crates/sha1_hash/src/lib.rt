@@ -44,13 +44,11 @@ fn most(x: u32, y: u32, z: u32) -> u32
 fn mixed(quarter: usize, x: u32, y: u32, z: u32) -> u32
     ensures { result ≡ f_in quarter x y z }
 {
-    if quarter == 0 {
-        return choose(x, y, z);
+    match quarter {
+        0 => choose(x, y, z),
+        2 => most(x, y, z),
+        _ => odd(x, y, z),
     }
-    if quarter == 2 {
-        return most(x, y, z);
-    }
-    odd(x, y, z)
 }
 
 // The constant of a quarter of the rounds.
@@ -71,19 +69,12 @@ fn turn(v: [u32; 5], f: u32, k: u32, w: u32) -> [u32; 5]
     [t, v[0], c, v[2], v[3]]
 }
 
-fn widened(b: u8) -> u32
-    ensures { (result ≡ b) × (result < 256) }
-{
-    b as u32
-}
-
 // The word of 4 bytes from `at` on.
 fn big_word(s: &[u8], at: usize) -> u32
     requires { at + 4 ≤ length s.now }
     ensures { result ≡ big_at s.now at 4 }
 {
-    ((widened(s[at]) * 256 + widened(s[at + 1])) * 256 + widened(s[at + 2])) * 256
-        + widened(s[at + 3])
+    ((s[at] as u32 * 256 + s[at + 1] as u32) * 256 + s[at + 2] as u32) * 256 + s[at + 3] as u32
 }
 
 fn next_word(a: u32, b: u32, c: u32, d: u32) -> u32
@@ -120,8 +111,10 @@ fn begin(h: [u32; 5], block: &[u8]) -> Work
     requires { 64 ≤ length block.now }
     ensures { AtRound h block.now 0 result.v result.ring }
 {
-    let empty = [0u32; 16];
-    Work { v: h, ring: empty }
+    Work {
+        v: h,
+        ring: [0; 16],
+    }
 }
 
 // Step 3: round t. Its word takes the place of W_(t-16), which no later word needs. Where a call
@@ -137,128 +130,32 @@ fn round(h: [u32; 5], block: &[u8], s: Work, t: usize) -> Work
     let w = word(ring, block, t);
     ring[t % 16] = w;
     let next = turn(v, f, constant(t / 20), w);
-    Work {
-        v: next,
-        ring: ring,
-    }
+    Work { v: next, ring }
 }
 
-// Step 3 is written out, in five turns of the ring: where a round's number stands in its call, its
-// places in the ring are numbers in the compiled code. A loop would reckon five for each word.
-
-// The rounds 0 to 15.
-fn rounds_from_0(h: [u32; 5], block: &[u8], s0: Work) -> Work
-    requires { AtRound h block.now 0 s0.v s0.ring }
-    ensures { AtRound h block.now 16 result.v result.ring }
+// Sixteen rounds, a turn of the ring. They are written out, and the first of them is a parameter of
+// the function itself: so a round's number, and with it its places in the ring, are numbers in the
+// compiled code. A loop would reckon five for each word.
+fn sixteen_rounds<const FROM: usize>(h: [u32; 5], block: &[u8], s0: Work) -> Work
+    requires { (FROM + 16 ≤ 80) × AtRound h block.now FROM s0.v s0.ring }
+    ensures { AtRound h block.now (FROM + 16) result.v result.ring }
 {
-    let s1 = round(h, block, s0, 0);
-    let s2 = round(h, block, s1, 1);
-    let s3 = round(h, block, s2, 2);
-    let s4 = round(h, block, s3, 3);
-    let s5 = round(h, block, s4, 4);
-    let s6 = round(h, block, s5, 5);
-    let s7 = round(h, block, s6, 6);
-    let s8 = round(h, block, s7, 7);
-    let s9 = round(h, block, s8, 8);
-    let s10 = round(h, block, s9, 9);
-    let s11 = round(h, block, s10, 10);
-    let s12 = round(h, block, s11, 11);
-    let s13 = round(h, block, s12, 12);
-    let s14 = round(h, block, s13, 13);
-    let s15 = round(h, block, s14, 14);
-    round(h, block, s15, 15)
-}
-
-// The rounds 16 to 31.
-fn rounds_from_16(h: [u32; 5], block: &[u8], s16: Work) -> Work
-    requires { AtRound h block.now 16 s16.v s16.ring }
-    ensures { AtRound h block.now 32 result.v result.ring }
-{
-    let s17 = round(h, block, s16, 16);
-    let s18 = round(h, block, s17, 17);
-    let s19 = round(h, block, s18, 18);
-    let s20 = round(h, block, s19, 19);
-    let s21 = round(h, block, s20, 20);
-    let s22 = round(h, block, s21, 21);
-    let s23 = round(h, block, s22, 22);
-    let s24 = round(h, block, s23, 23);
-    let s25 = round(h, block, s24, 24);
-    let s26 = round(h, block, s25, 25);
-    let s27 = round(h, block, s26, 26);
-    let s28 = round(h, block, s27, 27);
-    let s29 = round(h, block, s28, 28);
-    let s30 = round(h, block, s29, 29);
-    let s31 = round(h, block, s30, 30);
-    round(h, block, s31, 31)
-}
-
-// The rounds 32 to 47.
-fn rounds_from_32(h: [u32; 5], block: &[u8], s32: Work) -> Work
-    requires { AtRound h block.now 32 s32.v s32.ring }
-    ensures { AtRound h block.now 48 result.v result.ring }
-{
-    let s33 = round(h, block, s32, 32);
-    let s34 = round(h, block, s33, 33);
-    let s35 = round(h, block, s34, 34);
-    let s36 = round(h, block, s35, 35);
-    let s37 = round(h, block, s36, 36);
-    let s38 = round(h, block, s37, 37);
-    let s39 = round(h, block, s38, 38);
-    let s40 = round(h, block, s39, 39);
-    let s41 = round(h, block, s40, 40);
-    let s42 = round(h, block, s41, 41);
-    let s43 = round(h, block, s42, 42);
-    let s44 = round(h, block, s43, 43);
-    let s45 = round(h, block, s44, 44);
-    let s46 = round(h, block, s45, 45);
-    let s47 = round(h, block, s46, 46);
-    round(h, block, s47, 47)
-}
-
-// The rounds 48 to 63.
-fn rounds_from_48(h: [u32; 5], block: &[u8], s48: Work) -> Work
-    requires { AtRound h block.now 48 s48.v s48.ring }
-    ensures { AtRound h block.now 64 result.v result.ring }
-{
-    let s49 = round(h, block, s48, 48);
-    let s50 = round(h, block, s49, 49);
-    let s51 = round(h, block, s50, 50);
-    let s52 = round(h, block, s51, 51);
-    let s53 = round(h, block, s52, 52);
-    let s54 = round(h, block, s53, 53);
-    let s55 = round(h, block, s54, 54);
-    let s56 = round(h, block, s55, 55);
-    let s57 = round(h, block, s56, 56);
-    let s58 = round(h, block, s57, 57);
-    let s59 = round(h, block, s58, 58);
-    let s60 = round(h, block, s59, 59);
-    let s61 = round(h, block, s60, 60);
-    let s62 = round(h, block, s61, 61);
-    let s63 = round(h, block, s62, 62);
-    round(h, block, s63, 63)
-}
-
-// The rounds 64 to 79.
-fn rounds_from_64(h: [u32; 5], block: &[u8], s64: Work) -> Work
-    requires { AtRound h block.now 64 s64.v s64.ring }
-    ensures { AtRound h block.now 80 result.v result.ring }
-{
-    let s65 = round(h, block, s64, 64);
-    let s66 = round(h, block, s65, 65);
-    let s67 = round(h, block, s66, 66);
-    let s68 = round(h, block, s67, 67);
-    let s69 = round(h, block, s68, 68);
-    let s70 = round(h, block, s69, 69);
-    let s71 = round(h, block, s70, 70);
-    let s72 = round(h, block, s71, 71);
-    let s73 = round(h, block, s72, 72);
-    let s74 = round(h, block, s73, 73);
-    let s75 = round(h, block, s74, 74);
-    let s76 = round(h, block, s75, 75);
-    let s77 = round(h, block, s76, 76);
-    let s78 = round(h, block, s77, 77);
-    let s79 = round(h, block, s78, 78);
-    round(h, block, s79, 79)
+    let s1 = round(h, block, s0, FROM);
+    let s2 = round(h, block, s1, FROM + 1);
+    let s3 = round(h, block, s2, FROM + 2);
+    let s4 = round(h, block, s3, FROM + 3);
+    let s5 = round(h, block, s4, FROM + 4);
+    let s6 = round(h, block, s5, FROM + 5);
+    let s7 = round(h, block, s6, FROM + 6);
+    let s8 = round(h, block, s7, FROM + 7);
+    let s9 = round(h, block, s8, FROM + 8);
+    let s10 = round(h, block, s9, FROM + 9);
+    let s11 = round(h, block, s10, FROM + 10);
+    let s12 = round(h, block, s11, FROM + 11);
+    let s13 = round(h, block, s12, FROM + 12);
+    let s14 = round(h, block, s13, FROM + 13);
+    let s15 = round(h, block, s14, FROM + 14);
+    round(h, block, s15, FROM + 15)
 }
 
 // All rounds.
@@ -267,13 +164,12 @@ fn all_rounds(h: [u32; 5], block: &[u8]) -> [u32; 5]
     ensures { result ≡ rounds 0 80 h (schedule block.now) }
 {
     let s0 = begin(h, block);
-    let s16 = rounds_from_0(h, block, s0);
-    let s32 = rounds_from_16(h, block, s16);
-    let s48 = rounds_from_32(h, block, s32);
-    let s64 = rounds_from_48(h, block, s48);
-    let s80 = rounds_from_64(h, block, s64);
-    let v = s80.v;
-    v
+    let s16 = sixteen_rounds::<0>(h, block, s0);
+    let s32 = sixteen_rounds::<16>(h, block, s16);
+    let s48 = sixteen_rounds::<32>(h, block, s32);
+    let s64 = sixteen_rounds::<48>(h, block, s48);
+    let s80 = sixteen_rounds::<64>(h, block, s64);
+    s80.v
 }
 
 // Step 4.
@@ -303,12 +199,9 @@ fn hash_blocks(h: [u32; 5], s: &[u8], n: usize) -> [u32; 5]
     ensures { result ≡ hashes n h s.now }
 {
     let mut g = h;
-    let mut i = 0;
-    while i < n {
-        let at = i * 64;
-        let next = hash_block(g, &s[at..at + 64]);
+    for i in 0..n {
+        let next = hash_block(g, &s[i * 64..i * 64 + 64]);
         g = next;
-        i += 1;
     }
     g
 }
@@ -377,6 +270,5 @@ pub fn sha1(s: &[u8]) -> [u8; 20]
 pub extern "C" fn nepuladrim_sha1(s: &[u8], out: &mut [u8; 20])
     ensures { out.new ≡ digest s.now }
 {
-    let d = sha1(s);
-    *out = d;
+    *out = sha1(s);
 }

@@ -61,16 +61,11 @@ pub fn value_at<'a>(text: &'a [u8], ends: &[u32], j: usize) -> &'a [u8]
 fn is_split(text: &[u8], ends: &[u32]) -> bool
     ensures { result ≡ is_split text.now ends.now }
 {
-    let mut j = 0;
-    while j < ends.len() {
+    for j in 0..ends.len() {
         let end = start_of(ends, j + 1);
-        if end < start_of(ends, j) {
+        if end < start_of(ends, j) || text.len() < end {
             return false;
         }
-        if text.len() < end {
-            return false;
-        }
-        j += 1;
     }
     true
 }
@@ -79,22 +74,17 @@ fn is_split(text: &[u8], ends: &[u32]) -> bool
 pub fn is_list(ids: &[u32], text: &[u8], ends: &[u32]) -> bool
     ensures { result ≡ is_list ids.now text.now ends.now }
 {
-    if ends.len() != ids.len() {
-        return false;
-    }
-    is_split(text, ends)
+    ends.len() == ids.len() && is_split(text, ends)
 }
 
 // Whether each id is one of `strings` strings.
 pub fn are_known(ids: &[u32], strings: usize) -> bool
     ensures { result ≡ all_known (λ j. get_or ids.now j 0) (length ids.now) strings }
 {
-    let mut j = 0;
-    while j < ids.len() {
-        if strings <= wide(ids[j]) {
+    for id in ids {
+        if strings <= wide(*id) {
             return false;
         }
-        j += 1;
     }
     true
 }
@@ -104,12 +94,10 @@ fn is_new(ids: &[u32], j: usize) -> bool
     requires { j < length ids.now }
     ensures { result ≡ is_new (λ i. get_or ids.now i 0) j }
 {
-    let mut i = 0;
-    while i < j {
+    for i in 0..j {
         if ids[i] == ids[j] {
             return false;
         }
-        i += 1;
     }
     true
 }
@@ -118,12 +106,10 @@ fn is_new(ids: &[u32], j: usize) -> bool
 pub fn are_different(ids: &[u32]) -> bool
     ensures { result ≡ all_differ (λ j. get_or ids.now j 0) (length ids.now) }
 {
-    let mut j = 0;
-    while j < ids.len() {
+    for j in 0..ids.len() {
         if !is_new(ids, j) {
             return false;
         }
-        j += 1;
     }
     true
 }
@@ -133,12 +119,10 @@ pub fn are_utf8(text: &[u8], ends: &[u32]) -> bool
     requires { (j : ℕ) → j < length ends.now → Within text.now ends.now j }
     ensures { result ≡ all_utf8 (value_in text.now ends.now) (length ends.now) }
 {
-    let mut j = 0;
-    while j < ends.len() {
+    for j in 0..ends.len() {
         if !utf::is_utf8(value_at(text, ends, j)) {
             return false;
         }
-        j += 1;
     }
     true
 }
@@ -151,10 +135,7 @@ fn nearer(ids: &[u32], from: usize, best: Next, j: usize) -> Next
     ensures { NearestOf ids.now from (suc j) result }
 {
     let id = wide(ids[j]);
-    if id < from {
-        return best;
-    }
-    if best.id <= id {
+    if id < from || best.id <= id {
         return best;
     }
     Next { edit: j, id }
@@ -166,10 +147,8 @@ fn next_listed(ids: &[u32], from: usize) -> Next
     ensures { NextOf (told Ids ids.now) from result }
 {
     let mut best = Next { edit: 0, id: NONE };
-    let mut j = 0;
-    while j < ids.len() {
+    for j in 0..ids.len() {
         best = nearer(ids, from, best, j);
-        j += 1;
     }
     best
 }
@@ -180,13 +159,11 @@ fn next_marked(marks: &[u32], from: usize) -> Next
     requires { from ≤ 4294967296 }
     ensures { NextOf (told Marks marks.now) from result }
 {
-    let mut id = from;
-    while id < marks.len() {
+    for id in from..marks.len() {
         let mark = wide(marks[id]);
         if mark > 0 {
             return Next { edit: mark - 1, id };
         }
-        id += 1;
     }
     Next { edit: 0, id: NONE }
 }

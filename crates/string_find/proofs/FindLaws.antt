@@ -1,4 +1,5 @@
 -- Units compared where they stand, and the pass that finds a string.
+use Rattle.std.specs.Prelude.{Ok, Err}
 use mathlib.Core.Path.{◌≡◌, refl, ap, sym, ◌∙◌, subst}
 use mathlib.Core.Bool.{Bool, true, false, not}
 use mathlib.Core.List.{List, [], ◌∷◌, ◌++◌}
@@ -24,7 +25,6 @@ use Rattle.sections.specs.declared.Places.{Places}
 use Rattle.sections.specs.Places.{Placed}
 use Rattle.sections.proofs.SectionLaws.{sectioned}
 use Rattle.string_walk.specs.declared.Counts.{Counts}
-use Rattle.string_walk.specs.declared.Location.TheVariants.{At, Refused}
 use Rattle.string_walk.specs.declared.StringRecord.{StringRecord}
 use Rattle.string_walk.specs.Places.{Stands, Locates}
 use Rattle.string_walk.specs.Units.{unit_at}
@@ -263,11 +263,12 @@ module _ (p : Places) (s units : List ℕ) where
       → (q : StringRecord) (n : Counts)
       → Stands p s i q
       → n ≡ visits p.layout s i
-      → Locates p s (find_id p.layout s units) refusals.absent (At i q n)
+      → Locates p s (find_id p.layout s units) refusals.absent
+      (Ok (record { id = i; string = q; counts = n }))
   found_at i t h g q n st v =
       let x : i ≡ find_id p.layout s units = found p s units i t (find_id p.layout s units) h g in
       (x, rw x at h.known, subst (λ (j : ℕ). Stands p s j q) x st, v ∙ ap (visits p.layout s) x)
 
   pub found_none : (i : ℕ) → p.strings ≤ i → find_from p.layout s units i (p.strings - i) ≡ find_id p.layout s units
-      → Locates p s (find_id p.layout s units) refusals.absent (Refused refusals.absent)
+      → Locates p s (find_id p.layout s units) refusals.absent (Err refusals.absent)
   found_none i h e = (refl, rw (find_end i (find_id p.layout s units) h e) at h)

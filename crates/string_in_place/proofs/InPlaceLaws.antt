@@ -1,4 +1,5 @@
 -- Values over the bytes of their strings.
+use Rattle.std.specs.Prelude.{Err, Result}
 use mathlib.Core.Path.{◌≡◌, refl, ap, sym, ◌∙◌}
 use mathlib.Core.Bool.{Bool, true, false, not}
 use mathlib.Core.Logic.{inl, inr}
@@ -14,8 +15,6 @@ use lib.Seq.{sets, length-sets}
 use Rattle.bits.specs.Choice.{both, judge}
 use Rattle.bits.specs.Bytes.{ascii}
 use Rattle.bits.specs.Outcome.{Answers, made, roomed}
-use Rattle.bits.specs.declared.Answer.{Answer}
-use Rattle.bits.specs.declared.Answer.TheVariants.{Refused}
 use Rattle.bits.proofs.TestLaws.{which, both_0, both_1, both_of}
 use Rattle.bits.proofs.WriteLaws.{sets_all}
 use Rattle.format.specs.declared.Layout.{Layout}
@@ -43,24 +42,6 @@ use Rattle.string_in_place.specs.Patch.{new_length, patch_fits, patch_known}
 use Rattle.string_in_place.proofs.FinishLaws.{answers_over, length-finished, Makes, room_short, room-written}
 
 -- ---- the test of one value
-
--- where the first two tests are met, the last one decides
-last : (a b c : Bool) → a ≡ false → b ≡ true → c ≡ both (not a) (both b c)
-last a b c e f = rw (e, f)
-
-module _ (q : entry.Place) (value : List ℕ) where
-  pub is_wide : q.wide ≡ true → false ≡ sized_at q value
-  is_wide t = rw t
-
-  -- the string is narrow, and the value was tested
-  module _ (narrow : q.wide ≡ false) (a : Bool) (tested : a ≡ ascii value) where
-    pub not_ascii : not a ≡ true → false ≡ sized_at q value
-    not_ascii f = rw (narrow, ← tested, not-true a f)
-
-    pub of_size : not a ≡ false → (n : ℕ) → n ≡ size_of q → eqb (length value) n ≡ sized_at q value
-    of_size f n e =
-        ap (λ (k : ℕ). eqb (length value) k) e
-        ∙ last q.wide (ascii value) (eqb (length value) (size_of q)) narrow (sym tested ∙ not-false a f)
 
 -- the test by size, and the one by overlaps
 abbrev is_sized : Layout → List ℕ → ℕ → List ℕ → Bool
@@ -196,7 +177,7 @@ module _ (p : Places) (s : List ℕ) (edits : Told) (text ends : List ℕ) (c : 
       length-finished p.layout s gets (in_place p.layout s gets s) (omega (arith, e, finishable.least)) ∙ e
 
   -- the image is copied to a buffer of its length, the values are put over, and the end is finalized
-  pub in_place_lem : (out o₁ o₂ o₃ : List ℕ) (r : Answer) → length out ≡ length s → o₁ ≡ sets out 0 s
+  pub in_place_lem : (out o₁ o₂ o₃ : List ℕ) (r : Result ℕ ℕ) → length out ≡ length s → o₁ ≡ sets out 0 s
       → o₂ ≡ in_place p.layout s gets o₁
       → Answers (made (finished p.layout s gets o₂)) r o₂ o₃ → Answers (made done) r out o₃
   unfolding patched_in_place
@@ -213,10 +194,10 @@ module _ (p : Places) (s : List ℕ) (edits : Told) (text ends : List ℕ) (c : 
   makes : Makes (made done) done (length s)
   makes = record { is = refl; long = length_done }
 
-  pub in_short : (out : List ℕ) → length out < length s → Answers (roomed (length out) (made done)) (Refused 13) out out
+  pub in_short : (out : List ℕ) → length out < length s → Answers (roomed (length out) (made done)) (Err 13) out out
   in_short out h = room_short _ done out (length s) makes h
 
-  pub in_room : (out : List ℕ) → length s ≤ length out → (part : List ℕ) (r : Answer)
+  pub in_room : (out : List ℕ) → length s ≤ length out → (part : List ℕ) (r : Result ℕ ℕ)
       → Answers (made done) r (take (length s - 0) (drop 0 out)) part
       → Answers (roomed (length out) (made done)) r out (put_mid 0 (length s - 0) out part)
   in_room out h part r a = room-written _ done out (length s) makes h part r a

@@ -1,5 +1,5 @@
 -- What the functions of a string patch go by.
-use Rattle.std.specs.Prelude.{◌≡◌, Bool, true, not, List, ℕ, ◌+◌, ◌≤◌, ◌<◌, eqb, length}
+use Rattle.std.specs.Prelude.{◌≡◌, Bool, true, not, List, ℕ, ◌+◌, ◌≤◌, ◌<◌, eqb, length, None, Option, Some}
 use Rattle.std.proofs.lemmas.List.Edits.{sets}
 use Rattle.bits.specs.Choice.{pick, both}
 use Rattle.bits.specs.Bytes.{ascii}
@@ -13,8 +13,6 @@ use Rattle.image.specs.Strings.{place_at, size_of}
 use Rattle.sections.specs.declared.Places.{Places}
 use Rattle.sections.specs.Places.{Laid}
 use Rattle.string_overlap.specs.Overlap.{is_alone}
-use Rattle.string_walk.specs.declared.Rank.{Rank}
-use Rattle.string_walk.specs.declared.Rank.TheVariants.{At, Plain}
 use Rattle.string_walk.specs.declared.Cursor.{Cursor}
 use Rattle.string_walk.specs.Places.{CursorOf}
 use Rattle.string_edits.specs.Told.{Told, Tells, values_in, Listed}
@@ -51,13 +49,13 @@ pub record Overwritten (p : Places) (s : List ℕ) (edits : Told) (text ends : L
 -- ---- the end of a patch, by the rank that a record carries
 
 -- the hash of units in the slot of a rank, where the slots start at a place; a plain string has none
-abbrev pub slotted : ℕ → Rank → List ℕ → List ℕ → List ℕ
-slotted slots (At k) units out = sets out (entry_at slots hash_entry k) (bytes_for hash_entry (hash_of units))
-slotted slots Plain units out = out
+abbrev pub slotted : ℕ → Option ℕ → List ℕ → List ℕ → List ℕ
+slotted slots (Some k) units out = sets out (entry_at slots hash_entry k) (bytes_for hash_entry (hash_of units))
+slotted slots None units out = out
 
 -- a buffer of n bytes holds the slot of a rank
-pub record SlotFits (slots : ℕ) (rank : Rank) (n : ℕ) : Type 0 where
-  pub slot : (k : ℕ) → rank ≡ At k → entry_at slots hash_entry k + hash_entry.width ≤ n
+pub record SlotFits (slots : ℕ) (rank : Option ℕ) (n : ℕ) : Type 0 where
+  pub slot : (k : ℕ) → rank ≡ Some k → entry_at slots hash_entry k + hash_entry.width ≤ n
   pub limit : n ≤ size_limit
 
 -- a buffer of n bytes holds all hash slots of an image, and is as long as an image may be

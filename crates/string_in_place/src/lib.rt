@@ -14,11 +14,11 @@ ghost use Rattle.string_edits.specs.Told.{told, Tells, values_in};
 ghost use Rattle.string_in_place.specs.Known.{FirstOf, Given, sized_at, tested, Overwritten, slotted, SlotFits, Finishable};
 ghost use Rattle.string_in_place.specs.Patch.{fits_in_place, fits_all, in_place, rehashed, finished, patched_in_place};
 
-use bits::Answer;
+use refusals::Refusal;
 use sections::Places;
 use string_edits::Form;
 use string_tables::Place;
-use string_walk::{Cursor, Rank, StringRecord};
+use string_walk::{Cursor, StringRecord};
 
 // Where a pass over the edited strings starts: at the first of them.
 pub fn first_edited(image: &[u8], p: Places, form: Form, words: &[u32]) -> Cursor
@@ -37,11 +37,11 @@ pub fn first_edited(image: &[u8], p: Places, form: Form, words: &[u32]) -> Curso
 // ---- the end of every patch
 
 // The hash of a value in the slot of a rank; a plain string has none.
-fn put_hash(out: &mut [u8], slots: usize, rank: Rank, value: &[u8])
+fn put_hash(out: &mut [u8], slots: usize, rank: Option<usize>, value: &[u8])
     requires { SlotFits slots rank (length out.old) }
     ensures { out.new ≡ slotted slots rank (utf16 value.now) out.old }
 {
-    let Rank::At(k) = rank else {
+    let Some(k) = rank else {
         return;
     };
     let slot = sections::entry_at(slots, k, format::HASH_ENTRY);
@@ -65,6 +65,7 @@ fn put_hashes(
 {
     let mut c = from;
     let mut due = string_edits::next_edit(form, words, c.id);
+    // Stays a while loop: it goes on from edit to edit, and counts no index.
     while due.id < string_edits::NONE {
         let at = string_walk::string_from(image, p, c, due.id);
         let step = string_walk::string_at(image, p, at);
@@ -91,7 +92,7 @@ pub fn finish(
     words: &[u32],
     text: &[u8],
     ends: &[u32],
-) -> Answer
+) -> Result<usize, Refusal>
     requires { Given p image.now (told form words.now) text.now ends.now from × Finishable p (length out.old) }
     ensures { Answers (made (finished p.layout image.now
         (values_in (told form words.now) text.now ends.now) out.old)) result out.old
@@ -108,13 +109,7 @@ fn is_sized(place: Place, value: &[u8]) -> bool
     requires { place.count < 4294967296 }
     ensures { result ≡ sized_at (as_place place) value.now }
 {
-    if place.wide {
-        return false;
-    }
-    if !bits::ascii(value) {
-        return false;
-    }
-    value.len() == string_tables::size_of(place)
+    !place.wide && bits::ascii(value) && value.len() == string_tables::size_of(place)
 }
 
 // Whether an edit of string `id`, whose record is `own`, passes a test: that of its size or, for
@@ -143,10 +138,7 @@ pub fn fits_in_place(image: &[u8], p: Places, id: usize, own: StringRecord, valu
     requires stands { Stands p image.now id own }
     ensures { result ≡ fits_in_place p.layout image.now id value.now }
 {
-    if !passes(image, p, id, own, value, false) {
-        return false;
-    }
-    passes(image, p, id, own, value, true)
+    passes(image, p, id, own, value, false) && passes(image, p, id, own, value, true)
 }
 
 // Whether each edit passes that test.
@@ -166,6 +158,7 @@ fn all_pass(
 {
     let mut c = from;
     let mut next = string_edits::next_edit(form, words, c.id);
+    // Stays a while loop: it goes on from edit to edit, and counts no index.
     while next.id < string_edits::NONE {
         let at = string_walk::string_from(image, p, c, next.id);
         let step = string_walk::string_at(image, p, at);
@@ -195,12 +188,8 @@ fn are_alone(
     ensures { result ≡ all_edited (values_in (told form words.now) text.now ends.now)
         (tested true p.layout image.now) (strings_in image.now) }
 {
-    if words.len() > 1 {
-        if string_overlap::are_in_row(image, p) {
-            return true;
-        }
-    }
-    all_pass(image, p, from, form, words, text, ends, true)
+    (words.len() > 1 && string_overlap::are_in_row(image, p))
+        || all_pass(image, p, from, form, words, text, ends, true)
 }
 
 // Whether every edit could be in place on the image as given. The sizes of all come first: one edit
@@ -218,10 +207,8 @@ pub fn fits_all(
     ensures { result ≡ fits_all p.layout image.now
         (values_in (told form words.now) text.now ends.now) }
 {
-    if !all_pass(image, p, from, form, words, text, ends, false) {
-        return false;
-    }
-    are_alone(image, p, from, form, words, text, ends)
+    all_pass(image, p, from, form, words, text, ends, false)
+        && are_alone(image, p, from, form, words, text, ends)
 }
 
 // The values over the old bytes, in a buffer of the image's length.
@@ -242,6 +229,7 @@ fn put_values(
 {
     let mut c = from;
     let mut next = string_edits::next_edit(form, words, c.id);
+    // Stays a while loop: it goes on from edit to edit, and counts no index.
     while next.id < string_edits::NONE {
         let at = string_walk::string_from(image, p, c, next.id);
         let step = string_walk::string_at(image, p, at);
@@ -262,7 +250,7 @@ fn put_in_place(
     words: &[u32],
     text: &[u8],
     ends: &[u32],
-) -> Answer
+) -> Result<usize, Refusal>
     requires { Overwritten p image.now (told form words.now) text.now ends.now from
         × (length out.old ≡ length image.now) }
     ensures { Answers (made (patched_in_place p.layout image.now
@@ -284,14 +272,14 @@ pub fn patch_in_place(
     words: &[u32],
     text: &[u8],
     ends: &[u32],
-) -> Answer
+) -> Result<usize, Refusal>
     requires { Overwritten p image.now (told form words.now) text.now ends.now from }
     ensures { Answers (roomed (length out.old) (made (patched_in_place p.layout image.now
         (values_in (told form words.now) text.now ends.now)))) result out.old out.new }
 {
     let n = image.len();
     if out.len() < n {
-        return Answer::Refused(refusals::ROOM);
+        return Err(refusals::ROOM);
     }
     put_in_place(&mut out[0..n], image, p, from, form, words, text, ends)
 }

@@ -1,5 +1,6 @@
 -- The index of an image: what a pass fills in, what it tells, and that a look-up in it equals the walk; the answers of filling and of a
 -- look-up, one law for each way out.
+use Rattle.std.specs.Prelude.{Err, Ok, Result}
 use mathlib.Core.Path.{◌≡◌, refl, ap, sym, ◌∙◌, subst⁻¹}
 use mathlib.Core.Bool.{Bool, true, false}
 use mathlib.Core.Logic.{inl, inr}
@@ -24,9 +25,7 @@ use Rattle.sections.specs.declared.Places.{Places}
 use Rattle.sections.specs.Places.{places_of, Placed}
 use Rattle.sections.specs.Places as places
 use Rattle.sections.proofs.SectionLaws.{Sectioned, sectioned}
-use Rattle.admission.specs.declared.Admission.{Admission}
-use Rattle.admission.specs.declared.Admission.TheVariants as admission-is
-use Rattle.admission.specs.Admission.{admission, number_of}
+use Rattle.admission.specs.Admission.{admission}
 use Rattle.admission.proofs.AnswerLaws.{is-laid, judged_none, refused_is, refused_then, laid-is, laid_then, laid_layout}
 use Rattle.string_tables.specs.Strings.{as_place}
 use Rattle.string_walk.specs.declared.StringRecord.{StringRecord}
@@ -36,8 +35,6 @@ use Rattle.string_walk.proofs.RankLaws.{ranked_flag}
 use Rattle.string_walk.proofs.RecordLaws.{record_is}
 use Rattle.string_walk.proofs.WalkLaws.{count_in}
 use Rattle.string_index.specs.declared.Entry.{Entry}
-use Rattle.string_index.specs.declared.Filled.TheVariants as Filled-is
-use Rattle.string_index.specs.declared.Lookup.TheVariants as lookup-is
 use Rattle.string_index.specs.declared.HeldString.{HeldString}
 use Rattle.string_index.specs.Index.{flags_of, entry_of, runs, index_of, words_for, fill_refusal, filled_as, index_after, admitted_as}
 use Rattle.string_index.specs.Index.{entry_in, look_refusal, look_up, held_of}
@@ -138,30 +135,30 @@ long_enough words n b e f = ltb-false words (words_for n) (sym e ∙ f)
 -- ---- the answers of a look-up
 
 module _ (x : List ℕ) (n i : ℕ) where
-  pub no_such : n ≤ i → lookup-is.Refused 7 ≡ look_up x n i
+  pub no_such : n ≤ i → Err 7 ≡ look_up x n i
   unfolding look_up look_refusal judge
   no_such h = rw (le-leb n i h)
 
   module _ (h : i < n) (b : Bool) (e : b ≡ ltb (length x) (words_for n)) where
-    pub too_short : b ≡ true → lookup-is.Refused 13 ≡ look_up x n i
+    pub too_short : b ≡ true → Err 13 ≡ look_up x n i
     unfolding look_up look_refusal judge
     too_short t = rw (lt-leb n i h, ← e, t)
 
-    pub found : b ≡ false → (q : Entry) → q ≡ entry_in x n i → lookup-is.Found q ≡ look_up x n i
+    pub found : b ≡ false → (q : Entry) → q ≡ entry_in x n i → Ok q ≡ look_up x n i
     unfolding look_up look_refusal judge
     found t q g = rw (lt-leb n i h, ← e, t, g)
 
 -- ---- the answers of filling
 
-module _ (l : Layout) (s : List ℕ) (r : Admission) (e : r ≡ admission l s) (x : List ℕ) where
-  pub fill_refused : (k : ℕ) → r ≡ admission-is.Refused k → (r ≡ admitted_as l s (length x)) × (x ≡ index_after l s x)
+module _ (l : Layout) (s : List ℕ) (r : Result Places ℕ) (e : r ≡ admission l s) (x : List ℕ) where
+  pub fill_refused : (k : ℕ) → r ≡ Err k → (Err k ≡ admitted_as l s (length x)) × (x ≡ index_after l s x)
   unfolding admitted_as index_after fill_refusal
   fill_refused k f =
       let i = refused_then l s r e k f (check 13 (ltb (length x) (words_for (strings_in s))) ∷ []) in
       let h : 0 < k = (refused_is l s r e k f).1 in
-      rw (i, ne_eqb k 0 (λ y. omega arith)) (f, refl)
+      rw (i, ne_eqb k 0 (λ y. omega arith)) (refl, refl)
 
-  module _ (p : Places) (f : r ≡ admission-is.Laid p) (b : Bool) (g : b ≡ ltb (length x) (words_for p.strings)) where
+  module _ (p : Places) (f : r ≡ Ok p) (b : Bool) (g : b ≡ ltb (length x) (words_for p.strings)) where
     counted : p.strings ≡ strings_in s
     unfolding places_of
     counted = ap (λ (y : Places). y.strings) (laid-is l s r e p f).1
@@ -173,12 +170,12 @@ module _ (l : Layout) (s : List ℕ) (r : Admission) (e : r ≡ admission l s) (
         ∙ ap (λ (n : ℕ). pick (ltb (length x) (words_for n)) 13 0) (sym counted)
         ∙ ap (λ (c : Bool). pick c 13 0) (sym g)
 
-    pub fill_short : b ≡ true → (admission-is.Refused 13 ≡ admitted_as l s (length x)) × (x ≡ index_after l s x)
+    pub fill_short : b ≡ true → (Err 13 ≡ admitted_as l s (length x)) × (x ≡ index_after l s x)
     unfolding admitted_as index_after
     fill_short t = rw (own, t) (refl, refl)
 
     pub fill_done : b ≡ false → (y : List ℕ) → y ≡ sets x 0 (index_of p.layout s)
-        → (admission-is.Laid p ≡ admitted_as l s (length x)) × (y ≡ index_after l s x)
+        → (Ok p ≡ admitted_as l s (length x)) × (y ≡ index_after l s x)
     unfolding admitted_as index_after index_of
     fill_done t y q =
         let n : List ℕ = runs (strings_in s) (entry_of l s) in
@@ -187,7 +184,7 @@ module _ (l : Layout) (s : List ℕ) (r : Admission) (e : r ≡ admission l s) (
         = omega (arith, size, counted, ltb-false (length x) (words_for p.strings) (sym g ∙ t)) in
         let w : y ≡ sets x 0 n = q ∙ ap (λ (k : Layout). sets x 0 (runs (strings_in s) (entry_of k s))) (laid_layout l s r e p f) in
         rw (own, t) (
-          ap admission-is.Laid (laid-is l s r e p f).1,
+          ap Ok (laid-is l s r e p f).1,
           w ∙ sets-eq n x 0 (omega arith) ∙ rw zero-add,
         )
 
@@ -209,46 +206,45 @@ module _ (l : Layout) (s x : List ℕ) (h : fill_refusal l s (length x) ≡ 0) w
 
 -- ---- admission with an index, taken apart
 
-module _ (l : Layout) (s x : List ℕ) (r : Admission) (e : r ≡ admitted_as l s (length x)) where
-  pub refused_as : (k : ℕ) → r ≡ admission-is.Refused k → (0 < k) × (fill_refusal l s (length x) ≡ k)
+module _ (l : Layout) (s x : List ℕ) (r : Result Places ℕ) (e : r ≡ admitted_as l s (length x)) where
+  pub refused_as : (k : ℕ) → r ≡ Err k → (0 < k) × (fill_refusal l s (length x) ≡ k)
   unfolding admitted_as
   refused_as k f =
       let (h, q)
       =
-      is-refused (fill_refusal l s (length x)) (admission-is.Laid (places_of l s)) admission-is.Refused (admission-is.Refused k)
+      is-refused (fill_refusal l s (length x)) (Ok (places_of l s)) Err (Err k)
       (sym e ∙ f) (λ z. let y : ◌≡◌ {A = ℕ} 0 1 = cc in omega arith) in
       let z : fill_refusal l s (length x) ≡ k = cc in
       (omega arith, z)
 
   -- what filling answers has the same number
-  pub count_refused : (k : ℕ) → r ≡ admission-is.Refused k → (n : ℕ) → n ≡ number_of r
-      → Filled-is.Refused n ≡ filled_as l s (length x)
+  pub count_refused : (k : ℕ) → r ≡ Err k → Err k ≡ filled_as l s (length x)
   unfolding filled_as
-  count_refused k f n g =
+  count_refused k f =
       let (h, z) = refused_as k f in
-      rw (z, ne_eqb k 0 (λ y. omega arith)) (ap Filled-is.Refused (g ∙ ap number_of f))
+      rw (z, ne_eqb k 0 (λ y. omega arith))
 
-  module _ (p : Places) (f : r ≡ admission-is.Laid p) where
+  module _ (p : Places) (f : r ≡ Ok p) where
     pub laid_as : (fill_refusal l s (length x) ≡ 0) × (p ≡ places_of l s)
     unfolding admitted_as
     laid_as =
         let (z, q)
         =
-        is_found (fill_refusal l s (length x)) (admission-is.Laid (places_of l s)) admission-is.Refused (admission-is.Laid p) (sym e ∙ f)
+        is_found (fill_refusal l s (length x)) (Ok (places_of l s)) Err (Ok p) (sym e ∙ f)
         (λ k z. let y : ◌≡◌ {A = ℕ} 0 1 = cc in omega arith) in
         (z, cc)
 
     -- and counts the strings of the image
-    pub count_filled : Filled-is.Strings p.strings ≡ filled_as l s (length x)
+    pub count_filled : Ok p.strings ≡ filled_as l s (length x)
     unfolding filled_as places_of
-    count_filled = rw laid_as.0 (ap (λ (y : Places). Filled-is.Strings y.strings) laid_as.1)
+    count_filled = rw laid_as.0 (ap (λ (y : Places). Ok y.strings) laid_as.1)
 
     -- the image is admitted
     pub laid_there : ((i : ℕ) → get_or s i 0 < 256) → places.Laid p s
     unfolding fill_refusal admission
     laid_there bytes =
         let (z, _) = judged_none l s (check 13 (ltb (length x) (words_for (strings_in s))) ∷ []) laid_as.0 in
-        let g : admission l s ≡ admission-is.Laid p = rw z (ap admission-is.Laid (sym laid_as.1)) in
+        let g : admission l s ≡ Ok p = rw z (ap Ok (sym laid_as.1)) in
         is-laid l s (admission l s) refl p g bytes
 
     own_layout : p.layout ≡ l
@@ -266,7 +262,7 @@ module _ (l : Layout) (s x : List ℕ) (r : Admission) (e : r ≡ admitted_as l 
 
 module _ (l : Layout) (s x : List ℕ) (id : ℕ) (h : fill_refusal l s (length x) ≡ 0) (b : id < strings_in s) where
   -- of the index just filled
-  pub looked_up_lem : look_up (index_after l s x) (strings_in s) id ≡ lookup-is.Found (entry_of l s id)
+  pub looked_up_lem : look_up (index_after l s x) (strings_in s) id ≡ Ok (entry_of l s id)
   unfolding look_up look_refusal judge index_of
   looked_up_lem =
       let n : List ℕ = runs (strings_in s) (entry_of l s) in
@@ -280,5 +276,5 @@ module _ (l : Layout) (s x : List ℕ) (id : ℕ) (h : fill_refusal l s (length 
       )
 
   -- `record_of` is what the walk to string id answers
-  pub as_the_walk : look_up (index_after l s x) (strings_in s) id ≡ lookup-is.Found (held_of (record_of l s id))
-  as_the_walk = looked_up_lem ∙ ap lookup-is.Found (sym (held_record l s id))
+  pub as_the_walk : look_up (index_after l s x) (strings_in s) id ≡ Ok (held_of (record_of l s id))
+  as_the_walk = looked_up_lem ∙ ap Ok (sym (held_record l s id))

@@ -1,7 +1,7 @@
 -- The index of an image's strings. 02, No. 13: "Let the reader fill a lent index once per image: for each id storage offset, length and
 -- flags, in three runs of words."
 -- docs/FORMAT.md: Index.
-use Rattle.std.specs.Prelude.{Bool, List, [], ◌∷◌, ◌++◌, ℕ, zero, suc, ◌+◌, ◌*◌, leb, ltb, eqb, length, get_or}
+use Rattle.std.specs.Prelude.{Bool, List, [], ◌∷◌, ◌++◌, ℕ, zero, suc, ◌+◌, ◌*◌, leb, ltb, eqb, length, get_or, Err, Ok, Result}
 use Rattle.refusals.specs.Numbers as refusals
 use Rattle.bits.specs.Choice.{pick, check, judge}
 use Rattle.bits.specs.Outcome.{outcome_for, written}
@@ -12,15 +12,10 @@ use Rattle.image.specs.Strings.{place_at}
 use Rattle.image.specs.Kinds.{is_identifier}
 use Rattle.image.specs.Admission.{checks}
 use Rattle.sections.specs.Places.{places_of}
-use Rattle.admission.specs.declared.Admission.{Admission}
-use Rattle.admission.specs.declared.Admission.TheVariants as admission-is
 use Rattle.string_walk.specs.declared.StringRecord.{StringRecord}
 use Rattle.string_walk.specs.Records.{is_ranked}
 use Rattle.string_index.specs.declared.Entry.{Entry}
-use Rattle.string_index.specs.declared.Filled.{Filled}
-use Rattle.string_index.specs.declared.Filled.TheVariants as Filled-is
-use Rattle.string_index.specs.declared.Lookup.{Lookup}
-use Rattle.string_index.specs.declared.Lookup.TheVariants as lookup-is
+use Rattle.sections.specs.declared.Places.{Places}
 
 -- bit 0: wide; bit 1: an identifier
 abbrev pub flags_of : Bool → Bool → ℕ
@@ -56,20 +51,20 @@ unfoldable pub fill_refusal : Layout → List ℕ → ℕ → ℕ
 fill_refusal l s words = judge (checks l s ++ (check refusals.room (ltb words (words_for (strings_in s))) ∷ []))
 
 -- the answer, in so many words: the string count, which a look-up is told
-unfoldable pub filled_as : Layout → List ℕ → ℕ → Filled
+unfoldable pub filled_as : Layout → List ℕ → ℕ → Result ℕ ℕ
 filled_as l s words =
     let n = fill_refusal l s words in
-    pick (eqb n 0) (Filled-is.Strings (strings_in s)) (Filled-is.Refused n)
+    pick (eqb n 0) (Ok (strings_in s)) (Err n)
 
 -- the lent words afterwards: "nothing written" where it is refused, else the index, and later words stay
 unfoldable pub index_after : Layout → List ℕ → List ℕ → List ℕ
 index_after l s x = written (outcome_for (fill_refusal l s (length x)) (index_of l s)) x
 
 -- admission of an image for which an index is lent
-unfoldable pub admitted_as : Layout → List ℕ → ℕ → Admission
+unfoldable pub admitted_as : Layout → List ℕ → ℕ → Result Places ℕ
 admitted_as l s words =
     let n = fill_refusal l s words in
-    pick (eqb n 0) (admission-is.Laid (places_of l s)) (admission-is.Refused n)
+    pick (eqb n 0) (Ok (places_of l s)) (Err n)
 
 -- ---- looking up
 
@@ -82,10 +77,10 @@ unfoldable pub look_refusal : ℕ → ℕ → ℕ → ℕ
 look_refusal words n i = judge (check refusals.id (leb n i) ∷ check refusals.room (ltb words (words_for n)) ∷ [])
 
 -- string i, in an index for n strings
-unfoldable pub look_up : List ℕ → ℕ → ℕ → Lookup
+unfoldable pub look_up : List ℕ → ℕ → ℕ → Result Entry ℕ
 look_up x n i =
     let k = look_refusal (length x) n i in
-    pick (eqb k 0) (lookup-is.Found (entry_in x n i)) (lookup-is.Refused k)
+    pick (eqb k 0) (Ok (entry_in x n i)) (Err k)
 
 -- ---- the walk
 

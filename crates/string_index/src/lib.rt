@@ -11,8 +11,8 @@ ghost use Rattle.string_index.specs.Index.{flags_of, entry_of, held_of, index_of
 ghost use Rattle.string_index.specs.Index.{index_after, entry_in, look_up};
 ghost use Rattle.string_index.specs.Filling.{put_entry, Indexed, Tells};
 
-use admission::Admission;
 use format::Layout;
+use refusals::Refusal;
 use sections::Places;
 use string_tables::Place;
 use string_walk::{Cursor, StringRecord};
@@ -24,20 +24,6 @@ pub struct Entry {
     pub offset: u32,
     pub length: u32,
     pub flags: u32,
-}
-
-// An entry that was looked up, or the number of the refusal.
-#[derive(Clone, Copy)]
-pub enum Lookup {
-    Found(Entry),
-    Refused(u8),
-}
-
-// How many strings there are in the index that was filled, or the number of the refusal.
-#[derive(Clone, Copy)]
-pub enum Filled {
-    Strings(usize),
-    Refused(u8),
 }
 
 // What an index tells of a string of the image that it was filled from.
@@ -75,16 +61,16 @@ fn entry_at(index: &[u32], count: usize, id: usize) -> Entry
 // Looks string `id` up in an index for `count` strings. Whatever the runs hold is the answer: it is that
 // of the walk where the index was filled from the image. Refused with 7 where there is no such id, then
 // with 13 where the index is shorter than three words for each string.
-pub fn look_up(index: &[u32], count: usize, id: usize) -> Lookup
+pub fn look_up(index: &[u32], count: usize, id: usize) -> Result<Entry, Refusal>
     ensures { result ≡ look_up index.now count id }
 {
     if count <= id {
-        return Lookup::Refused(refusals::ID);
+        return Err(refusals::ID);
     }
     if is_short(index.len(), count) {
-        return Lookup::Refused(refusals::ROOM);
+        return Err(refusals::ROOM);
     }
-    Lookup::Found(entry_at(index, count, id))
+    Ok(entry_at(index, count, id))
 }
 
 // String `id` of the image that an index was filled from. Whatever the index holds are words.
@@ -156,37 +142,31 @@ pub fn fill(index: &mut [u32], image: &[u8], p: Places)
     ensures { index.new ≡ sets index.old 0 (index_of p.layout image.now) }
 {
     let mut c = string_walk::first_string();
-    while c.id < p.strings {
+    for _id in 0..p.strings {
         c = put_string(index, image, p, c);
     }
 }
 
 // Admits an image and fills its index: so begins every entry that is lent one. Refused with 1 to 6, then
 // with 13 where the index is shorter than three words for each string; then no word is written.
-pub fn admit_indexed(image: &[u8], layout: Layout, index: &mut [u32]) -> Admission
+pub fn admit_indexed(image: &[u8], layout: Layout, index: &mut [u32]) -> Result<Places, Refusal>
     ensures { (result ≡ admitted_as layout image.now (length index.old))
         × (index.new ≡ index_after layout image.now index.old) }
 {
-    let answer = admission::admit(image, layout);
-    let Admission::Laid(p) = answer else {
-        return answer;
-    };
+    let p = admission::admit(image, layout)?;
     if is_short(index.len(), p.strings) {
-        return Admission::Refused(refusals::ROOM);
+        return Err(refusals::ROOM);
     }
     fill(index, image, p);
-    Admission::Laid(p)
+    Ok(p)
 }
 
 // Fills the index of an image, and answers how many strings there are, which a look-up is told. Refused
 // as `admit_indexed` is.
-pub fn fill_index(image: &[u8], layout: Layout, index: &mut [u32]) -> Filled
+pub fn fill_index(image: &[u8], layout: Layout, index: &mut [u32]) -> Result<usize, Refusal>
     ensures { (result ≡ filled_as layout image.now (length index.old))
         × (index.new ≡ index_after layout image.now index.old) }
 {
-    let answer = admit_indexed(image, layout, index);
-    let Admission::Laid(p) = answer else {
-        return Filled::Refused(admission::number_of(answer));
-    };
-    Filled::Strings(p.strings)
+    let p = admit_indexed(image, layout, index)?;
+    Ok(p.strings)
 }

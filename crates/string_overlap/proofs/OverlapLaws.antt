@@ -6,7 +6,7 @@ use mathlib.Core.List.{List}
 use Prim.Native.Nat.{ℕ, zero, suc, ◌+◌, ◌≤◌, ◌<◌}
 use native.Mathlib.Numerals.{add-one}
 use native.Mathlib.Omega.{arith}
-use borrow.Author.Tests.{le-leb, lt-leb, leb-true, lt-ltb, le-ltb, eq-eqb, ne_eqb, eqb-false, not-true}
+use borrow.Author.Tests.{le-leb, lt-leb, leb-true, lt-ltb, le-ltb, ne_eqb, eqb-false, not-true}
 use lib.Dec.{ltb, eqb}
 use Rattle.bits.specs.Choice.{implies, all_below}
 use Rattle.bits.proofs.TestLaws.{below, below_or, both-none, imp_of, all_at, all_of, all_fails}
@@ -29,9 +29,6 @@ module _ (p q : entry.Place) (n m : ℕ) (e : n ≡ size_of q) where
 
   pub before : p.at < q.at + n → m ≡ size_of p → ltb q.at (p.at + m) ≡ overlap p q
   before h f = rw (← e, lt-ltb p.at (q.at + n) h, f)
-
-pub is_own_lem : (i id : ℕ) (b : Bool) → i ≡ id → true ≡ implies (not (eqb i id)) b
-is_own_lem i id b e = rw (eq-eqb i id e)
 
 pub is_other_lem : (i id : ℕ) (b c : Bool) → (i ≡ id → ⊥) → c ≡ b → not c ≡ implies (not (eqb i id)) (not b)
 is_other_lem i id b c h e = rw (ne_eqb i id h, e)

@@ -17,10 +17,7 @@ fn do_overlap(a: Place, b: Place) -> bool
     requires { Low a × Low b }
     ensures { result ≡ overlap (as_place a) (as_place b) }
 {
-    if a.at >= b.at + string_tables::size_of(b) {
-        return false;
-    }
-    b.at < a.at + string_tables::size_of(a)
+    a.at < b.at + string_tables::size_of(b) && b.at < a.at + string_tables::size_of(a)
 }
 
 // Whether string `i`, at `other`, is string `id`, or does not overlap it, which stands at `own`.
@@ -28,10 +25,7 @@ pub fn is_apart(i: usize, id: usize, own: Place, other: Place) -> bool
     requires { Low own × Low other }
     ensures { result ≡ implies (not (eqb i id)) (not (overlap (as_place own) (as_place other))) }
 {
-    if i == id {
-        return true;
-    }
-    !do_overlap(own, other)
+    i == id || !do_overlap(own, other)
 }
 
 // Whether no other entry overlaps that of `id`, whose record is `own`: one pass, every entry counts, wide
@@ -42,10 +36,10 @@ pub fn is_alone(image: &[u8], p: Places, id: usize, own: StringRecord) -> bool
     ensures { result ≡ is_alone p.layout image.now id }
 {
     let mut c = string_walk::first_string();
-    while c.id < p.strings {
+    for i in 0..p.strings {
         let step = string_walk::string_at(image, p, c);
         let other = step.string;
-        if !is_apart(c.id, id, own.place, other.place) {
+        if !is_apart(i, id, own.place, other.place) {
             return false;
         }
         c = step.next;
@@ -61,7 +55,7 @@ pub fn are_in_row(image: &[u8], p: Places) -> bool
 {
     let mut end = 0;
     let mut c = string_walk::first_string();
-    while c.id < p.strings {
+    for _id in 0..p.strings {
         let step = string_walk::string_at(image, p, c);
         let place = step.string.place;
         if place.at < end {

@@ -87,10 +87,7 @@ pub fn shape_of(value: &[u8]) -> Shape
 pub fn is_over(place: Place) -> bool
     ensures { result ≡ is_over (as_place place) }
 {
-    if format::FAR <= place.at {
-        return true;
-    }
-    format::LONG <= place.count
+    format::FAR <= place.at || format::LONG <= place.count
 }
 
 // The zero bytes before a string that is packed next, where those before it take `at` bytes.
@@ -212,7 +209,7 @@ fn measure_stretch(
     let next = s.next;
     let new = s.new;
     let mut c = from;
-    while c.old.id < s.end {
+    for _id in from.old.id..s.end {
         c = take_turn(image, p, mode, next.id, new, c).next;
     }
     c
@@ -234,6 +231,7 @@ pub fn measure(
         (values_in (told form words.now) text.now ends.now)) result }
 {
     let mut c = nothing_packed();
+    // Stays a while loop: it goes on by whole stretches, and counts no index.
     while c.old.id < p.strings {
         c = measure_stretch(image, p, mode, form, words, text, ends, c);
     }

@@ -67,7 +67,7 @@ fn source<'a>(image: &'a [u8], value: &'a [u8], is_new: bool, at: usize, n: usiz
 fn is_made(new: bool, wide: bool) -> bool
     ensures { result ≡ both new wide }
 {
-    if new { wide } else { false }
+    new && wide
 }
 
 // The bytes of a string, stored from `to` on. The units of a wide value are made as they are stored.
@@ -162,7 +162,7 @@ fn put_stretch<'a>(
     let new = s.new;
     let value = string_edits::value_of(text, ends, next);
     let mut c = from;
-    while c.old.id < s.end {
+    for _id in from.old.id..s.end {
         c = put_string(out, image, value, p, mode, to, next.id, new, c);
     }
     c
@@ -185,6 +185,7 @@ fn put_strings<'a>(
         (values_in (told form words.now) text.now ends.now)) out.old }
 {
     let mut c = string_packing::nothing_packed();
+    // Stays a while loop: it goes on by whole stretches, and counts no index.
     while c.old.id < p.strings {
         c = put_stretch(out, image, p, mode, to, form, words, text, ends, c);
     }

@@ -1,4 +1,5 @@
 -- The answer: one law for each way out of the code.
+use Rattle.std.specs.Prelude.{Err, Ok, Result}
 use mathlib.Core.Path.{◌≡◌, refl, ap, sym, ◌∙◌}
 use mathlib.Core.Bool.{Bool, true, false, not}
 use mathlib.Core.Logic.{◌≢◌}
@@ -9,6 +10,8 @@ use borrow.Author.Tests.{ne_eqb, le-leb, lt-leb, lt-ltb, not-true, not-false}
 use lib.Dec.{leb, ltb, eqb}
 use lib.ListN.{length}
 use Rattle.bits.specs.Choice.{pick, Check, check, judge}
+use Rattle.bits.specs.Outcome.{passed}
+use Rattle.bits.proofs.TestLaws.{is_found, is-refused}
 use Rattle.bits.proofs.JudgeLaws.{judge_append}
 use Rattle.format.specs.declared.Layout.{Layout}
 use Rattle.format.specs.declared.Mode.{Mode}
@@ -18,9 +21,6 @@ use Rattle.image.specs.Sections.{strings_in}
 use Rattle.image.specs.Admission.{checks}
 use Rattle.sections.specs.declared.Places.{Places}
 use Rattle.sections.specs.Places.{places_of, Laid}
-use Rattle.admission.specs.declared.Admission.{Admission}
-use Rattle.admission.specs.declared.Admission.TheVariants as admission-is
-use Rattle.admission.specs.Admission.{number_of}
 use Rattle.string_index.specs.Index.{words_for, fill_refusal, admitted_as}
 use Rattle.string_index.proofs.IndexLaws.{refused_as, laid_as}
 use Rattle.string_edits.specs.Values.{only}
@@ -42,20 +42,20 @@ module _ (m : Mode) (l : Layout) (s : List ℕ) (id : ℕ) (value : List ℕ) wh
   unfolding reason_refusal fill_refusal checks
   filled_then words = judge_append (checks l s ++ (check 13 (ltb words (words_for (strings_in s))) ∷ [])) behind refl
 
-  module _ (x : List ℕ) (r : Admission) (e : r ≡ admitted_as l s (length x)) where
+  module _ (x : List ℕ) (r : Result Places ℕ) (e : r ≡ admitted_as l s (length x)) where
     abbrev reason : Reason
     reason = reason_of m l s (length x) id value
 
     -- the image is refused, or the index is too short
-    pub why_refused : (k n : ℕ) → r ≡ admission-is.Refused k → n ≡ number_of r → Refused n ≡ reason
+    pub why_refused : (k : ℕ) → r ≡ Err k → Refused k ≡ reason
     unfolding reason_of
-    why_refused k n f g =
+    why_refused k f =
         let (h, q) = refused_as l s x r e k f in
         let some : eqb k 0 ≡ false = ne_eqb k 0 (λ z. omega arith) in
         let i : reason_refusal m l s (length x) id value ≡ k = filled_then (length x) ∙ rw (q, some) in
-        rw (i, some) (ap Refused (g ∙ ap number_of f))
+        rw (i, some)
 
-    module _ (p : Places) (f : r ≡ admission-is.Laid p) where
+    module _ (p : Places) (f : r ≡ Ok p) where
       laid-at : p ≡ places_of l s
       laid-at = (laid_as l s x r e p f).1
 
@@ -108,15 +108,23 @@ module _ (l : Layout) (s : List ℕ) (id : ℕ) (value : List ℕ) (path : Reaso
       go true t = absurd (d (e ∙ path_goes l s id value t))
       go false t = refl
 
-  module _ (m : Mode) (n : ℕ) (f : n ≡ judge (result_checks m l s (only id value))) where
+  module _ (m : Mode) where
+    abbrev number : ℕ
+    number = judge (result_checks m l s (only id value))
+
     abbrev judged : Reason
-    judged = answer_for (judge (result_checks m l s (only id value))) (path_of l s id value)
+    judged = answer_for number (path_of l s id value)
 
-    pub judged_none : n ≡ 0 → path ≡ judged
-    judged_none z = rw (← f, z) e
+    pub judged_none : (u : Unit {0}) → Ok u ≡ passed number → path ≡ judged
+    judged_none u f =
+        let (z, q) = is_found number (Ok tt) Err (Ok u) (sym f) (λ k h. let y : ◌≡◌ {A = ℕ} 0 1 = cc in omega arith) in
+        rw z e
 
-    pub judged_some : n ≢ 0 → Refused n ≡ judged
-    judged_some z = rw (← f, ne_eqb n 0 z)
+    pub judged_some : (k : ℕ) → Err k ≡ passed number → Refused k ≡ judged
+    judged_some k f =
+        let (h, q) = is-refused number (Ok tt) Err (Err k) (sym f) (λ z. let y : ◌≡◌ {A = ℕ} 0 1 = cc in omega arith) in
+        let same : number ≡ k = cc in
+        rw (ne_eqb number 0 (λ z. omega arith)) (ap Refused (sym same))
 
   -- one in place meets no number
   pub judged_in_place : (m : Mode) → path ≡ InPlace → id < strings_in s → length s ≤ size_limit

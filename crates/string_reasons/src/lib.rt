@@ -4,6 +4,7 @@
 
 ghost use Rattle.std.specs.Prelude.{◌≡◌, false, List, ℕ, ◌≤◌, ◌<◌, length};
 ghost use Rattle.bits.specs.Choice.{judge};
+ghost use Rattle.bits.specs.Outcome.{passed};
 ghost use Rattle.sections.specs.Places.{Laid};
 ghost use Rattle.string_index.specs.Index.{words_for, index_after};
 ghost use Rattle.string_index.specs.Filling.{Indexed};
@@ -11,16 +12,17 @@ ghost use Rattle.string_edits.specs.Values.{only};
 ghost use Rattle.string_in_place.specs.Patch.{fits_in_place, result_checks};
 ghost use Rattle.string_reasons.specs.Reasons.{lowest_overlap, path_of, answer_for, reason_of};
 
-use admission::Admission;
 use format::{Layout, Mode};
+use refusals::Refusal;
 use sections::Places;
 use string_edits::Form;
 
 // The first of these that holds, in this order: the number of a refusal; in place; the entry is wide; the value is not
 // ASCII; the lengths of entry and value, in bytes, which differ; the lowest other string whose entry overlaps.
+// It stays one enum: a refusal is among the six that the theorems `reason_exactly` and `one_reason` tell apart.
 #[derive(Clone, Copy)]
 pub enum Reason {
-    Refused(u8),
+    Refused(Refusal),
     InPlace,
     Wide,
     NotAscii,
@@ -35,15 +37,13 @@ fn lowest_overlap(index: &[u32], p: Places, id: usize) -> usize
     ensures { (s : List ℕ) → Laid p s → Indexed p s index.now → result ≡ lowest_overlap p.layout s id }
 {
     let own = string_index::string_in(index, p, id);
-    let mut i = 0;
-    while i < p.strings {
+    for i in 0..p.strings {
         let other = string_index::string_in(index, p, i);
         if !string_overlap::is_apart(i, id, own.place, other.place) {
             return i;
         }
-        i += 1;
     }
-    i
+    p.strings
 }
 
 // The path for string `id` and a value, of the image that an index was filled from.
@@ -70,16 +70,22 @@ fn path_of(index: &[u32], p: Places, id: usize, value: &[u8]) -> Reason
     Reason::InPlace
 }
 
-// The number that a rebuild for this one edit meets, whatever the room: 11, 12, or 0 where it meets none.
-fn rebuild_refusal<'a>(image: &'a [u8], p: Places, mode: Mode, id: usize, value: &'a [u8]) -> u8
+// Whether a rebuild for this one edit meets 11 or 12, whatever the room.
+fn judge_rebuild<'a>(
+    image: &'a [u8],
+    p: Places,
+    mode: Mode,
+    id: usize,
+    value: &'a [u8],
+) -> Result<(), Refusal>
     requires laid { Laid p image.now × (id < p.strings) × (length value.now ≤ 4294967295) }
     requires value_value { fits_in_place p.layout image.now id value.now ≡ false }
-    ensures { result ≡ judge (result_checks mode p.layout image.now (only id value.now)) }
+    ensures { result ≡ passed (judge (result_checks mode p.layout image.now (only id value.now))) }
 {
     let ids = [id as u32; 1];
     let ends = [value.len() as u32; 1];
     let plan = string_rebuild::plan_rebuild(image, p, mode, Form::Ids, &ids, value, &ends);
-    string_rebuild::refusal(image, p, plan, plan.length)
+    string_rebuild::judge(image, p, plan, plan.length)
 }
 
 // A path, unless it is a rebuild that meets a number.
@@ -97,11 +103,10 @@ fn judged<'a>(
         (path_of p.layout image.now id value.now) }
 {
     let Reason::InPlace = path else {
-        let number = rebuild_refusal(image, p, mode, id, value);
-        if number == 0 {
-            return path;
-        }
-        return Reason::Refused(number);
+        return match judge_rebuild(image, p, mode, id, value) {
+            Ok(()) => path,
+            Err(refusal) => Reason::Refused(refusal),
+        };
     };
     path
 }
@@ -120,9 +125,9 @@ pub fn why<'a>(
     ensures { (result ≡ reason_of mode layout image.now (length index.old) id value.now)
         × (index.new ≡ index_after layout image.now index.old) }
 {
-    let admitted = string_index::admit_indexed(image, layout, index);
-    let Admission::Laid(p) = admitted else {
-        return Reason::Refused(admission::number_of(admitted));
+    let p = match string_index::admit_indexed(image, layout, index) {
+        Ok(p) => p,
+        Err(refusal) => return Reason::Refused(refusal),
     };
     if p.strings <= id {
         return Reason::Refused(refusals::ID);

@@ -1,4 +1,5 @@
 -- Refusals 11 to 13 of a rebuild, by its plan.
+use Rattle.std.specs.Prelude.{Err, Ok}
 use mathlib.Core.Path.{◌≡◌, refl, ap, sym, ◌∙◌}
 use mathlib.Core.Bool.{Bool, true, false, not}
 use mathlib.Core.Logic.{◌≢◌}
@@ -10,9 +11,9 @@ use lib.Dec.{ltb}
 use lib.ListN.{length}
 use Rattle.bits.specs.Choice.{pick, check, judge}
 use Rattle.bits.specs.Bytes.{up4}
-use Rattle.bits.specs.Outcome.{Outcome, Answers, refused, made, outcome_for, roomed}
-use Rattle.bits.specs.declared.Answer.TheVariants.{Refused}
+use Rattle.bits.specs.Outcome.{Outcome, Answers, refused, made, outcome_for, passed, roomed}
 use Rattle.bits.proofs.JudgeLaws.{judge_pass}
+use Rattle.bits.proofs.TestLaws.{is_found, is-refused}
 use Rattle.format.specs.declared.Mode.{Mode}
 use Rattle.format.specs.Move.{moved}
 use Rattle.format.proofs.MoveLaws.{moved-high}
@@ -35,10 +36,20 @@ use Rattle.string_rebuild.specs.declared.Plan.{Plan}
 use Rattle.string_rebuild.specs.Ready.{tail_of, plan_of, Planned, plan_refusal, number_of}
 use Rattle.string_rebuild.proofs.RebuildLaws.{new_strings}
 
+-- ---- a test by its number
+
+pub passed_none : (n : ℕ) → passed n ≡ Ok tt → n ≡ 0
+passed_none n e = (is_found n (Ok tt) Err (Ok tt) e (λ k z. let y : ◌≡◌ {A = ℕ} 0 1 = cc in omega arith)).0
+
+pub passed_some : (n k : ℕ) → passed n ≡ Err k → (0 < n) × (n ≡ k)
+passed_some n k e =
+    let (h, q) = is-refused n (Ok tt) Err (Err k) e (λ z. let y : ◌≡◌ {A = ℕ} 0 1 = cc in omega arith) in
+    (h, cc)
+
 -- ---- an outcome by its number
 
-refuses : (o : Outcome) (n : ℕ) (out : List ℕ) → n ≡ number_of o → n ≢ 0 → Answers o (Refused n) out out
-refuses (refused k) n out e z = (ap Refused e, refl)
+refuses : (o : Outcome) (n : ℕ) (out : List ℕ) → n ≡ number_of o → n ≢ 0 → Answers o (Err n) out out
+refuses (refused k) n out e z = (ap Err e, refl)
 refuses (made t) n out e z = absurd (z e)
 
 -- what is made is judged by its length last
@@ -100,20 +111,20 @@ module _ (p : Places) (s : List ℕ) (plan : Plan) (room : ℕ) where
   abbrev fits : Bool
   fits = fields_fit p.layout s (moved p.tail plan.tail)
 
-  pub too_long : size_limit < plan.length → 11 ≡ plan_refusal p s plan room
+  pub too_long : size_limit < plan.length → Err 11 ≡ passed (plan_refusal p s plan room)
   unfolding plan_refusal judge
   too_long h = rw (lt-ltb size_limit plan.length h)
 
   module _ (limit : plan.length ≤ size_limit) (r : Bool) (e : r ≡ fits) where
-    pub past_field : not r ≡ true → 12 ≡ plan_refusal p s plan room
+    pub past_field : not r ≡ true → Err 12 ≡ passed (plan_refusal p s plan room)
     unfolding plan_refusal judge
     past_field f = rw (le-ltb size_limit plan.length limit, ← e, f)
 
-    pub no_room : not r ≡ false → room < plan.length → 13 ≡ plan_refusal p s plan room
+    pub no_room : not r ≡ false → room < plan.length → Err 13 ≡ passed (plan_refusal p s plan room)
     unfolding plan_refusal judge
     no_room f h = rw (le-ltb size_limit plan.length limit, ← e, f, lt-ltb room plan.length h)
 
-    pub meets_none : not r ≡ false → plan.length ≤ room → 0 ≡ plan_refusal p s plan room
+    pub meets_none : not r ≡ false → plan.length ≤ room → Ok tt ≡ passed (plan_refusal p s plan room)
     unfolding plan_refusal judge
     meets_none f h = rw (le-ltb size_limit plan.length limit, ← e, f, le-ltb room plan.length h)
 
@@ -186,10 +197,11 @@ module _ (m : Mode) (p : Places) (s : List ℕ) (v : Values) (plan : Plan) (laid
   unfolding plan_refusal judge
   refusal_roomless = rw (long-is, fits-is, le-ltb plan.length plan.length (omega arith))
 
-  pub met_refused : (out : List ℕ) (n : ℕ) → n ≡ plan_refusal p s plan (length out) → n ≢ 0
-      → Answers (roomed (length out) (patch_known m p.layout s v)) (Refused n) out out
-  met_refused out n e =
-      refuses (roomed (length out) (patch_known m p.layout s v)) n out (e ∙ refusal_is (length out))
+  pub met_refused : (out : List ℕ) (k : ℕ) → passed (plan_refusal p s plan (length out)) ≡ Err k
+      → Answers (roomed (length out) (patch_known m p.layout s v)) (Err k) out out
+  met_refused out k e =
+      let (h, q) = passed_some (plan_refusal p s plan (length out)) k e in
+      refuses (roomed (length out) (patch_known m p.layout s v)) k out (sym q ∙ refusal_is (length out)) (λ z. omega arith)
 
   -- and where it meets nothing the patch is made
   pub makes : (room : ℕ) → MeetsNone p s plan room

@@ -1,4 +1,5 @@
 -- The rebuilt image as the code writes it: what stands around the strings, the strings, the counts, what moves, the end of every patch.
+use Rattle.std.specs.Prelude.{Result}
 use mathlib.Core.Path.{◌≡◌, ap, sym, ◌∙◌, subst, subst⁻¹}
 use mathlib.Core.Bool.{true}
 use mathlib.Core.List.{List}
@@ -8,7 +9,6 @@ use lib.ListN.{length}
 use lib.Seq.{sets}
 use Rattle.bits.specs.Bytes.{up4}
 use Rattle.bits.specs.Outcome.{Answers, made}
-use Rattle.bits.specs.declared.Answer.{Answer}
 use Rattle.format.specs.declared.Mode.{Mode}
 use Rattle.format.specs.Table as table
 use Rattle.footer.specs.Finalize.{size_limit}
@@ -134,7 +134,7 @@ module _ (m : Mode) (p : Places) (s : List ℕ) (edits : Told) (text ends : List
         ))
         ∙ rebuild-is p.layout ts s
 
-    pub patch_put : (o₅ : List ℕ) (r : Answer) → Answers (made (finished p.layout s gets o₄)) r o₄ o₅
+    pub patch_put : (o₅ : List ℕ) (r : Result ℕ ℕ) → Answers (made (finished p.layout s gets o₄)) r o₄ o₅
         → Answers (made (patched_strings m p.layout s gets)) r out o₅
     unfolding patched_strings changed
     patch_put o₅ r a =

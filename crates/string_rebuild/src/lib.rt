@@ -4,7 +4,7 @@
 #![tactic(auto)]
 
 ghost use Rattle.std.specs.Prelude.{◌≡◌, ◌*◌, ◌≤◌, length};
-ghost use Rattle.bits.specs.Outcome.{Answers, made, roomed};
+ghost use Rattle.bits.specs.Outcome.{Answers, made, passed, roomed};
 ghost use Rattle.footer.specs.Finalize.{size_limit};
 ghost use Rattle.sections.specs.Places.{Placed, Laid};
 ghost use Rattle.string_edits.specs.Told.{told, values_in, Listed};
@@ -12,8 +12,8 @@ ghost use Rattle.string_packing.specs.Pass.{string_most};
 ghost use Rattle.string_in_place.specs.Patch.{patched_strings, patch_known};
 ghost use Rattle.string_rebuild.specs.Ready.{Asked, plan_of, Planned, plan_refusal, Ready};
 
-use bits::Answer;
 use format::Mode;
+use refusals::Refusal;
 use relocate::{Cause, Move};
 use sections::Places;
 use string_edits::Form;
@@ -42,7 +42,7 @@ fn put_rebuilt<'a>(
     ends: &[u32],
     sizes: Sizes,
     tail: usize,
-) -> Answer
+) -> Result<usize, Refusal>
     requires { Ready mode p image.now (told form words.now) text.now ends.now from sizes tail (length out.old) }
     ensures { Answers (made (patched_strings mode p.layout image.now
         (values_in (told form words.now) text.now ends.now))) result out.old out.new }
@@ -93,22 +93,22 @@ pub fn plan_rebuild(
     plan_sizes(image, p, sizes)
 }
 
-// The number that a plan meets in so much room: 11 where the image would be too long, 12 where a place
-// that moves does not fit its record, 13 where there is no room; 0 where it meets none.
-pub fn refusal(image: &[u8], p: Places, plan: Plan, room: usize) -> u8
+// Whether a plan can be carried out in so much room: 11 where the image would be too long, 12 where a place
+// that moves does not fit its record, 13 where there is no room.
+pub fn judge(image: &[u8], p: Places, plan: Plan, room: usize) -> Result<(), Refusal>
     requires { Laid p image.now × (plan.tail ≤ plan.length) }
-    ensures { result ≡ plan_refusal p image.now plan room }
+    ensures { result ≡ passed (plan_refusal p image.now plan room) }
 {
     if footer::SIZE_LIMIT < plan.length {
-        return refusals::LIMIT;
+        return Err(refusals::LIMIT);
     }
     if !moved_fields::fields_fit(image, p, p.tail, plan.tail) {
-        return refusals::FIELD;
+        return Err(refusals::FIELD);
     }
     if room < plan.length {
-        return refusals::ROOM;
+        return Err(refusals::ROOM);
     }
-    0
+    Ok(())
 }
 
 // The image with its strings packed anew, in a buffer of any length: refused as its plan is.
@@ -122,16 +122,13 @@ pub fn rebuild<'a>(
     words: &[u32],
     text: &'a [u8],
     ends: &[u32],
-) -> Answer
+) -> Result<usize, Refusal>
     requires { Asked p image.now (told form words.now) text.now ends.now from }
     ensures { Answers (roomed (length out.old) (patch_known mode p.layout image.now
         (values_in (told form words.now) text.now ends.now))) result out.old out.new }
 {
     let plan = plan_rebuild(image, p, mode, form, words, text, ends);
-    let number = refusal(image, p, plan, out.len());
-    if number != 0 {
-        return Answer::Refused(number);
-    }
+    judge(image, p, plan, out.len())?;
     let n = plan.length;
     let sizes = plan.sizes;
     put_rebuilt(

@@ -1,4 +1,6 @@
 -- The bytes of all old strings and of all new values, as the code sums them, and room enough by these sums.
+use Rattle.std.specs.Prelude.{Err, Ok, Result}
+use Rattle.std.specs.Result.{is_ok}
 use mathlib.Core.Path.{◌≡◌, refl, ap, sym, ◌∙◌}
 use mathlib.Core.Bool.{Bool, true, false, not}
 use mathlib.Core.Logic.{inl, inr, ◌≢◌}
@@ -9,6 +11,7 @@ use borrow.Author.Tests.{le-ltb, lt-ltb, le-leb, lt-leb}
 use lib.Dec.{leb, ltb, eqb}
 use lib.ListN.{length}
 use Rattle.bits.specs.Choice.{pick, both, judge, sum_below}
+use Rattle.bits.specs.Outcome.{passed}
 use Rattle.bits.proofs.TestLaws.{below_or, both-none, sum_next}
 use Rattle.bits.proofs.ByteLaws.{length-bytes_at}
 use Rattle.format.specs.declared.Layout.{Layout}
@@ -85,6 +88,13 @@ pub not_roomy : (l : Layout) (s : List ℕ) (room : ℕ) (v : Values) → room <
 unfolding is_roomy
 not_roomy l s room v h = rw (lt-leb (length s) room h)
 
+ok_none : (n : ℕ) → is_ok (passed n) ≡ eqb n 0
+ok_none n = go (eqb n 0)
+  where
+    go : (b : Bool) → is_ok {T = Unit {0}} (pick b (Ok tt) (Err n)) ≡ b
+    go true = refl
+    go false = refl
+
 -- nothing is met, in the order of the definition
 met_none : (n room : ℕ) (f : Bool) → eqb (pick (ltb size_limit n) 11 (pick (not f) 12 (pick (ltb room n) 13 0))) 0
     ≡ both (leb n room) (both (leb n size_limit) f)
@@ -142,10 +152,10 @@ module _ (p : Places) (s marks text ends : List ℕ) (mk : Marked p s marks text
     unfolding plan_of
     plan_length = ap (λ (x : Plan). x.length) e ∙ rw (tail_most_lem, sc.tail_from)
 
-    pub roomy_is : (room : ℕ) → length s ≤ room → (n : ℕ) → n ≡ plan_refusal p s plan room
-        → eqb n 0 ≡ is_roomy p.layout s room gets
+    pub roomy_is : (room : ℕ) → length s ≤ room → (r : Result (Unit {0}) ℕ) → r ≡ passed (plan_refusal p s plan room)
+        → is_ok r ≡ is_roomy p.layout s room gets
     unfolding is_roomy plan_refusal judge
-    roomy_is room h n q =
-        ap (λ (k : ℕ). eqb k 0) q
+    roomy_is room h r q =
+        ap is_ok q ∙ ok_none (plan_refusal p s plan room)
         ∙ met_none plan.length room (fields_fit p.layout s (moved p.tail plan.tail))
         ∙ rw (le-leb (length s) room h, plan_length, plan_tail, sc.tail_from)

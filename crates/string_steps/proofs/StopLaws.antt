@@ -1,4 +1,5 @@
 -- The first single patch that is refused, found by a pass over the strings that get a value.
+use Rattle.std.specs.Prelude.{Err, Ok, Result}
 use mathlib.Core.Path.{◌≡◌, refl, ap, sym, ◌∙◌}
 use mathlib.Core.Bool.{Bool, true, false, not}
 use mathlib.Core.Logic.{inl, inr, ◌≢◌}
@@ -9,9 +10,8 @@ use borrow.Author.Tests.{le-ltb, lt-ltb, ne_eqb, not-true, not-false}
 use lib.Dec.{eqb}
 use lib.ListN.{length, take}
 use Rattle.bits.specs.Choice.{pick, both, judge}
-use Rattle.bits.specs.Outcome.{Answers, made, roomed}
-use Rattle.bits.specs.declared.Answer.TheVariants.{Refused}
-use Rattle.bits.proofs.TestLaws.{below_or, both-none}
+use Rattle.bits.specs.Outcome.{Answers, made, roomed, passed}
+use Rattle.bits.proofs.TestLaws.{below_or, both-none, is_found, is-refused}
 use Rattle.format.specs.declared.Layout.{Layout}
 use Rattle.format.specs.declared.Mode.{Mode}
 use Rattle.footer.specs.Finalize.{size_limit}
@@ -38,6 +38,21 @@ use Rattle.string_steps.specs.Marked.{Marked}
 use Rattle.string_steps.proofs.MarkLaws.{front_gets}
 use Rattle.string_steps.proofs.StepLaws.{steps_are}
 use Rattle.string_steps.proofs.RoomLaws.{not_stopped}
+
+-- ---- a test by its number
+
+module _ (n : ℕ) where
+  passed_some : n ≢ 0 → Err n ≡ passed n
+  passed_some z = rw (ne_eqb n 0 z)
+
+  passed_none : (u : Unit {0}) → passed n ≡ Ok u → n ≡ 0
+  passed_none u e = (is_found n (Ok tt) Err (Ok u) e (λ k f. let y : ◌≡◌ {A = ℕ} 0 1 = cc in omega arith)).0
+
+  passed_refused : (k : ℕ) → passed n ≡ Err k → (n ≢ 0) × (n ≡ k)
+  passed_refused k e =
+      let (h, q) = is-refused n (Ok tt) Err (Err k) e (λ f. let y : ◌≡◌ {A = ℕ} 0 1 = cc in omega arith) in
+      let same : n ≡ k = cc in
+      (λ z. omega arith, same)
 
 -- ---- all that come before fit in place
 
@@ -180,30 +195,35 @@ module _ (m : Mode) (p : Places) (s marks text ends : List ℕ) (room : ℕ) (mk
             ∙ ap (fits_all p.layout s) (sym (front_gets marks text ends k))
 
         -- the number that its patch meets
-        module _ (x : ℕ)
-            (e : x ≡ number_of (roomed room (patch_known m p.layout s (values_in (told Marks (take k marks)) text ends)))) where
-          front_stop : x ≡ stop_at m p.layout s room gets (suc n.id)
-          unfolding stop_at
-          front_stop =
-              e ∙ ap (λ (v : Values). number_of (roomed room (patch_known m p.layout s v))) (front_gets marks text ends k)
-              ∙ ap (λ (i : ℕ). number_of (roomed room (patch_known m p.layout s (up_to i gets)))) k_is
+        abbrev number : ℕ
+        number = number_of (roomed room (patch_known m p.layout s (values_in (told Marks (take k marks)) text ends)))
 
-          number_is : x ≡ halt k
-          unfolding first_stop
-          number_is =
-              front_stop
-              ∙ sym (turn_met p s edits text ends from g c n pass.edge at r met halting 0
-              ∙ ap (halting n.id (coming_in text ends n)) pass.none)
+        front_stop : number ≡ stop_at m p.layout s room gets (suc n.id)
+        unfolding stop_at
+        front_stop =
+            ap (λ (v : Values). number_of (roomed room (patch_known m p.layout s v))) (front_gets marks text ends k)
+            ∙ ap (λ (i : ℕ). number_of (roomed room (patch_known m p.layout s (up_to i gets)))) k_is
 
-          pub pass_stop : x ≢ 0 → x ≡ halt (strings_in s)
-          pass_stop z =
-              number_is ∙ sym (stop_stays m p.layout s room gets k (strings_in s) k_most (λ y. z (number_is ∙ y)))
+        number_is : number ≡ halt k
+        unfolding first_stop
+        number_is =
+            front_stop
+            ∙ sym (turn_met p s edits text ends from g c n pass.edge at r met halting 0
+            ∙ ap (halting n.id (coming_in text ends n)) pass.none)
 
-          pub pass_next : x ≡ 0 → (i : Next) → NextOf edits k i → Passing m p s marks text ends room r.next i b
-          pass_next z i h = record {
+        -- the answer of its patch
+        module _ (x : Result (Unit {0}) ℕ) (e : x ≡ passed number) where
+          pub pass_stop : (j : ℕ) → x ≡ Err j → Err j ≡ passed (halt (strings_in s))
+          pass_stop j f =
+              let (z, q) = passed_refused number j (sym e ∙ f) in
+              ap Err (sym q) ∙ passed_some number z
+              ∙ ap passed (number_is ∙ sym (stop_stays m p.layout s room gets k (strings_in s) k_most (λ y. z (number_is ∙ y))))
+
+          pub pass_next : (u : Unit {0}) → x ≡ Ok u → (i : Next) → NextOf edits k i → Passing m p s marks text ends room r.next i b
+          pass_next u f i h = record {
             edge = edge_next p s edits text ends from g c n pass.edge at r met i h;
             placed = fits_behind;
-            none = sym number_is ∙ z;
+            none = sym number_is ∙ passed_none number u (sym e ∙ f);
           }
 
 -- ---- the whole
@@ -212,9 +232,14 @@ module _ (m : Mode) (l : Layout) (s : List ℕ) (room : ℕ) (v : Values) (so : 
   pub roomy_stop : (r : Bool) → r ≡ is_roomy l s room v → r ≡ true → 0 ≡ first_stop m l s room v (strings_in s)
   roomy_stop r e t = sym (not_stopped m l s room v so (sym e ∙ t) (strings_in s))
 
-  module _ (n : ℕ) (e : n ≡ first_stop m l s room v (strings_in s)) where
-    pub steps_refused : n ≢ 0 → (out : List ℕ) → Answers (stepwise m l s room v) (Refused n) out out
-    steps_refused z out = rw (steps_are m l s room v so, ← e, ne_eqb n 0 z) (refl, refl)
+  module _ (r : Result (Unit {0}) ℕ) (e : r ≡ passed (first_stop m l s room v (strings_in s))) where
+    abbrev stop_number : ℕ
+    stop_number = first_stop m l s room v (strings_in s)
 
-    pub steps_made : n ≡ 0 → stepwise m l s room v ≡ roomed room (patch_known m l s v)
-    steps_made z = steps_are m l s room v so ∙ rw (← e, z)
+    pub steps_refused : (k : ℕ) → r ≡ Err k → (out : List ℕ) → Answers (stepwise m l s room v) (Err k) out out
+    steps_refused k f out =
+        let (z, q) = passed_refused stop_number k (sym e ∙ f) in
+        rw (steps_are m l s room v so, ne_eqb stop_number 0 z) (ap Err (sym q), refl)
+
+    pub steps_made : (u : Unit {0}) → r ≡ Ok u → stepwise m l s room v ≡ roomed room (patch_known m l s v)
+    steps_made u f = steps_are m l s room v so ∙ rw (passed_none stop_number u (sym e ∙ f))

@@ -4,7 +4,7 @@
 
 ghost use Rattle.std.specs.Prelude.{◌≡◌, ℕ, suc, ◌*◌, ◌≤◌, ◌<◌, length};
 ghost use Rattle.bits.specs.Choice.{both};
-ghost use Rattle.bits.specs.Outcome.{Answers, roomed};
+ghost use Rattle.bits.specs.Outcome.{Answers, roomed, passed};
 ghost use Rattle.footer.specs.Finalize.{size_limit};
 ghost use Rattle.image.specs.Sections.{strings_in};
 ghost use Rattle.sections.specs.Places.{Laid};
@@ -19,8 +19,8 @@ ghost use Rattle.string_steps.specs.Steps.{stepwise, first_stop};
 ghost use Rattle.string_steps.specs.Room.{new_size, old_bytes, new_bytes, is_roomy};
 ghost use Rattle.string_steps.specs.Marked.{Marked};
 
-use bits::Answer;
 use format::Mode;
+use refusals::Refusal;
 use sections::Places;
 use string_edits::{Form, Next};
 use string_packing::Sizes;
@@ -36,7 +36,7 @@ fn old_bytes(image: &[u8], p: Places) -> usize
 {
     let mut c = string_walk::first_string();
     let mut sum = 0;
-    while c.id < p.strings {
+    for _id in 0..p.strings {
         let step = string_walk::string_at(image, p, c);
         let own = step.string;
         sum += string_tables::size_of(own.place);
@@ -71,11 +71,9 @@ fn new_bytes(marks: &[u32], text: &[u8], ends: &[u32]) -> usize
     ensures { (result ≡ new_bytes (values_in (told Marks marks.now) text.now ends.now)
         (length marks.now)) × (result ≤ length marks.now * string_most) }
 {
-    let mut i = 0;
     let mut sum = 0;
-    while i < marks.len() {
-        sum += marked_bytes(text, ends, marks[i]);
-        i += 1;
+    for mark in marks {
+        sum += marked_bytes(text, ends, *mark);
     }
     sum
 }
@@ -95,7 +93,7 @@ fn is_roomy(image: &[u8], p: Places, marks: &[u32], text: &[u8], ends: &[u32], r
         overflows: p.strings,
     };
     let plan = string_rebuild::plan_sizes(image, p, most);
-    string_rebuild::refusal(image, p, plan, room) == 0
+    string_rebuild::judge(image, p, plan, room).is_ok()
 }
 
 // ---- one patch after the other
@@ -113,14 +111,11 @@ fn fits_too(
     requires stands { Stands p image.now id own }
     ensures { result ≡ both (fits_in_place p.layout image.now id value.now) before }
 {
-    if !before {
-        return false;
-    }
-    string_in_place::fits_in_place(image, p, id, own, value)
+    before && string_in_place::fits_in_place(image, p, id, own, value)
 }
 
-// The number that the patch of the strings of these marks meets, where it is known whether all of them
-// fit in place.
+// Whether the patch of the strings of these marks is refused, where it is known whether all of them fit in
+// place.
 fn stop_at(
     image: &[u8],
     p: Places,
@@ -130,23 +125,23 @@ fn stop_at(
     ends: &[u32],
     fits: bool,
     room: usize,
-) -> u8
+) -> Result<(), Refusal>
     requires fits_value { fits ≡ fits_all p.layout image.now (values_in (told Marks marks.now) text.now ends.now) }
     requires laid { Laid p image.now × Listed (told Marks marks.now) text.now ends.now }
-    ensures { result ≡ number_of (roomed room (patch_known mode p.layout image.now
-        (values_in (told Marks marks.now) text.now ends.now))) }
+    ensures { result ≡ passed (number_of (roomed room (patch_known mode p.layout image.now
+        (values_in (told Marks marks.now) text.now ends.now)))) }
 {
     if !fits {
         let plan = string_rebuild::plan_rebuild(image, p, mode, Form::Marks, marks, text, ends);
-        return string_rebuild::refusal(image, p, plan, room);
+        return string_rebuild::judge(image, p, plan, room);
     }
     if room < image.len() {
-        return refusals::ROOM;
+        return Err(refusals::ROOM);
     }
-    0
+    Ok(())
 }
 
-// The number of the first single patch that is refused, 0 where none is.
+// The refusal of the first single patch that is refused.
 fn first_stop(
     image: &[u8],
     p: Places,
@@ -155,14 +150,15 @@ fn first_stop(
     text: &[u8],
     ends: &[u32],
     room: usize,
-) -> u8
+) -> Result<(), Refusal>
     requires { Marked p image.now marks.now text.now ends.now }
-    ensures { result ≡ first_stop mode p.layout image.now room
-        (values_in (told Marks marks.now) text.now ends.now) (strings_in image.now) }
+    ensures { result ≡ passed (first_stop mode p.layout image.now room
+        (values_in (told Marks marks.now) text.now ends.now) (strings_in image.now)) }
 {
     let mut c = string_walk::first_string();
     let mut fits = true;
     let mut next = string_edits::next_edit(Form::Marks, marks, c.id);
+    // Stays a while loop: it goes on from edit to edit, and counts no index.
     while next.id < string_edits::NONE {
         let at = string_walk::string_from(image, p, c, next.id);
         let step = string_walk::string_at(image, p, at);
@@ -171,13 +167,10 @@ fn first_stop(
         fits = fits_too(image, p, fits, next.id, own, value);
         c = step.next;
         let end = c.id;
-        let number = stop_at(image, p, mode, &marks[0..end], text, ends, fits, room);
-        if number != 0 {
-            return number;
-        }
+        stop_at(image, p, mode, &marks[0..end], text, ends, fits, room)?;
         next = string_edits::next_edit(Form::Marks, marks, end);
     }
-    0
+    Ok(())
 }
 
 // The same, with no look at single patches where there is room for any of them.
@@ -189,13 +182,13 @@ fn stop_of(
     text: &[u8],
     ends: &[u32],
     room: usize,
-) -> u8
+) -> Result<(), Refusal>
     requires { Marked p image.now marks.now text.now ends.now }
-    ensures { result ≡ first_stop mode p.layout image.now room
-        (values_in (told Marks marks.now) text.now ends.now) (strings_in image.now) }
+    ensures { result ≡ passed (first_stop mode p.layout image.now room
+        (values_in (told Marks marks.now) text.now ends.now) (strings_in image.now)) }
 {
     if is_roomy(image, p, marks, text, ends, room) {
-        return 0;
+        return Ok(());
     }
     first_stop(image, p, mode, marks, text, ends, room)
 }
@@ -210,14 +203,11 @@ pub fn patch_stepwise<'a>(
     marks: &[u32],
     text: &'a [u8],
     ends: &[u32],
-) -> Answer
+) -> Result<usize, Refusal>
     requires { Marked p image.now marks.now text.now ends.now }
     ensures { Answers (stepwise mode p.layout image.now (length out.old)
         (values_in (told Marks marks.now) text.now ends.now)) result out.old out.new }
 {
-    let number = stop_of(image, p, mode, marks, text, ends, out.len());
-    if number != 0 {
-        return Answer::Refused(number);
-    }
+    stop_of(image, p, mode, marks, text, ends, out.len())?;
     strings::patch_known(out, image, p, mode, Form::Marks, marks, text, ends)
 }

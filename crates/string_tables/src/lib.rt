@@ -44,9 +44,10 @@ fn identifier_run(word: u64) -> u64
     ensures { (result ≡ identifier_run word) × (result < 2147483648) }
 {
     if format::value(word, format::KIND_IDENTIFIER) == 1 {
-        return format::value(word, format::KIND_RUN);
+        format::value(word, format::KIND_RUN)
+    } else {
+        0
     }
-    0
 }
 
 // What `n` kind words cover that stand from `at` on. The sums are exact: a run is below 2^31.
@@ -57,12 +58,10 @@ fn covered_by(image: &[u8], at: usize, n: usize) -> Covered
 {
     let mut strings: u64 = 0;
     let mut identifiers: u64 = 0;
-    let mut k = 0;
-    while k < n {
+    for k in 0..n {
         let word = bits::word(image, sections::entry_at(at, k, format::KIND_ENTRY));
-        strings = strings + format::value(word, format::KIND_RUN);
-        identifiers = identifiers + identifier_run(word);
-        k += 1;
+        strings += format::value(word, format::KIND_RUN);
+        identifiers += identifier_run(word);
     }
     Covered {
         strings,
@@ -76,10 +75,7 @@ pub fn are_kinds_good(image: &[u8], p: Places) -> bool
     ensures { result ≡ kinds_good p.layout image.now }
 {
     let found = covered_by(image, p.kinds_at, p.kinds);
-    if found.strings != p.strings as u64 {
-        return false;
-    }
-    found.identifiers == p.identifiers as u64
+    found.strings == p.strings as u64 && found.identifiers == p.identifiers as u64
 }
 
 // ---- strings
@@ -127,9 +123,10 @@ pub fn size_of(place: Place) -> usize
     ensures { (result ≡ size_of (as_place place)) × (place.count ≤ result) × (result ≤ place.count * 2) }
 {
     if place.wide {
-        return place.count * 2;
+        place.count * 2
+    } else {
+        place.count
     }
-    place.count
 }
 
 // Whether none of the `n` bytes from `at` on exceeds 0x7F: they are gathered, and tested once.
@@ -138,10 +135,8 @@ fn are_narrow(image: &[u8], at: usize, n: usize) -> bool
     ensures { result ≡ all_narrow image.now at n }
 {
     let mut seen: u8 = 0;
-    let mut i = 0;
-    while i < n {
-        seen = seen | image[at + i];
-        i += 1;
+    for byte in &image[at..at + n] {
+        seen |= *byte;
     }
     seen <= 0x7F
 }
@@ -151,13 +146,7 @@ fn are_narrow(image: &[u8], at: usize, n: usize) -> bool
 fn is_numbered(entry: u64, k: usize, overflows: usize) -> bool
     ensures { result ≡ numbered overflows k entry }
 {
-    if !is_full(entry) {
-        return true;
-    }
-    if overflows <= k {
-        return false;
-    }
-    format::value(entry, format::ENTRY_OFFSET) == k as u64
+    !is_full(entry) || (k < overflows && format::value(entry, format::ENTRY_OFFSET) == k as u64)
 }
 
 // Whether a string lies in storage, and its bytes are narrow if it is.
@@ -166,13 +155,8 @@ fn is_stored(image: &[u8], p: Places, place: Place) -> bool
     requires at_bound { (place.at < 4294967296) × (place.count < 4294967296) }
     ensures { result ≡ stored p.layout image.now (as_place place) }
 {
-    if p.storage_size < place.at + size_of(place) {
-        return false;
-    }
-    if place.wide {
-        return true;
-    }
-    are_narrow(image, p.storage_at + place.at, place.count)
+    place.at + size_of(place) <= p.storage_size
+        && (place.wide || are_narrow(image, p.storage_at + place.at, place.count))
 }
 
 // Whether a small entry is good, with `k` overflow entries before it.
@@ -181,11 +165,8 @@ fn is_entry_good(image: &[u8], p: Places, k: usize, entry: u64) -> bool
     requires k_bound { k < 4294967296 }
     ensures { result ≡ entry_good p.layout image.now k entry }
 {
-    if !is_numbered(entry, k, p.overflows) {
-        return false;
-    }
-    let read = read_place(image, p.over_at, k, entry);
-    is_stored(image, p, read.place)
+    is_numbered(entry, k, p.overflows)
+        && is_stored(image, p, read_place(image, p.over_at, k, entry).place)
 }
 
 // Whether no condition of refusal 5 holds: one pass over the small table, with the count of overflow
@@ -195,8 +176,7 @@ pub fn are_strings_good(image: &[u8], p: Places) -> bool
     ensures { result ≡ strings_good p.layout image.now }
 {
     let mut k = 0;
-    let mut i = 0;
-    while i < p.strings {
+    for i in 0..p.strings {
         let entry = bits::word(
             image,
             sections::entry_at(p.small_at, i, format::SMALL_ENTRY),
@@ -205,7 +185,6 @@ pub fn are_strings_good(image: &[u8], p: Places) -> bool
             return false;
         }
         k += format::if_set(is_full(entry), 1);
-        i += 1;
     }
     k == p.overflows
 }

@@ -1,4 +1,5 @@
 -- What the rank of a string says: whether it is an identifier, and which hash slot is its own.
+use Rattle.std.specs.Prelude.{None, Option, Some}
 use mathlib.Core.Path.{◌≡◌, refl, sym, ◌∙◌, ap}
 use mathlib.Core.Bool.{Bool, true, false}
 use mathlib.Core.List.{List}
@@ -13,8 +14,6 @@ use Rattle.image.proofs.KindLaws.{rank_lt}
 use Rattle.sections.specs.declared.Places.{Places}
 use Rattle.sections.specs.Places.{Placed, Laid}
 use Rattle.sections.proofs.SectionLaws.{Sectioned, sectioned}
-use Rattle.string_walk.specs.declared.Rank.{Rank}
-use Rattle.string_walk.specs.declared.Rank.TheVariants.{At, Plain}
 use Rattle.string_walk.specs.Records.{rank_in, is_ranked}
 
 module _ (l : Layout) (s : List ℕ) (id : ℕ) where
@@ -23,20 +22,20 @@ module _ (l : Layout) (s : List ℕ) (id : ℕ) where
   unfolding rank_in
   ranked_flag = go (is_identifier l s id)
     where
-      go : (b : Bool) → is_ranked (pick b (At (rank_of l s id)) Plain) ≡ b
+      go : (b : Bool) → is_ranked (pick b (Some (rank_of l s id)) None) ≡ b
       go true = refl
       go false = refl
 
-  module _ (r : Rank) (e : r ≡ rank_in l s id) where
-    pub is_ranked_lem : (n : ℕ) → r ≡ At n → (is_identifier l s id ≡ true) × (n ≡ rank_of l s id)
+  module _ (r : Option ℕ) (e : r ≡ rank_in l s id) where
+    pub is_ranked_lem : (n : ℕ) → r ≡ Some n → (is_identifier l s id ≡ true) × (n ≡ rank_of l s id)
     unfolding rank_in
     is_ranked_lem n f = go (is_identifier l s id) (sym f ∙ e)
       where
-        go : (b : Bool) → At n ≡ pick b (At (rank_of l s id)) Plain → (b ≡ true) × (n ≡ rank_of l s id)
+        go : (b : Bool) → Some n ≡ pick b (Some (rank_of l s id)) None → (b ≡ true) × (n ≡ rank_of l s id)
         go true h = (refl, cc)
         go false h = let z : ◌≡◌ {A = ℕ} 0 1 = cc in absurd (omega arith)
 
-    pub is_plain : r ≡ Plain → is_identifier l s id ≡ false
+    pub is_plain : r ≡ None → is_identifier l s id ≡ false
     is_plain f = sym (ap is_ranked (sym f ∙ e) ∙ ranked_flag)
 
 -- ---- hash slots
@@ -55,8 +54,8 @@ module _ (p : Places) (s : List ℕ) (h : Placed p s) where
   slot_in n b = let z : Sectioned p s = sectioned p s h in omega arith
 
 -- the rank of an identifier is the number of a hash slot
-pub rank_slot : (p : Places) (s : List ℕ) → Laid p s → (id : ℕ) → id < p.strings → (r : Rank) → r ≡ rank_in p.layout s id
-    → (n : ℕ) → r ≡ At n → n < p.identifiers
+pub rank_slot : (p : Places) (s : List ℕ) → Laid p s → (id : ℕ) → id < p.strings → (r : Option ℕ) → r ≡ rank_in p.layout s id
+    → (n : ℕ) → r ≡ Some n → n < p.identifiers
 rank_slot p s h id b r e n f =
     let (t, g) = is_ranked_lem p.layout s id r e n f in
     let z : Sectioned p s = sectioned p s h.placed in

@@ -1,4 +1,5 @@
 -- What stands where a record says is the string of the definitions: its bytes, and its units one by one.
+use Rattle.std.specs.Prelude.{Option}
 use mathlib.Core.Path.{◌≡◌, sym, ◌∙◌, ap}
 use mathlib.Core.Bool.{Bool, true, false}
 use mathlib.Core.List.{List}
@@ -13,7 +14,6 @@ use Rattle.sections.specs.declared.Places.{Places}
 use Rattle.sections.specs.Places.{Placed}
 use Rattle.sections.proofs.SectionLaws.{Sectioned, sectioned}
 use Rattle.string_tables.specs.Strings.{as_place}
-use Rattle.string_walk.specs.declared.Rank.{Rank}
 use Rattle.string_walk.specs.declared.StringRecord.{StringRecord}
 use Rattle.string_walk.specs.Records.{rank_in, record_of}
 use Rattle.string_walk.specs.Places.{Stands}
@@ -33,7 +33,7 @@ module _ (p : Places) (s : List ℕ) (h : Placed p s) (i : ℕ) (r : StringRecor
   unfolding record_of
   record_is =
       ap (λ (a : ℕ). record { start = a; place = r.place; rank = r.rank }) start_is
-      ∙ ap (λ (k : Rank). record { start = storage_at p.layout s + r.place.at; place = r.place; rank = k }) g.rank
+      ∙ ap (λ (k : Option ℕ). record { start = storage_at p.layout s + r.place.at; place = r.place; rank = k }) g.rank
       ∙ ap (λ (q : entry.Place).
       record {
         start = storage_at p.layout s + q.at;

@@ -1,4 +1,5 @@
 -- The pass over the kinds: each run follows the one before it, and an id's flag and rank are those of the run that covers it.
+use Rattle.std.specs.Prelude.{None, Some}
 use mathlib.Core.Path.{◌≡◌, refl, sym, ◌∙◌, ap, subst, subst⁻¹}
 use mathlib.Core.Bool.{Bool, true, false, not}
 use mathlib.Core.Logic.{inl, inr}
@@ -18,7 +19,6 @@ use Rattle.sections.specs.declared.Places.{Places}
 use Rattle.sections.specs.Places.{Placed, Laid}
 use Rattle.sections.proofs.SectionLaws.{Sectioned, sectioned}
 use Rattle.string_walk.specs.declared.Run.{Run}
-use Rattle.string_walk.specs.declared.Rank.TheVariants.{At, Plain}
 use Rattle.string_walk.specs.Records.{rank_in}
 use Rattle.string_walk.specs.Runs.{run_at, start_at, rank_in_run, RunOf, Reaches}
 
@@ -29,10 +29,10 @@ set-pick false n = refl
 -- ---- the rank of an id by its run
 
 module _ (r : Run) (id : ℕ) where
-  pub plain_run : not r.identifier ≡ true → Plain ≡ rank_in_run r id
+  pub plain_run : not r.identifier ≡ true → None ≡ rank_in_run r id
   plain_run h = rw (not-true r.identifier h)
 
-  pub identifier_run_lem : not r.identifier ≡ false → At (r.identifiers - (r.end - id)) ≡ rank_in_run r id
+  pub identifier_run_lem : not r.identifier ≡ false → Some (r.identifiers - (r.end - id)) ≡ rank_in_run r id
   identifier_run_lem h = rw (not-false r.identifier h)
 
 -- ---- a run among kind words
@@ -119,8 +119,8 @@ module _ (p : Places) (s : List ℕ) (r : Run) (id : ℕ) (h : Covers p s r id) 
     where
       go : (b : Bool) → b ≡ is_identifier p.layout s id
           → (b ≡ true → rank_of p.layout s id + (r.end - id) ≡ r.identifiers)
-          → pick b (At (r.identifiers - (r.end - id))) Plain
-          ≡ pick (is_identifier p.layout s id) (At (rank_of p.layout s id)) Plain
+          → pick b (Some (r.identifiers - (r.end - id))) None
+          ≡ pick (is_identifier p.layout s id) (Some (rank_of p.layout s id)) None
       go true e f =
           let g : r.identifiers - (r.end - id) ≡ rank_of p.layout s id = omega (arith, f refl) in
           rw (← e, g)

@@ -1,5 +1,6 @@
 -- A string that a walk or a pass comes to: its entries are there, its place lies in storage, and the counts go on; and what a location
 -- says.
+use Rattle.std.specs.Prelude.{Ok, Err, Result}
 use mathlib.Core.Path.{◌≡◌, refl, sym, ◌∙◌, ap, subst, subst⁻¹}
 use mathlib.Core.Bool.{Bool, true, false}
 use mathlib.Core.List.{List}
@@ -21,7 +22,6 @@ use Rattle.string_tables.proofs.StringLaws.{image_place}
 use Rattle.string_walk.specs.declared.Counts.{Counts}
 use Rattle.string_walk.specs.declared.Cursor.{Cursor}
 use Rattle.string_walk.specs.declared.Location.{Location}
-use Rattle.string_walk.specs.declared.Location.TheVariants.{At, Refused}
 use Rattle.string_walk.specs.declared.StringRecord.{StringRecord}
 use Rattle.string_walk.specs.declared.Visited.{Visited}
 use Rattle.string_walk.specs.Places.{Lies, Stands, counts_of, VisitedOf, Locates}
@@ -97,20 +97,20 @@ pass_visits p s c r v n e = e ∙ walked_visits p.layout s (counts_of r.next) v.
 -- the string that a pass comes to at its id
 pub located_pass : (p : Places) (s : List ℕ) (c : Cursor) (r : Visited) (id : ℕ) → VisitedOf p s c r → c.id ≡ id
     → id < p.strings
-    → Locates p s id refusals.id (At id r.string (counts_of r.next))
+    → Locates p s id refusals.id (Ok (record { id = id; string = r.string; counts = counts_of r.next }))
 located_pass p s c r id v e known =
     (refl, known, rw e at v.string, rw e at (pass_visits p s c r v (counts_of r.next) refl))
 
-module _ (p : Places) (s : List ℕ) (id n : ℕ) (r : Location) (h : Locates p s id n r) where
-  pub located_at : (i : ℕ) (q : StringRecord) (c : Counts) → r ≡ At i q c
-      → (i ≡ id) × (id < p.strings) × Stands p s id q × (c ≡ visits p.layout s id)
-  located_at i q c e = subst (λ (x : Location). Locates p s id n x) e h
+module _ (p : Places) (s : List ℕ) (id n : ℕ) (r : Result Location ℕ) (h : Locates p s id n r) where
+  pub located_at : (q : Location) → r ≡ Ok q
+      → (q.id ≡ id) × (id < p.strings) × Stands p s id q.string × (q.counts ≡ visits p.layout s id)
+  located_at q e = subst (λ (x : Result Location ℕ). Locates p s id n x) e h
 
   -- said of the id that it tells
-  pub located_self : (i : ℕ) (q : StringRecord) (c : Counts) → r ≡ At i q c → (i < p.strings) × Stands p s i q
-  located_self i q c e =
-      let (x, known, st, _) = located_at i q c e in
-      (rw x known, subst⁻¹ (λ (j : ℕ). Stands p s j q) x st)
+  pub located_self : (q : Location) → r ≡ Ok q → (q.id < p.strings) × Stands p s q.id q.string
+  located_self q e =
+      let (x, known, st, _) = located_at q e in
+      (rw x known, subst⁻¹ (λ (j : ℕ). Stands p s j q.string) x st)
 
-  pub located_none : (m : ℕ) → r ≡ Refused m → (m ≡ n) × (p.strings ≤ id)
-  located_none m e = subst (λ (x : Location). Locates p s id n x) e h
+  pub located_none : (m : ℕ) → r ≡ Err m → (m ≡ n) × (p.strings ≤ id)
+  located_none m e = subst (λ (x : Result Location ℕ). Locates p s id n x) e h

@@ -1,6 +1,6 @@
 -- What a pass over the strings of an admitted image promises of each of them, and how it goes from string to string.
 -- docs/FORMAT.md: Strings, Overflow.
-use Rattle.std.specs.Prelude.{◌≡◌, List, ℕ, ◌+◌, ◌≤◌, ◌<◌}
+use Rattle.std.specs.Prelude.{◌≡◌, List, ℕ, ◌+◌, ◌≤◌, ◌<◌, Ok, Err, Result}
 use Rattle.image.specs.Strings.{place_at, size_of}
 use Rattle.sections.specs.declared.Places.{Places}
 use Rattle.sections.specs.Places.{Laid}
@@ -13,7 +13,6 @@ use Rattle.string_walk.specs.declared.Step.{Step}
 use Rattle.string_walk.specs.declared.StringRecord.{StringRecord}
 use Rattle.string_walk.specs.declared.Visited.{Visited}
 use Rattle.string_walk.specs.declared.Location.{Location}
-use Rattle.string_walk.specs.declared.Location.TheVariants.{At, Refused}
 use Rattle.string_walk.specs.Records.{rank_in}
 use Rattle.string_walk.specs.Runs.{RunOf, Reaches}
 use Rattle.string_walk.specs.Walk.{visits, Walked}
@@ -65,11 +64,6 @@ pub record VisitedOf (p : Places) (s : List ℕ) (c : Cursor) (r : Visited) : Ty
 -- ---- one string located
 
 -- string id, its record, and what the walk to it visits; or the number n, where the image has no such string
-abbrev pub Locates : Places → List ℕ → ℕ → ℕ → Location → Type 0
-Locates p s id n (At i r c) = (i ≡ id) × (id < p.strings) × Stands p s id r × (c ≡ visits p.layout s id)
-Locates p s id n (Refused m) = (m ≡ n) × (p.strings ≤ id)
-
--- the number of a refusal, 0 being none
-abbrev pub number_of : Location → ℕ
-number_of (At i r c) = 0
-number_of (Refused n) = n
+abbrev pub Locates : Places → List ℕ → ℕ → ℕ → Result Location ℕ → Type 0
+Locates p s id n (Ok r) = (r.id ≡ id) × (id < p.strings) × Stands p s id r.string × (r.counts ≡ visits p.layout s id)
+Locates p s id n (Err m) = (m ≡ n) × (p.strings ≤ id)

@@ -1,12 +1,10 @@
 -- The runs of kinds, one by one. 01: "kinds cover the ids in order".
 -- docs/FORMAT.md: Kinds.
-use Rattle.std.specs.Prelude.{◌≡◌, false, List, ℕ, zero, suc, ◌-◌, ◌≤◌}
+use Rattle.std.specs.Prelude.{◌≡◌, false, List, ℕ, zero, suc, ◌-◌, ◌≤◌, None, Option, Some}
 use Rattle.bits.specs.Choice.{pick}
 use Rattle.image.specs.Sections.{kinds_in}
 use Rattle.image.specs.Kinds.{kind_in, is_identifier_run, covered, identified}
 use Rattle.sections.specs.declared.Places.{Places}
-use Rattle.string_walk.specs.declared.Rank.{Rank}
-use Rattle.string_walk.specs.declared.Rank.TheVariants.{At, Plain}
 use Rattle.string_walk.specs.declared.Run.{Run}
 
 -- the last of the first n kinds: where the ids end that it covers, whether they are identifiers, and how many there are up to that end
@@ -30,5 +28,5 @@ abbrev pub Reaches : Places → List ℕ → Run → ℕ → Type 0
 Reaches p s r id = start_at (kind_in p.layout s) r.count ≤ id
 
 -- the rank of an id that a run covers: the identifiers up to its end, less those from the id on
-abbrev pub rank_in_run : Run → ℕ → Rank
-rank_in_run r id = pick r.identifier (At (r.identifiers - (r.end - id))) Plain
+abbrev pub rank_in_run : Run → ℕ → Option ℕ
+rank_in_run r id = pick r.identifier (Some (r.identifiers - (r.end - id))) None

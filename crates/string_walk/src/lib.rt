@@ -10,29 +10,24 @@ ghost use Rattle.image.specs.Kinds.{kind_in, is_identifier_run, hash_in};
 ghost use Rattle.refusals.specs.Numbers as refusals;
 ghost use Rattle.sections.specs.declared.Places.{Places};
 ghost use Rattle.sections.specs.Places.{Placed, Laid};
-ghost use Rattle.string_walk.specs.Places.{StepOf, counts_of, CursorOf, RunBefore, VisitedOf, Locates, number_of};
+ghost use Rattle.string_walk.specs.Places.{StepOf, counts_of, CursorOf, RunBefore, VisitedOf, Locates};
 ghost use Rattle.string_walk.specs.Records.{is_ranked};
 ghost use Rattle.string_walk.specs.Runs.{run_at, rank_in_run, RunOf, Reaches};
 ghost use Rattle.string_walk.specs.Units.{unit_at};
 ghost use Rattle.string_walk.specs.Walk.{Walked};
 
+use refusals::Refusal;
 use sections::Places;
 use string_tables::Place;
 
-// The rank of a string among the identifiers: how many of them have a lower id. A plain string has none.
-#[derive(Clone, Copy)]
-pub enum Rank {
-    At(usize),
-    Plain,
-}
-
 // A string of an image, as all who find it hand it round: where its bytes start, its place in storage as
-// its entries give it, and its rank.
+// its entries give it, and its rank among the identifiers: how many of them have a lower id. A plain string
+// has none.
 #[derive(Clone, Copy)]
 pub struct StringRecord {
     pub start: usize,
     pub place: Place,
-    pub rank: Rank,
+    pub rank: Option<usize>,
 }
 
 // Where a pass over the strings has come to: the next string, the overflow entries before it, and the
@@ -66,12 +61,12 @@ pub struct Visited {
     pub next: Cursor,
 }
 
-// A string that was looked for: its id, its record, and what was visited on the way to it; or the number of
-// the refusal.
+// A string that was found: its id, its record, and what was visited on the way to it.
 #[derive(Clone, Copy)]
-pub enum Location {
-    At(usize, StringRecord, Counts),
-    Refused(u8),
+pub struct Location {
+    pub id: usize,
+    pub string: StringRecord,
+    pub counts: Counts,
 }
 
 // ---- strings
@@ -119,7 +114,7 @@ fn walk_to(image: &[u8], p: Places, from: Counts, id: usize) -> Counts
     ensures { Walked p.layout image.now result × (result.small ≡ id) }
 {
     let mut counts = from;
-    while counts.small < id {
+    for _i in from.small..id {
         counts = visit(image, p, counts).counts;
     }
     counts
@@ -200,6 +195,7 @@ fn run_of(image: &[u8], p: Places, from: Run, id: usize) -> Run
     ensures { RunOf p image.now result × Reaches p image.now result id × (id < result.end) }
 {
     let mut run = from;
+    // Stays a while loop: it goes on to the run that reaches past `id`, and counts no index.
     while run.end <= id {
         run = next_run(image, p, run);
     }
@@ -208,25 +204,22 @@ fn run_of(image: &[u8], p: Places, from: Run, id: usize) -> Run
 
 // The rank of a string that a run covers: the identifiers up to the run's end, less those from the string
 // on.
-fn rank_in(run: Run, id: usize) -> Rank
+fn rank_in(run: Run, id: usize) -> Option<usize>
     requires id_le_end { id ≤ run.end }
     requires id_bound { run.identifier ≡ true → run.end - id ≤ run.identifiers }
     ensures { result ≡ rank_in_run run id }
 {
     if !run.identifier {
-        return Rank::Plain;
+        return None;
     }
-    Rank::At(run.identifiers - (run.end - id))
+    Some(run.identifiers - (run.end - id))
 }
 
 // Whether a rank is that of an identifier.
-pub fn is_identifier(rank: Rank) -> bool
+pub fn is_identifier(rank: Option<usize>) -> bool
     ensures { result ≡ is_ranked rank }
 {
-    match rank {
-        Rank::At(_) => true,
-        Rank::Plain => false,
-    }
+    rank.is_some()
 }
 
 // The hash that is stored for the identifier of a rank, stale or not.
@@ -301,25 +294,18 @@ pub fn counts_of(at: Cursor) -> Counts
 // ---- one id
 
 // String `id`; 7 where there is none. The walk to it is what is counted.
-pub fn locate(image: &[u8], p: Places, id: usize) -> Location
+pub fn locate(image: &[u8], p: Places, id: usize) -> Result<Location, Refusal>
     requires { Laid p image.now }
     ensures { Locates p image.now id refusals.id result }
 {
     if p.strings <= id {
-        return Location::Refused(refusals::ID);
+        return Err(refusals::ID);
     }
     let from = string_from(image, p, first_string(), id);
     let found = string_at(image, p, from);
-    let string = found.string;
-    Location::At(id, string, counts_of(found.next))
-}
-
-// The number of a refusal; 0 where a string was found.
-pub fn number_of(location: Location) -> u8
-    ensures { result ≡ number_of location }
-{
-    match location {
-        Location::At(_, _, _) => 0,
-        Location::Refused(number) => number,
-    }
+    Ok(Location {
+        id,
+        string: found.string,
+        counts: counts_of(found.next),
+    })
 }

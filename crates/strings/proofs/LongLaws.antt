@@ -1,4 +1,5 @@
 -- A value of 2^32 bytes or more: no image holds it as a string.
+use Rattle.std.specs.Prelude.{Err}
 use mathlib.Core.Path.{◌≡◌, refl, ap, ◌∙◌}
 use mathlib.Core.Bool.{Bool, true, false}
 use mathlib.Core.Logic.{inl, inr}
@@ -10,7 +11,6 @@ use lib.ListN.{length, length-append}
 use Rattle.bits.specs.Choice.{pick, both, judge}
 use Rattle.bits.specs.Bytes.{ascii, zeros_to4}
 use Rattle.bits.specs.Outcome.{Answers, roomed}
-use Rattle.bits.specs.declared.Answer.TheVariants.{Refused}
 use Rattle.bits.proofs.TestLaws.{which}
 use Rattle.format.specs.declared.Mode.{Mode}
 use Rattle.format.proofs.MoveLaws.{moved-high}
@@ -98,6 +98,6 @@ module _ (m : Mode) (p : Places) (s : List ℕ) (laid : Laid p s) (id : ℕ) (kn
       ))
 
   pub long_refused : (out : List ℕ)
-      → Answers (roomed (length out) (patch_known m p.layout s (only id value))) (Refused 11) out out
+      → Answers (roomed (length out) (patch_known m p.layout s (only id value))) (Err 11) out out
   unfolding patch_known judge roomed
   long_refused out = rw (lt-ltb size_limit (new_length m p.layout s (only id value)) too_long) (refl, refl)

@@ -1,4 +1,5 @@
 -- The order of refusals over a list of edits; where none is given, the patch of known strings decides.
+use Rattle.std.specs.Prelude.{Err, Ok, Result}
 use mathlib.Core.Path.{◌≡◌, refl, ap, sym, ◌∙◌, subst, fun_ext}
 use mathlib.Core.Bool.{Bool, true, false, not}
 use mathlib.Core.Option.{none, some}
@@ -11,17 +12,13 @@ use lib.ListN.{length, get_or}
 use Rattle.bits.specs.Choice.{pick, check, judge}
 use Rattle.bits.specs.Bytes.{bytes_at}
 use Rattle.bits.specs.Outcome.{Answers, roomed, outcome_for}
-use Rattle.bits.specs.declared.Answer.{Answer}
-use Rattle.bits.specs.declared.Answer.TheVariants.{Refused}
 use Rattle.bits.proofs.TestLaws.{all_at}
 use Rattle.bits.proofs.ByteLaws.{bytes_at_self}
 use Rattle.format.specs.declared.Layout.{Layout}
 use Rattle.format.specs.declared.Mode.{Mode}
 use Rattle.image.specs.Sections.{strings_in}
 use Rattle.sections.specs.declared.Places.{Places}
-use Rattle.admission.specs.declared.Admission.{Admission}
-use Rattle.admission.specs.declared.Admission.TheVariants as answer
-use Rattle.admission.specs.Admission.{admission, number_of}
+use Rattle.admission.specs.Admission.{admission}
 use Rattle.admission.proofs.AnswerLaws.{laid_then}
 use Rattle.string_edits.specs.Values.{Values, only, values_of}
 use Rattle.string_edits.specs.declared.Form.TheVariants.{Ids}
@@ -35,7 +32,7 @@ use Rattle.strings.proofs.PatchLaws.{Admits, strings_is, layout_is, refused_all}
 module _ (m : Mode) (l : Layout) (s ids text ends out : List ℕ) where
   -- the three are no list of edits
   pub no_list : (b : Bool) → b ≡ is_list ids text ends → not b ≡ true
-      → Answers (roomed (length out) (patch_strings m l s ids text ends)) (Refused 15) out out
+      → Answers (roomed (length out) (patch_strings m l s ids text ends)) (Err 15) out out
   unfolding patch_strings roomed
   no_list b e t = rw (← e, not-true b t) (refl, refl)
 
@@ -48,13 +45,13 @@ module _ (m : Mode) (l : Layout) (s ids text ends out : List ℕ) where
     list_one = is_one ids text ends (sym e ∙ not-false b t)
 
     -- the image is not admitted
-    pub list_refused : (r : Admission) → r ≡ admission l s → (k n : ℕ) → r ≡ answer.Refused k → n ≡ number_of r
-        → Answers (roomed (length out) (patch_strings m l s ids text ends)) (Refused n) out out
+    pub list_refused : (r : Result Places ℕ) → r ≡ admission l s → (k : ℕ) → r ≡ Err k
+        → Answers (roomed (length out) (patch_strings m l s ids text ends)) (Err k) out out
     unfolding patch_in_pass pass_refusal
-    list_refused r a k n f g = rw a_list (refused_all l s r a _ (patched_strings m l s (values_listed ids text ends)) out k n f g)
+    list_refused r a k f = rw a_list (refused_all l s r a _ (patched_strings m l s (values_listed ids text ends)) out k f)
 
 -- the three are a list of edits, and the image is admitted
-pub record Judging (l : Layout) (s ids text ends : List ℕ) (r : Admission) (p : Places) (b : Bool) : Type 0 where
+pub record Judging (l : Layout) (s ids text ends : List ℕ) (r : Result Places ℕ) (p : Places) (b : Bool) : Type 0 where
   pub list : b ≡ is_list ids text ends
   pub one : not b ≡ false
   pub admits : Admits l s r p
@@ -65,7 +62,7 @@ pub record Tests (ids text ends : List ℕ) (strings : ℕ) (known differ valid 
   pub twice : differ ≡ all_differ (λ j. get_or ids j 0) (length ids)
   pub values : valid ≡ all_utf8 (value_in text ends) (length ends)
 
-module _ (m : Mode) (l : Layout) (s ids text ends out : List ℕ) (r : Admission) (p : Places) (b : Bool)
+module _ (m : Mode) (l : Layout) (s ids text ends out : List ℕ) (r : Result Places ℕ) (p : Places) (b : Bool)
     (j : Judging l s ids text ends r p b) (c d g : Bool) (t : Tests ids text ends p.strings c d g) where
   known_is : c ≡ all_known (λ j. get_or ids j 0) (length ids) (strings_in s)
   known_is = t.there ∙ ap (all_known (λ j. get_or ids j 0) (length ids)) (strings_is l s r p j.admits)
@@ -82,22 +79,22 @@ module _ (m : Mode) (l : Layout) (s ids text ends out : List ℕ) (r : Admission
       (ap (λ (n : ℕ). outcome_for n (patched_strings m l s (values_listed ids text ends)))
       (laid_then l s r j.admits.is p j.admits.laid _))
 
-  pub not_known : not c ≡ true → Answers (roomed (length out) (patch_strings m l s ids text ends)) (Refused 7) out out
+  pub not_known : not c ≡ true → Answers (roomed (length out) (patch_strings m l s ids text ends)) (Err 7) out out
   unfolding judge roomed
   not_known u = rw (behind, u) (refl, refl)
 
   module _ (u : not c ≡ false) where
-    pub given-twice : not d ≡ true → Answers (roomed (length out) (patch_strings m l s ids text ends)) (Refused 17) out out
+    pub given-twice : not d ≡ true → Answers (roomed (length out) (patch_strings m l s ids text ends)) (Err 17) out out
     unfolding judge roomed
     given-twice v = rw (behind, u, v) (refl, refl)
 
     module _ (v : not d ≡ false) where
-      pub not_valid : not g ≡ true → Answers (roomed (length out) (patch_strings m l s ids text ends)) (Refused 8) out out
+      pub not_valid : not g ≡ true → Answers (roomed (length out) (patch_strings m l s ids text ends)) (Err 8) out out
       unfolding judge roomed
       not_valid w = rw (behind, u, v, w) (refl, refl)
 
       -- nothing is wrong with the list
-      pub list_known : not g ≡ false → (a : Answer) (o : List ℕ)
+      pub list_known : not g ≡ false → (a : Result ℕ ℕ) (o : List ℕ)
           → Answers (roomed (length out) (patch_known m p.layout s (values_listed ids text ends))) a out o
           → Answers (roomed (length out) (patch_strings m l s ids text ends)) a out o
       unfolding judge patch_known
@@ -133,7 +130,7 @@ one_values id value =
     fun_ext (λ i. ap (λ (x : List ℕ). pick (eqb i id) (some x) none) (ap (bytes_at value 0) e ∙ bytes_at_self value))
 
 -- so an answer for the list is one for the string
-pub one_answers : (m : Mode) (l : Layout) (s : List ℕ) (id : ℕ) (value out : List ℕ) (a : Answer) (o : List ℕ)
+pub one_answers : (m : Mode) (l : Layout) (s : List ℕ) (id : ℕ) (value out : List ℕ) (a : Result ℕ ℕ) (o : List ℕ)
     → Answers (roomed (length out) (patch_known m l s (values_listed (id ∷ []) value (length value ∷ [])))) a out o
     → Answers (roomed (length out) (patch_known m l s (only id value))) a out o
 one_answers m l s id value out a o h =

@@ -12,12 +12,10 @@ ghost use Rattle.string_in_place.specs.Patch.{patch_known};
 ghost use Rattle.strings.specs.Patch.{patch_by_id, patch_by_value};
 ghost use Rattle.strings.specs.Pass.{patch_strings};
 
-use admission::Admission;
-use bits::Answer;
 use format::{Layout, Mode};
+use refusals::Refusal;
 use sections::Places;
 use string_edits::Form;
-use string_walk::Location;
 
 // A value of more bytes is longer than any image, as a string too.
 pub const LONGEST: usize = 4294967295;
@@ -33,7 +31,7 @@ pub fn patch_known<'a>(
     words: &[u32],
     text: &'a [u8],
     ends: &[u32],
-) -> Answer
+) -> Result<usize, Refusal>
     requires laid { Laid p image.now × Listed (told form words.now) text.now ends.now }
     requires by_index { (id j : ℕ) → Tells (told form words.now) id j → id < p.strings }
     ensures { Answers (roomed (length out.old) (patch_known mode p.layout image.now
@@ -54,14 +52,14 @@ fn patch_one<'a>(
     p: Places,
     mode: Mode,
     id: usize,
-) -> Answer
+) -> Result<usize, Refusal>
     requires { Laid p image.now × (id < p.strings) × (is_utf8 value.now ≡ true) }
     ensures { Answers
         (roomed (length out.old) (patch_known mode p.layout image.now (only id value.now))) result
         out.old out.new }
 {
     if LONGEST < value.len() {
-        return Answer::Refused(refusals::LIMIT);
+        return Err(refusals::LIMIT);
     }
     let ids = [id as u32; 1];
     let ends = [value.len() as u32; 1];
@@ -79,19 +77,16 @@ pub fn patch_string_by_id<'a>(
     id: usize,
     value: &'a [u8],
     out: &mut [u8],
-) -> Answer
+) -> Result<usize, Refusal>
     ensures { Answers (roomed (length out.old) (patch_by_id mode layout image.now id value.now)) result
         out.old out.new }
 {
-    let admitted = admission::admit(image, layout);
-    let Admission::Laid(p) = admitted else {
-        return Answer::Refused(admission::number_of(admitted));
-    };
+    let p = admission::admit(image, layout)?;
     if p.strings <= id {
-        return Answer::Refused(refusals::ID);
+        return Err(refusals::ID);
     }
     if !utf::is_utf8(value) {
-        return Answer::Refused(refusals::VALUE);
+        return Err(refusals::VALUE);
     }
     patch_one(out, image, value, p, mode, id)
 }
@@ -105,26 +100,20 @@ pub fn patch_string_replace<'a>(
     old: &[u8],
     new: &'a [u8],
     out: &mut [u8],
-) -> Answer
+) -> Result<usize, Refusal>
     ensures { Answers
         (roomed (length out.old) (patch_by_value mode layout image.now old.now new.now)) result
         out.old out.new }
 {
-    let admitted = admission::admit(image, layout);
-    let Admission::Laid(p) = admitted else {
-        return Answer::Refused(admission::number_of(admitted));
-    };
+    let p = admission::admit(image, layout)?;
     if !utf::is_utf8(old) {
-        return Answer::Refused(refusals::VALUE);
+        return Err(refusals::VALUE);
     }
     if !utf::is_utf8(new) {
-        return Answer::Refused(refusals::VALUE);
+        return Err(refusals::VALUE);
     }
-    let location = string_find::find(image, p, old);
-    let Location::At(id, _, _) = location else {
-        return Answer::Refused(string_walk::number_of(location));
-    };
-    patch_one(out, image, new, p, mode, id)
+    let found = string_find::find(image, p, old)?;
+    patch_one(out, image, new, p, mode, found.id)
 }
 
 // The strings of a list of ids get values, which are one text and their end places, in one pass: in
@@ -139,25 +128,22 @@ pub fn patch_strings<'a>(
     text: &'a [u8],
     ends: &[u32],
     out: &mut [u8],
-) -> Answer
+) -> Result<usize, Refusal>
     ensures { Answers (roomed (length out.old) (patch_strings mode layout image.now
         ids.now text.now ends.now)) result out.old out.new }
 {
     if !string_edits::is_list(ids, text, ends) {
-        return Answer::Refused(refusals::JOB);
+        return Err(refusals::JOB);
     }
-    let admitted = admission::admit(image, layout);
-    let Admission::Laid(p) = admitted else {
-        return Answer::Refused(admission::number_of(admitted));
-    };
+    let p = admission::admit(image, layout)?;
     if !string_edits::are_known(ids, p.strings) {
-        return Answer::Refused(refusals::ID);
+        return Err(refusals::ID);
     }
     if !string_edits::are_different(ids) {
-        return Answer::Refused(refusals::TWICE);
+        return Err(refusals::TWICE);
     }
     if !string_edits::are_utf8(text, ends) {
-        return Answer::Refused(refusals::VALUE);
+        return Err(refusals::VALUE);
     }
     patch_known(out, image, p, mode, Form::Ids, ids, text, ends)
 }

@@ -1,48 +1,39 @@
 // The calls by their numbers, with arguments in the order of the judge's table, oracle/src/builder.
 ghost use Rattle.std.specs.Prelude.{◌+◌, ◌*◌, ◌≤◌, length};
 
-use bits::Answer as Length;
-use test_frames::{Answer, HEAD, Status, word};
+use refusals::Refusal;
+use test_frames::{Answer, HEAD, Results, results, word};
 
 // The longest buffer that a call may have.
 pub const LONGEST: usize = 65536;
 
 // The answer of a call. Its buffer is left as the function that it names leaves it.
-pub fn answer_call(head: &[u8; HEAD], buffer: &mut [u8]) -> Answer
-    requires { length buffer.old ≤ 65536 }
-{
-    match test_frames::number(head) {
-        14 => hashed(footer::compute_file_hash(buffer)),
+pub fn answer_call(head: &[u8; HEAD], buffer: &mut [u8]) -> Option<Answer> {
+    let answer = match test_frames::number(head) {
+        14 => Ok(hashed(footer::compute_file_hash(buffer))),
         15 => lengthed(footer::append_footer(buffer, test_frames::long(head, 0) as usize)),
         16 => lengthed(footer::rehash_footer(buffer, test_frames::long(head, 0) as usize)),
-        17 => test_frames::few(footer::verify_footer(buffer) as u32, 0, 0, 0),
+        17 => Ok(results([footer::verify_footer(buffer) as u32])),
         18 => lengthed(footer::finalize_raw_image(buffer)),
-        19 => built(head, buffer),
-        _ => test_frames::bare(Status::Unknown),
-    }
+        19 => built(head, buffer)?,
+        _ => return None,
+    };
+    Some(answer)
 }
 
 // A hash comes back as five words.
-fn hashed(hash: [u8; footer::FOOTER_LEN]) -> Answer {
-    test_frames::done([
+fn hashed(hash: [u8; footer::FOOTER_LEN]) -> Results {
+    results([
         bits::word(&hash, 0) as u32,
         bits::word(&hash, 4) as u32,
         bits::word(&hash, 8) as u32,
         bits::word(&hash, 12) as u32,
         bits::word(&hash, 16) as u32,
-        0,
-        0,
-        0,
-        0,
-        0,
     ])
 }
 
-fn lengthed(answer: Length) -> Answer {
-    match answer {
-        Length::Length(length) => test_frames::few((length % 4294967296) as u32, 0, 0, 0),
-        Length::Refused(number) => test_frames::bare(Status::Refused(number)),
-    }
+fn lengthed(answer: Result<usize, Refusal>) -> Answer {
+    answer.map(|length| results([test_frames::cut(length)]))
 }
 
 // The builder on a text, ends and a body that stand one after the other, up to `end`.
@@ -69,26 +60,21 @@ fn built_from(
 
 // A call of the builder: text, ends and body stand in the buffer, before the output. They are lent
 // from a copy, since the builder writes into the same buffer.
-fn built(head: &[u8; HEAD], buffer: &mut [u8]) -> Answer
-    requires { length buffer.old ≤ 65536 }
-{
+fn built(head: &[u8; HEAD], buffer: &mut [u8]) -> Option<Answer> {
     let text = word(head, 1) as usize;
     let count = word(head, 2) as usize;
     let out_at = text + count * 4 + word(head, 3) as usize;
-    if count > test_frames::LIST {
-        return test_frames::bare(Status::Unknown);
-    }
-    if out_at > buffer.len() {
-        return test_frames::bare(Status::Unknown);
+    if count > test_frames::LIST || out_at > buffer.len() || out_at > LONGEST {
+        return None;
     }
     let mut inputs = [0u8; LONGEST];
-    bits::put_bytes(&mut inputs, 0, &buffer[0..out_at]);
-    built_from(
+    inputs[0..out_at].copy_from_slice(&buffer[0..out_at]);
+    Some(built_from(
         word(head, 0),
         &inputs,
         text,
         count,
         out_at,
         &mut buffer[out_at..],
-    )
+    ))
 }

@@ -2,7 +2,6 @@
 // modern image of version 97 with the strings "a" and "bc" and one function with a body of 4 bytes.
 #![tactic(auto)]
 
-use bits::Answer;
 use std::io;
 
 // The length of the image.
@@ -17,7 +16,7 @@ fn main(rt: HostRuntime) -> io::Result<()> {
         b"\x01\x02\x03\x04",
         &mut image,
     );
-    if let Answer::Length(_) = answer {
+    if answer.is_ok() {
         rt.write_all(&image)?;
     }
     Ok(())

@@ -7,7 +7,8 @@
 
 ghost use Rattle.std.specs.Prelude.{◌≡◌, ◌+◌, ◌*◌, ◌<◌, ◌≤◌, length};
 
-use format::Mode;
+use format::{Layout, Mode};
+use refusals::Refusal;
 use std::io::{Read, Write};
 
 // The bytes of a call before its buffer: its number, the buffer's length, 32 argument words.
@@ -24,25 +25,11 @@ const ANSWER: usize = 44;
 // The most words that a list within a buffer may have.
 pub const LIST: usize = 1024;
 
-#[derive(Clone, Copy)]
-pub enum Status {
-    Done,
-    Refused(u8),
-    // No call has that number. It gets no answer, and the stream ends there.
-    Unknown,
-}
+// The result words of a call. Those that it does not give are 0.
+pub type Results = [u32; RESULTS];
 
-// An answer, but for the buffer as the call left it. Results that a call does not give are 0.
-#[derive(Clone, Copy)]
-pub struct Answer {
-    pub status: Status,
-    pub results: [u32; RESULTS],
-}
-
-// Fills a head or a buffer with the next bytes of the stream, or answers that too few are left.
-pub fn read<I: Read>(input: &mut I, bytes: &mut [u8]) -> bool {
-    input.read_exact(bytes).is_ok()
-}
+// A call's results, or why it is refused. The buffer as the call left it goes out behind.
+pub type Answer = Result<Results, Refusal>;
 
 pub fn number(head: &[u8; HEAD]) -> u64 {
     bits::word(head, 0)
@@ -50,55 +37,6 @@ pub fn number(head: &[u8; HEAD]) -> u64 {
 
 pub fn buffer_length(head: &[u8; HEAD]) -> usize {
     bits::word(head, 4) as usize
-}
-
-// A call's buffer that was read in two parts, or not: their lengths.
-#[derive(Clone, Copy)]
-pub struct Parts {
-    pub is_read: bool,
-    pub first: usize,
-    pub rest: usize,
-}
-
-// Reads a call's buffer in two parts, into the fronts of two rooms: its first bytes, as many as are
-// asked for, and the rest. Where a room is too short, or the stream, neither part has a byte.
-pub fn read_parts<I: Read>(
-    input: &mut I,
-    head: &[u8; HEAD],
-    first: usize,
-    a: &mut [u8],
-    b: &mut [u8],
-) -> Parts
-    ensures { (result.first ≤ length a.new) × (result.rest ≤ length b.new) }
-{
-    let none = Parts {
-        is_read: false,
-        first: 0,
-        rest: 0,
-    };
-    let whole = buffer_length(head);
-    if whole < first {
-        return none;
-    }
-    let rest = whole - first;
-    if first > a.len() {
-        return none;
-    }
-    if rest > b.len() {
-        return none;
-    }
-    // Of a part with a start, the check finds the length by itself.
-    if !read(input, &mut a[0..first]) {
-        return none;
-    }
-    if !read(input, &mut b[0..rest]) {
-        return none;
-    }
-    Parts {
-        is_read: true,
-        first,
-        rest,
-    }
 }
 
 // Argument `i`, as it stands.
@@ -126,11 +64,21 @@ pub fn flag(head: &[u8; HEAD], i: usize) -> bool
 pub fn mode(head: &[u8; HEAD], i: usize) -> Mode
     requires { i < 32 }
 {
-    let x = word(head, i);
-    match x {
+    match word(head, i) {
         0 => Mode::Plain,
         _ => Mode::Even,
     }
+}
+
+// Argument `i` as a layout, by the byte that document 01 gives it.
+pub fn layout(head: &[u8; HEAD], i: usize) -> Option<Layout>
+    requires { i < 32 }
+{
+    let b = byte(head, i);
+    if b > 4 {
+        return None;
+    }
+    Some(input_records::layout_of(b))
 }
 
 // Argument `i` as a signed number of these 32 bits. One with the top bit set is the complement of a
@@ -153,21 +101,14 @@ pub fn long(head: &[u8; HEAD], i: usize) -> u64
     bits::word64(head, ARGUMENTS + 4 * i)
 }
 
-// The bytes from `at` on that fill a hash.
-fn hash_at(bytes: &[u8], at: usize) -> [u8; 20]
-    requires { at + 20 ≤ length bytes.now }
-{
-    let end = at + 20;
-    let mut hash = [0u8; 20];
-    bits::put_bytes(&mut hash, 0, &bytes[at..end]);
-    hash
-}
-
 // Arguments `i` to `i + 4` as the 20 bytes of a hash.
 pub fn hash(head: &[u8; HEAD], i: usize) -> [u8; 20]
     requires { i < 28 }
 {
-    hash_at(head, ARGUMENTS + 4 * i)
+    let at = ARGUMENTS + 4 * i;
+    let mut hash = [0u8; 20];
+    hash.copy_from_slice(&head[at..at + 20]);
+    hash
 }
 
 // The `count` words of a buffer from `at` on, and zeros.
@@ -176,10 +117,8 @@ pub fn list(bytes: &[u8], at: usize, count: usize) -> [u32; LIST]
     ensures { 1024 ≡ length result }
 {
     let mut words = [0u32; LIST];
-    let mut i = 0;
-    while i < count {
+    for i in 0..count {
         words[i] = bits::word(bytes, at + i * 4) as u32;
-        i += 1;
     }
     words
 }
@@ -188,66 +127,114 @@ pub fn list(bytes: &[u8], at: usize, count: usize) -> [u32; LIST]
 pub fn put_list(bytes: &mut [u8], at: usize, words: &[u32; LIST], count: usize)
     requires { (at + count * 4 ≤ length bytes.old) × (count ≤ 1024) }
 {
-    let mut i = 0;
-    while i < count {
-        bits::put_word(bytes, at + i * 4, wide(words[i]));
-        i += 1;
+    for i in 0..count {
+        bits::put_word(bytes, at + i * 4, words[i] as u64);
     }
 }
 
-// The answer of a call that gives results.
-pub fn done(results: [u32; RESULTS]) -> Answer {
-    Answer {
-        status: Status::Done,
-        results,
-    }
+// The results of a call that gives these.
+pub fn results<const N: usize>(given: [u32; N]) -> Results
+    requires { N ≤ 10 }
+{
+    let mut words = [0; RESULTS];
+    words[0..N].copy_from_slice(&given);
+    words
 }
 
-// The answer of a call that gives at most four.
-pub fn few(a: u32, b: u32, c: u32, d: u32) -> Answer {
-    done([a, b, c, d, 0, 0, 0, 0, 0, 0])
-}
-
-// The answer of a call that gives none.
-pub fn bare(status: Status) -> Answer {
-    Answer {
-        status,
-        results: [0; RESULTS],
-    }
-}
-
-// A cast in a call of its own, which needs no proof that an element of an array fits.
-fn wide(x: u32) -> u64 {
-    x as u64
+// A length as a result word. None that a call gives is so long that it would be cut.
+pub fn cut(n: usize) -> u32 {
+    (n % 4294967296) as u32
 }
 
 // The results of an answer, behind its status.
-fn put_results(frame: &mut [u8], results: [u32; RESULTS])
+fn put_results(frame: &mut [u8], results: Results)
     requires { 44 ≤ length frame.old }
 {
-    let mut i = 0;
-    while i < RESULTS {
-        bits::put_word(frame, 4 + 4 * i, wide(results[i]));
-        i += 1;
+    for i in 0..RESULTS {
+        bits::put_word(frame, 4 + 4 * i, results[i] as u64);
     }
 }
 
-// Writes an answer frame, with the buffer as the call left it, and answers whether the stream goes
-// on.
-pub fn write<O: Write>(output: &mut O, answer: Answer, buffer: &[u8]) -> bool {
-    let status = answer.status;
-    let results = answer.results;
+// An answer as its bytes before the buffer. The status is 0 for done, or a refusal's number.
+fn frame_of(answer: Answer) -> [u8; ANSWER] {
     let mut frame = [0u8; ANSWER];
-    frame[0] = match status {
-        Status::Done => 0,
-        Status::Refused(number) => number,
-        Status::Unknown => return false,
-    };
-    put_results(&mut frame, results);
-    output.write_all(&frame).is_ok() && output.write_all(buffer).is_ok()
+    match answer {
+        Ok(results) => put_results(&mut frame, results),
+        Err(refusal) => frame[0] = refusal.number(),
+    }
+    frame
 }
 
-// Writes what is left of an answer's buffer, where a call keeps its buffer in two parts.
-pub fn write_rest<O: Write>(output: &mut O, bytes: &[u8]) -> bool {
-    output.write_all(bytes).is_ok()
+// Reads one call and answers it. `None` where the stream ends: where no whole call is left, at a call
+// that is not known or whose buffer is too long, and where a write fails.
+fn answer_next<
+    I: Read,
+    O: Write,
+    L: Fn(&[u8; HEAD]) -> usize,
+    A: Fn(&[u8; HEAD], &mut [u8], &mut [u8]) -> Option<Answer>,
+>(
+    input: &mut I,
+    output: &mut O,
+    inputs_room: &mut [u8],
+    out_room: &mut [u8],
+    inputs_length: L,
+    answer_call: A,
+) -> Option<()>
+    requires length_callable { L.IsAlwaysCallable inputs_length }
+    requires answer_callable { A.IsAlwaysCallable answer_call }
+{
+    let mut head = [0u8; HEAD];
+    input.read_exact(&mut head).ok()?;
+    let given = inputs_length(&head);
+    let rest = buffer_length(&head).checked_sub(given)?;
+    if given > inputs_room.len() || rest > out_room.len() {
+        return None;
+    }
+    // Of a part with a start, the check finds the length by itself.
+    let inputs = &mut inputs_room[0..given];
+    let out = &mut out_room[0..rest];
+    input.read_exact(inputs).ok()?;
+    input.read_exact(out).ok()?;
+    let answer = answer_call(&head, inputs, out)?;
+    output.write_all(&frame_of(answer)).ok()?;
+    output.write_all(inputs).ok()?;
+    output.write_all(out).ok()
+}
+
+// Answers a stream of calls. A call's buffer has two parts, each in its room: first inputs, as long as
+// `inputs_length` tells, and then an output. Where a call has no output, its room has no byte, and the
+// inputs are as long as the buffer. `answer_call` gives `None` where no call has that number: it gets no
+// answer, and the stream ends there.
+//
+// A proved loop has to end, and nothing says that the stream does. So its turns have a bound that no run
+// uses up.
+pub fn answer_calls<
+    I: Read,
+    O: Write,
+    L: Fn(&[u8; HEAD]) -> usize,
+    A: Fn(&[u8; HEAD], &mut [u8], &mut [u8]) -> Option<Answer>,
+>(
+    input: &mut I,
+    output: &mut O,
+    inputs_room: &mut [u8],
+    out_room: &mut [u8],
+    inputs_length: L,
+    answer_call: A,
+)
+    requires length_callable { L.IsAlwaysCallable inputs_length }
+    requires answer_callable { A.IsAlwaysCallable answer_call }
+{
+    for _ in 0..u64::MAX {
+        let next = answer_next(
+            input,
+            output,
+            inputs_room,
+            out_room,
+            &inputs_length,
+            &answer_call,
+        );
+        if next.is_none() {
+            break;
+        }
+    }
 }

@@ -1,7 +1,5 @@
 // The calls by their numbers, with arguments in the order of the judge's table, oracle/src/index.
-use bits::Answer as Length;
-use string_index::{Filled, Lookup};
-use test_frames::{Answer, HEAD, LIST, Status, word};
+use test_frames::{Answer, HEAD, LIST, cut, results, word};
 
 // A call's buffer before its output: the image, if it has one, and the index. Only the listing has an
 // output.
@@ -21,17 +19,12 @@ fn index_at(head: &[u8; HEAD]) -> usize {
 }
 
 // The answer of a call. Index and output are left as the function that it names leaves them.
-pub fn answer_call(head: &[u8; HEAD], inputs: &mut [u8], out: &mut [u8]) -> Answer {
+pub fn answer_call(head: &[u8; HEAD], inputs: &mut [u8], out: &mut [u8]) -> Option<Answer> {
     let at = index_at(head);
-    if at > inputs.len() {
-        return test_frames::bare(Status::Unknown);
-    }
-    let count = (inputs.len() - at) / 4;
-    if count > LIST {
-        return test_frames::bare(Status::Unknown);
-    }
-    if at + count * 4 != inputs.len() {
-        return test_frames::bare(Status::Unknown);
+    let bytes = inputs.len().checked_sub(at)?;
+    let count = bytes / 4;
+    if count > LIST || count * 4 != bytes {
+        return None;
     }
     let mut index = test_frames::list(inputs, at, count);
     let answer = answer_with(head, &inputs[0..at], &mut index[0..count], out);
@@ -39,51 +32,39 @@ pub fn answer_call(head: &[u8; HEAD], inputs: &mut [u8], out: &mut [u8]) -> Answ
     answer
 }
 
-fn answer_with(head: &[u8; HEAD], image: &[u8], index: &mut [u32], out: &mut [u8]) -> Answer {
+fn answer_with(
+    head: &[u8; HEAD],
+    image: &[u8],
+    index: &mut [u32],
+    out: &mut [u8],
+) -> Option<Answer> {
     match test_frames::number(head) {
         37 => filled(head, image, index),
-        38 => looked_up(head, index),
+        38 => Some(looked_up(head, index)),
         39 => listed(head, image, index, out),
-        _ => test_frames::bare(Status::Unknown),
+        _ => None,
     }
 }
 
-// A number as a result. No count of strings and no part of a listing is so long that it would be cut.
-fn cut(n: usize) -> u32 {
-    (n % 4294967296) as u32
-}
-
-fn filled(head: &[u8; HEAD], image: &[u8], index: &mut [u32]) -> Answer {
-    let byte = test_frames::byte(head, 0);
-    if byte > 4 {
-        return test_frames::bare(Status::Unknown);
-    }
-    let answer = string_index::fill_index(image, input_records::layout_of(byte), index);
-    match answer {
-        Filled::Strings(count) => test_frames::few(cut(count), 0, 0, 0),
-        Filled::Refused(number) => test_frames::bare(Status::Refused(number)),
-    }
+fn filled(head: &[u8; HEAD], image: &[u8], index: &mut [u32]) -> Option<Answer> {
+    let layout = test_frames::layout(head, 0)?;
+    let answer = string_index::fill_index(image, layout, index);
+    Some(answer.map(|count| results([cut(count)])))
 }
 
 fn looked_up(head: &[u8; HEAD], index: &[u32]) -> Answer {
     let count = test_frames::long(head, 0) as usize;
     let id = test_frames::long(head, 2) as usize;
-    let answer = string_index::look_up(index, count, id);
-    match answer {
-        Lookup::Found(entry) => test_frames::few(entry.offset, entry.length, entry.flags, 0),
-        Lookup::Refused(number) => test_frames::bare(Status::Refused(number)),
-    }
+    string_index::look_up(index, count, id).map(|entry| results([
+        entry.offset,
+        entry.length,
+        entry.flags,
+    ]))
 }
 
-fn listed(head: &[u8; HEAD], image: &[u8], index: &mut [u32], out: &mut [u8]) -> Answer {
-    let byte = test_frames::byte(head, 0);
-    if byte > 4 {
-        return test_frames::bare(Status::Unknown);
-    }
+fn listed(head: &[u8; HEAD], image: &[u8], index: &mut [u32], out: &mut [u8]) -> Option<Answer> {
+    let layout = test_frames::layout(head, 0)?;
     let from = test_frames::long(head, 3) as usize;
-    let answer = listing_pieces::list(image, input_records::layout_of(byte), from, index, out);
-    match answer {
-        Length::Length(length) => test_frames::few(cut(length), 0, 0, 0),
-        Length::Refused(number) => test_frames::bare(Status::Refused(number)),
-    }
+    let answer = listing_pieces::list(image, layout, from, index, out);
+    Some(answer.map(|length| results([cut(length)])))
 }

@@ -10,14 +10,12 @@ use std::io::{Read, Write};
 // Passes over what a job did not read, and answers whether it is all there.
 fn skip<I: Read>(input: &mut I, count: u64) -> bool {
     let mut scrap = [0u8; 4096];
-    let mut left = count;
-    while left >= 4096 {
+    for _ in 0..count / 4096 {
         if input.read_exact(&mut scrap).is_err() {
             return false;
         }
-        left -= 4096;
     }
-    let n = left as usize;
+    let n = (count % 4096) as usize;
     input.read_exact(&mut scrap[0..n]).is_ok()
 }
 

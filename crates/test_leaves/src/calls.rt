@@ -1,12 +1,13 @@
 // The calls by their numbers, with arguments in the order of the judge's table, oracle/src/leaves.
+use header_write::headers;
 use header_write::headers::LegacyHeader;
-use header_write::{LegacyRead, ModernRead, Pointer, Wrote, headers};
-use records::LegacyFunctionHeader;
-use test_frames::{Answer, HEAD, Status, byte, flag, signed, word};
+use records::{LegacyFunctionHeader, ModernFunctionHeader};
+use refusals::Refusal;
+use test_frames::{Answer, HEAD, byte, flag, results, signed, word};
 
 // The answer of a call. Its buffer is left as the function that it names leaves it.
-pub fn answer_call(head: &[u8; HEAD], buffer: &mut [u8]) -> Answer {
-    match test_frames::number(head) {
+pub fn answer_call(head: &[u8; HEAD], buffer: &mut [u8]) -> Option<Answer> {
+    let answer = match test_frames::number(head) {
         1 => packed(head),
         2 => wrote(modern_header(head, buffer)),
         3 => wrote(legacy_header(head, buffer)),
@@ -28,8 +29,9 @@ pub fn answer_call(head: &[u8; HEAD], buffer: &mut [u8]) -> Answer {
         )),
         12 => legacy_fields(header_write::read_legacy_function_header(buffer)),
         13 => modern_fields(header_write::read_modern_function_header(buffer)),
-        _ => test_frames::bare(Status::Unknown),
-    }
+        _ => return None,
+    };
+    Some(answer)
 }
 
 // A written record comes back as four words.
@@ -46,15 +48,15 @@ fn packed(head: &[u8; HEAD]) -> Answer {
         highest_write_cache: word(head, 8),
         flags: byte(head, 9),
     });
-    test_frames::few(
+    Ok(results([
         bits::word(&record, 0) as u32,
         bits::word(&record, 4) as u32,
         bits::word(&record, 8) as u32,
         bits::word(&record, 12) as u32,
-    )
+    ]))
 }
 
-fn modern_header(head: &[u8; HEAD], buffer: &mut [u8]) -> Wrote {
+fn modern_header(head: &[u8; HEAD], buffer: &mut [u8]) -> Result<(), Refusal> {
     headers::write_modern_header(
         buffer,
         word(head, 0),
@@ -67,7 +69,7 @@ fn modern_header(head: &[u8; HEAD], buffer: &mut [u8]) -> Wrote {
     )
 }
 
-fn legacy_header(head: &[u8; HEAD], buffer: &mut [u8]) -> Wrote {
+fn legacy_header(head: &[u8; HEAD], buffer: &mut [u8]) -> Result<(), Refusal> {
     let header = LegacyHeader {
         version: word(head, 0),
         source_hash: test_frames::hash(head, 1),
@@ -98,23 +100,17 @@ fn legacy_header(head: &[u8; HEAD], buffer: &mut [u8]) -> Wrote {
     headers::write_legacy_header(buffer, header)
 }
 
-fn wrote(answer: Wrote) -> Answer {
-    match answer {
-        Wrote::Done => test_frames::bare(Status::Done),
-        Wrote::Refused(number) => test_frames::bare(Status::Refused(number)),
-    }
+fn wrote(answer: Result<(), Refusal>) -> Answer {
+    answer.map(|()| results([]))
 }
 
-fn pointer(answer: Pointer) -> Answer {
-    match answer {
-        Pointer::At(at) => test_frames::few(at, 0, 0, 0),
-        Pointer::Refused(number) => test_frames::bare(Status::Refused(number)),
-    }
+fn pointer(answer: Result<u32, Refusal>) -> Answer {
+    answer.map(|at| results([at]))
 }
 
-fn legacy_fields(answer: LegacyRead) -> Answer {
-    match answer {
-        LegacyRead::Record(h) => test_frames::done([
+fn legacy_fields(answer: Result<LegacyFunctionHeader, Refusal>) -> Answer {
+    answer.map(|h| {
+        [
             h.offset,
             h.param_count,
             h.bytecode_size,
@@ -125,14 +121,10 @@ fn legacy_fields(answer: LegacyRead) -> Answer {
             h.highest_read_cache,
             h.highest_write_cache,
             h.flags as u32,
-        ]),
-        LegacyRead::Refused(number) => test_frames::bare(Status::Refused(number)),
-    }
+        ]
+    })
 }
 
-fn modern_fields(answer: ModernRead) -> Answer {
-    match answer {
-        ModernRead::Record(h) => test_frames::few(h.offset, h.bytecode_size, h.flags as u32, 0),
-        ModernRead::Refused(number) => test_frames::bare(Status::Refused(number)),
-    }
+fn modern_fields(answer: Result<ModernFunctionHeader, Refusal>) -> Answer {
+    answer.map(|h| results([h.offset, h.bytecode_size, h.flags as u32]))
 }

@@ -13,22 +13,16 @@ use std::io::{Read, Write};
 // As much as program `listing` reads of its input.
 const ROOM: usize = 65544;
 
-// What stands where an input is expected.
-#[derive(Clone, Copy)]
-enum Head {
-    Input(usize, usize),
-    End,
-}
-
-fn read_head<I: Read>(input: &mut I) -> Head {
+// How many bytes of an input are read, and how many zeros follow; None at the end.
+fn read_head<I: Read>(input: &mut I) -> Option<(usize, usize)> {
     let mut bytes = [0u8; 8];
     if input.read_exact(&mut bytes).is_err() {
-        return Head::End;
+        return None;
     }
-    Head::Input(
+    Some((
         bits::word(&bytes, 0) as usize,
         bits::word(&bytes, 4) as usize,
-    )
+    ))
 }
 
 // Fills `input` with `n` bytes read, and zeros.
@@ -51,10 +45,7 @@ fn list_input<I: Read, O: Write>(
 ) -> bool
     requires { n ≤ length input.old }
 {
-    if !read_input(stdin, input, n) {
-        return false;
-    }
-    listing_io::print(stdout, input, index, room)
+    read_input(stdin, input, n) && listing_io::print(stdout, input, index, room)
 }
 
 // Reads one input to the front of `inputs` and lists it. Answers whether there can be more.
@@ -65,14 +56,10 @@ fn list_next<I: Read, O: Write>(
     index: &mut [u32; listing_pieces::INDEX],
     room: &mut [u8; listing_pieces::ROOM],
 ) -> bool {
-    let head = read_head(stdin);
-    let Head::Input(n, zeros) = head else {
+    let Some((n, zeros)) = read_head(stdin) else {
         return false;
     };
-    if inputs.len() < n {
-        return false;
-    }
-    if inputs.len() - n < zeros {
+    if inputs.len() < n || inputs.len() - n < zeros {
         return false;
     }
     let len = n + zeros;

@@ -13,27 +13,13 @@ const ROOM: usize = 1048576;
 // The top bit of a length.
 const REPEATED: u64 = 2147483648;
 
-// What stands where a length is expected.
-#[derive(Clone, Copy)]
-enum Head {
-    Message(u64),
-    End,
-}
-
-fn read_head<I: Read>(input: &mut I) -> Head {
+// The length of a message, as it stands; None at the end.
+fn read_head<I: Read>(input: &mut I) -> Option<u64> {
     let mut bytes = [0u8; 4];
     if input.read_exact(&mut bytes).is_err() {
-        return Head::End;
+        return None;
     }
-    Head::Message(bits::word(&bytes, 0))
-}
-
-fn fill(out: &mut [u8], b: u8) {
-    let mut i = 0;
-    while i < out.len() {
-        out[i] = b;
-        i += 1;
-    }
+    Some(bits::word(&bytes, 0))
 }
 
 // Reads a message's bytes, or the one that is repeated, to all of `out`.
@@ -43,7 +29,7 @@ fn read_message<I: Read>(input: &mut I, out: &mut [u8], repeated: bool) -> bool 
         if input.read_exact(&mut byte).is_err() {
             return false;
         }
-        fill(out, byte[0]);
+        out.fill(byte[0]);
         return true;
     }
     input.read_exact(out).is_ok()
@@ -60,18 +46,15 @@ fn print_digest<O: Write>(output: &mut O, digest: [u8; 20]) -> bool {
 
 // Reads one message to `room` and prints its digest. Answers whether there can be more.
 fn answer<I: Read, O: Write>(input: &mut I, output: &mut O, room: &mut [u8]) -> bool {
-    let head = read_head(input);
-    let Head::Message(word) = head else {
+    let Some(word) = read_head(input) else {
         return false;
     };
     let n = (word % REPEATED) as usize;
     if room.len() < n {
         return false;
     }
-    if read_message(input, &mut room[..n], REPEATED <= word) {
-        return print_digest(output, sha1_hash::sha1(&room[..n]));
-    }
-    false
+    read_message(input, &mut room[..n], REPEATED <= word)
+        && print_digest(output, sha1_hash::sha1(&room[..n]))
 }
 
 // A proved loop has to end, and nothing says that the input does: its turns have a bound that no run

@@ -4,52 +4,20 @@
 
 mod calls;
 
-use std::io::{Read, Write};
-use test_frames::HEAD;
-
 // The longest value and image that a call may have together, and the longest index, in bytes.
 const LONGEST: usize = 258048;
 
 const INDEX: usize = 4096;
 
-// Answers a call whose head was read, in the room for its inputs and for its index.
-fn answer_in<I: Read, O: Write>(
-    input: &mut I,
-    output: &mut O,
-    head: &[u8; HEAD],
-    inputs_room: &mut [u8],
-    index_room: &mut [u8],
-) -> bool {
-    let first = calls::inputs_length(head);
-    let parts = test_frames::read_parts(input, head, first, inputs_room, index_room);
-    let given = parts.first;
-    let room = parts.rest;
-    if !parts.is_read {
-        return false;
-    }
-    let inputs = &mut inputs_room[0..given];
-    let index = &mut index_room[0..room];
-    let answer = calls::answer_call(head, inputs, index);
-    test_frames::write(output, answer, inputs) && test_frames::write_rest(output, index)
-}
-
-// Reads one call and answers it. Tells whether the stream goes on: it ends where no whole call is
-// left, at a call that is not known or whose buffer is too long, and where a write fails.
-fn answer_next<I: Read, O: Write>(input: &mut I, output: &mut O) -> bool {
-    let mut head = [0u8; HEAD];
+fn main(rt: HostRuntime) {
     let mut inputs = [0u8; LONGEST];
     let mut index = [0u8; INDEX];
-    test_frames::read(input, &mut head) && answer_in(input, output, &head, &mut inputs, &mut index)
-}
-
-// A proved loop has to end, and nothing says that the stream does. So its turns have a bound that no
-// run uses up.
-fn main(rt: HostRuntime) {
-    let mut input = rt.stdin();
-    let mut output = rt.stdout();
-    for _ in 0..u64::MAX {
-        if !answer_next(&mut input, &mut output) {
-            break;
-        }
-    }
+    test_frames::answer_calls(
+        &mut rt.stdin(),
+        &mut rt.stdout(),
+        &mut inputs,
+        &mut index,
+        calls::inputs_length,
+        |head, inputs, index| calls::answer_call(head, inputs, index),
+    );
 }

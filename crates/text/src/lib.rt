@@ -12,9 +12,10 @@ fn digit(d: u64) -> u8
     ensures { result ≡ digit d }
 {
     if d < 10 {
-        return 48 + d as u8;
+        b'0' + d as u8
+    } else {
+        b'a' - 10 + d as u8
     }
-    87 + d as u8
 }
 
 // A number in decimal: the digits of its tenth, then its last digit.

@@ -1,4 +1,5 @@
 -- What the reader and the look-up leave in lent room is what the next one asks for; and what each way out answers.
+use Rattle.std.specs.Prelude.{Err, Result}
 use mathlib.Core.Path.{◌≡◌, refl, ap, sym, ◌∙◌}
 use mathlib.Core.Bool.{Bool, true, false, not}
 use mathlib.Core.List.{List}
@@ -9,8 +10,6 @@ use lib.ListN.{length, get_or, take, drop, length-drop}
 use lib.Seq.{take_all, get_or-drop}
 use Rattle.refusals.specs.Numbers as refusals
 use Rattle.bits.specs.Outcome.{Answers}
-use Rattle.bits.specs.declared.Answer.{Answer}
-use Rattle.bits.specs.declared.Answer.TheVariants.{Refused}
 use Rattle.format.specs.declared.Layout.{Layout}
 use Rattle.format.specs.declared.Mode.{Mode}
 use Rattle.image.specs.Sections.{strings_in}
@@ -20,8 +19,7 @@ use Rattle.sections.proofs.SectionLaws.{sectioned}
 use Rattle.utf.specs.Utf8.{utf16}
 use Rattle.string_edits.specs.declared.Form.TheVariants.{Marks}
 use Rattle.string_edits.specs.Told.{told, values_in}
-use Rattle.po_pairs.specs.declared.Pairs.{Pairs}
-use Rattle.po_pairs.specs.declared.Pairs.TheVariants.{Read as ReadPairs, Outside}
+use Rattle.std.specs.Prelude.{Option, Some, None}
 use Rattle.po_pairs.specs.Pairs.{Pair, msgid_of, msgstr_of, Read, outside, pairs, read_file}
 use Rattle.po_pairs.specs.Held.{HeldPairs, ChainedPairs, ReadAs}
 use Rattle.po_pairs.proofs.PairLaws.{no_pairs}
@@ -45,22 +43,22 @@ pub record ReadOf (file text ends w : List ℕ) (k : ℕ) : Type 0 where
   pub held : HeldPairs text ends list
   pub chained : ChainedPairs text ends (length ends) (length list) w
 
-pub read_of : (file text ends w : List ℕ) (r : Pairs) (k : ℕ) → ReadAs (read_file file) r text ends w → r ≡ ReadPairs k
+pub read_of : (file text ends w : List ℕ) (r : Option ℕ) (k : ℕ) → ReadAs (read_file file) r text ends w → r ≡ Some k
     → ReadOf file text ends w k
 read_of file text ends w r k = go (read_file file) refl
   where
-    same_count : (n : ℕ) → r ≡ ReadPairs n → r ≡ ReadPairs k → k ≡ n
-    same_count n a b = let z : ReadPairs n ≡ ReadPairs k = sym a ∙ b in cc
+    same_count : (n : ℕ) → r ≡ Some n → r ≡ Some k → k ≡ n
+    same_count n a b = let z : Some n ≡ Some k = sym a ∙ b in cc
 
-    go : (x : Read) → read_file file ≡ x → ReadAs x r text ends w → r ≡ ReadPairs k → ReadOf file text ends w k
+    go : (x : Read) → read_file file ≡ x → ReadAs x r text ends w → r ≡ Some k → ReadOf file text ends w k
     go outside e a q = no_pairs k (sym a ∙ q)
     go (pairs ps) e (a, h, c) q = record { list = ps; is = e; count = same_count (length ps) a q; held = h; chained = c }
 
-pub read_outside : (file text ends w : List ℕ) (r : Pairs) → ReadAs (read_file file) r text ends w → r ≡ Outside
+pub read_outside : (file text ends w : List ℕ) (r : Option ℕ) → ReadAs (read_file file) r text ends w → r ≡ None
     → read_file file ≡ outside
 read_outside file text ends w r = go (read_file file) refl
   where
-    go : (x : Read) → read_file file ≡ x → ReadAs x r text ends w → r ≡ Outside → read_file file ≡ outside
+    go : (x : Read) → read_file file ≡ x → ReadAs x r text ends w → r ≡ None → read_file file ≡ outside
     go outside e a q = e
     go (pairs ps) e (a, h, c) q = no_pairs (length ps) (sym q ∙ a)
 
@@ -149,7 +147,7 @@ module _ (p : Places) (s file text ends w : List ℕ) (k : ℕ) (mo : MarkedOf p
 
   -- ---- what is answered
 
-  module _ (m : Mode) (out out' : List ℕ) (r : Answer) where
+  module _ (m : Mode) (out out' : List ℕ) (r : Result ℕ ℕ) where
     found_file : all_found p.layout s (id_in text ends) (str_in text ends) k
         ≡ all_found p.layout s (msgid_of ps) (msgstr_of ps) (length ps)
     found_file =
@@ -166,14 +164,14 @@ module _ (p : Places) (s file text ends w : List ℕ) (k : ℕ) (mo : MarkedOf p
 
   pub absent : (m : Mode) (out : List ℕ) (b : Bool) → b ≡ all_found p.layout s (id_in text ends) (str_in text ends) k
       → not b ≡ true
-      → Answers (applied m p.layout s (length out) (read_file file)) (Refused refusals.absent) out out
+      → Answers (applied m p.layout s (length out) (read_file file)) (Err refusals.absent) out out
   unfolding applied
   absent m out b e f =
       let t : all_found p.layout s (msgid_of ps) (msgstr_of ps) (length ps) ≡ false
-      = sym (found_file m out out (Refused 0)) ∙ sym e ∙ not-true b f in
+      = sym (found_file m out out (Err 0)) ∙ sym e ∙ not-true b f in
       rw (mo.read.is, t) (refl, refl)
 
 pub unread : (m : Mode) (l : Layout) (s out file : List ℕ) → read_file file ≡ outside
-    → Answers (applied m l s (length out) (read_file file)) (Refused refusals.file) out out
+    → Answers (applied m l s (length out) (read_file file)) (Err refusals.file) out out
 unfolding applied
 unread m l s out file e = rw e (refl, refl)

@@ -12,7 +12,6 @@ use Rattle.bits.specs.Choice.{pick, implies}
 use Rattle.bits.proofs.TestLaws.{below_or}
 use Rattle.bits.proofs.PassLaws.{all_same}
 use Rattle.format.specs.declared.Layout.{Layout}
-use Rattle.footer.specs.Footer.{same}
 use Rattle.image.specs.Sections.{strings_in}
 use Rattle.image.specs.Strings.{string_of, units_of}
 use Rattle.image.specs.Kinds.{is_identifier}

@@ -1,4 +1,5 @@
 -- 1 to 6, then 13 for the space that is lent; else the file decides.
+use Rattle.std.specs.Prelude.{Err, Ok, Result}
 use mathlib.Core.Path.{◌≡◌, refl, ap, sym, ◌∙◌}
 use mathlib.Core.Bool.{Bool, true, false, not}
 use mathlib.Core.List.{List}
@@ -9,8 +10,6 @@ use lib.Dec.{eqb}
 use lib.ListN.{length}
 use Rattle.refusals.specs.Numbers as refusals
 use Rattle.bits.specs.Outcome.{Answers}
-use Rattle.bits.specs.declared.Answer.{Answer}
-use Rattle.bits.specs.declared.Answer.TheVariants.{Refused}
 use Rattle.format.specs.declared.Layout.{Layout}
 use Rattle.format.specs.declared.Mode.{Mode}
 use Rattle.image.specs.Sections.{strings_in}
@@ -18,23 +17,21 @@ use Rattle.image.specs.Admission.{refusal}
 use Rattle.sections.specs.declared.Places.{Places}
 use Rattle.sections.specs.Places.{Laid}
 use Rattle.sections.proofs.SectionLaws.{sectioned}
-use Rattle.admission.specs.declared.Admission.{Admission}
-use Rattle.admission.specs.declared.Admission.TheVariants as answer
-use Rattle.admission.specs.Admission.{admission, number_of}
+use Rattle.admission.specs.Admission.{admission}
 use Rattle.admission.proofs.AnswerLaws.{refused_is, laid-is, laid_layout}
 use Rattle.po_pairs.specs.Pairs.{read_file}
 use Rattle.translate.specs.Translate.{applied, translated}
 use Rattle.translate.specs.Space.{Space, lent, is_enough, is_read, read_po, LeavesSpace}
 
 -- what `read_po` promises
-abbrev pub Promised : Mode → Layout → List ℕ → List ℕ → List ℕ → List ℕ → List ℕ → List ℕ → Answer
+abbrev pub Promised : Mode → Layout → List ℕ → List ℕ → List ℕ → List ℕ → List ℕ → List ℕ → Result ℕ ℕ
     → List ℕ → List ℕ → List ℕ → List ℕ
     → Type 0
 Promised m l s file text ends work out r text' ends' work' out' =
     Answers (read_po m l s (length out) file (lent text ends work)) r out out'
     × LeavesSpace (is_read l s file (lent text ends work)) (length file) (strings_in s) text text' ends ends' work work'
 
-module _ (m : Mode) (l : Layout) (s file text ends work out : List ℕ) (r : Admission) (e : r ≡ admission l s) where
+module _ (m : Mode) (l : Layout) (s file text ends work out : List ℕ) (r : Result Places ℕ) (e : r ≡ admission l s) where
   abbrev space : Space
   space = lent text ends work
 
@@ -42,17 +39,15 @@ module _ (m : Mode) (l : Layout) (s file text ends work out : List ℕ) (r : Adm
   unused : is_read l s file space ≡ false → LeavesSpace (is_read l s file space) (length file) (strings_in s) text text ends ends work work
   unused f = rw f (record { of_text = refl; of_ends = refl; of_work = refl })
 
-  pub image_refused : (k n : ℕ) → r ≡ answer.Refused k → n ≡ number_of r
-      → Promised m l s file text ends work out (Refused n) text ends work out
+  pub image_refused : (k : ℕ) → r ≡ Err k → Promised m l s file text ends work out (Err k) text ends work out
   unfolding read_po is_read
-  image_refused k n f g =
+  image_refused k f =
       let (q, h) = refused_is l s r e k f in
       let z : eqb (refusal l s) 0 ≡ false = rw q (ne_eqb k 0 (λ y. omega arith)) in
       let i : is_read l s file space ≡ false = rw z in
-      let o : n ≡ refusal l s = g ∙ ap number_of f ∙ sym q in
-      (rw (i, z, o) (refl, refl), unused i)
+      (rw (i, z, q) (refl, refl), unused i)
 
-  module _ (p : Places) (f : r ≡ answer.Laid p) (laid : Laid p s) where
+  module _ (p : Places) (f : r ≡ Ok p) (laid : Laid p s) where
     passed : refusal l s ≡ 0
     passed = (laid-is l s r e p f).0
 
@@ -64,14 +59,14 @@ module _ (m : Mode) (l : Layout) (s file text ends work out : List ℕ) (r : Adm
     read_is = rw (passed, strings)
 
     pub too_short : (b : Bool) → b ≡ is_enough (length file) p.strings space → not b ≡ true
-        → Promised m l s file text ends work out (Refused refusals.room) text ends work out
+        → Promised m l s file text ends work out (Err refusals.room) text ends work out
     unfolding read_po
     too_short b q g =
         let i : is_read l s file space ≡ false = read_is ∙ sym q ∙ not-true b g in
         (rw (i, passed) (refl, refl), unused i)
 
     pub is_read_lem : (b : Bool) → b ≡ is_enough (length file) p.strings space → not b ≡ false
-        → (a : Answer) (text' ends' work' out' : List ℕ)
+        → (a : Result ℕ ℕ) (text' ends' work' out' : List ℕ)
         → Answers (applied m p.layout s (length out) (read_file file)) a out out'
         × LeavesSpace true (length file) p.strings text text' ends ends' work work'
         → Promised m l s file text ends work out a text' ends' work' out'

@@ -10,10 +10,8 @@ ghost use Rattle.po_pairs.specs.Pairs.{read_file};
 ghost use Rattle.translate.specs.Translate.{applied};
 ghost use Rattle.translate.specs.Space.{lent, words_for, is_enough, is_read, read_po, LeavesSpace, Lent};
 
-use admission::Admission;
-use bits::Answer;
 use format::{Layout, Mode};
-use po_pairs::Pairs;
+use refusals::Refusal;
 use sections::Places;
 
 // Words have 32 bits: a file has fewer bytes than that.
@@ -54,18 +52,17 @@ fn apply(
     ends: &mut [u32],
     work: &mut [u32],
     out: &mut [u8],
-) -> Answer
+) -> Result<usize, Refusal>
     requires { Laid p image.now × Lent p.strings file.now (length text.old) (length ends.old) (length work.old) }
     ensures { Answers (applied mode p.layout image.now (length out.old) (read_file file.now)) result
         out.old out.new }
 {
-    let read = po_pairs::read_pairs(file, text, ends, work);
-    let Pairs::Read(count) = read else {
-        return Answer::Refused(refusals::FILE);
+    let Some(count) = po_pairs::read_pairs(file, text, ends, work) else {
+        return Err(refusals::FILE);
     };
     let m = ends.len();
     if !po_targets::mark(image, p, text, ends, count, work, m) {
-        return Answer::Refused(refusals::ABSENT);
+        return Err(refusals::ABSENT);
     }
     let from = m + m + m;
     string_steps::patch_stepwise(out, image, p, mode, &work[from..], text, ends)
@@ -81,7 +78,7 @@ fn apply_in(
     ends: &mut [u32],
     work: &mut [u32],
     out: &mut [u8],
-) -> Answer
+) -> Result<usize, Refusal>
     requires { Laid p image.now × (is_enough (length file.now) p.strings (lent text.old ends.old work.old) ≡ true) }
     ensures answers { Answers (applied mode p.layout image.now (length out.old) (read_file file.now)) result
         out.old out.new }
@@ -122,19 +119,16 @@ pub fn read_po(
     ends: &mut [u32],
     work: &mut [u32],
     out: &mut [u8],
-) -> Answer
+) -> Result<usize, Refusal>
     ensures answers { Answers (read_po mode layout image.now (length out.old) file.now
         (lent text.old ends.old work.old)) result out.old out.new }
     ensures leaves_space { LeavesSpace (is_read layout image.now file.now
         (lent text.old ends.old work.old)) (length file.now) (strings_in image.now)
         text.old text.new ends.old ends.new work.old work.new }
 {
-    let admitted = admission::admit(image, layout);
-    let Admission::Laid(p) = admitted else {
-        return Answer::Refused(admission::number_of(admitted));
-    };
+    let p = admission::admit(image, layout)?;
     if !is_enough(file.len(), p.strings, text.len(), ends.len(), work.len()) {
-        return Answer::Refused(refusals::ROOM);
+        return Err(refusals::ROOM);
     }
     apply_in(image, p, mode, file, text, ends, work, out)
 }

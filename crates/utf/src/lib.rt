@@ -30,12 +30,6 @@ pub enum Units {
     Two(u32, u32),
 }
 
-fn wide(b: u8) -> u32
-    ensures { (result ≡ b) × (result < 256) }
-{
-    b as u32
-}
-
 // A code point of which `need` bytes are to come, from the common range.
 pub fn further(need: u32, point: u32) -> Reading
     ensures { result ≡ Utf8·further need point }
@@ -62,18 +56,11 @@ fn wrong() -> Reading
     }
 }
 
-// `a` where `x` is `y`, else `b`: a second byte has a range of its own after some first bytes.
-fn if_equal(x: u32, y: u32, a: u32, b: u32) -> u32
-    ensures { result ≡ pick (eqb x y) a b }
-{
-    if x == y { a } else { b }
-}
-
-// The first byte of a code point.
+// The first byte of a code point. A second byte has a range of its own after some first bytes.
 fn opens(b: u8) -> Reading
     ensures { (result ≡ Utf8·opens b) × Small result }
 {
-    let x = wide(b);
+    let x = b as u32;
     if x < 0x80 {
         return further(0, x);
     }
@@ -88,8 +75,8 @@ fn opens(b: u8) -> Reading
             ok: true,
             need: 2,
             point: x - 0xE0,
-            lo: if_equal(x, 0xE0, 0xA0, 0x80),
-            hi: if_equal(x, 0xED, 0x9F, 0xBF),
+            lo: if x == 0xE0 { 0xA0 } else { 0x80 },
+            hi: if x == 0xED { 0x9F } else { 0xBF },
         };
     }
     if x < 0xF5 {
@@ -97,8 +84,8 @@ fn opens(b: u8) -> Reading
             ok: true,
             need: 3,
             point: x - 0xF0,
-            lo: if_equal(x, 0xF0, 0x90, 0x80),
-            hi: if_equal(x, 0xF4, 0x8F, 0xBF),
+            lo: if x == 0xF0 { 0x90 } else { 0x80 },
+            hi: if x == 0xF4 { 0x8F } else { 0xBF },
         };
     }
     wrong()
@@ -110,11 +97,8 @@ fn goes_on(r: Reading, b: u8) -> Reading
     requires need_nonzero { 0 < r.need }
     ensures { (result ≡ goes_on r b) × Small result }
 {
-    let x = wide(b);
-    if x < r.lo {
-        return wrong();
-    }
-    if r.hi < x {
+    let x = b as u32;
+    if x < r.lo || r.hi < x {
         return wrong();
     }
     further(r.need - 1, r.point * 64 + (x - 0x80))
@@ -139,10 +123,7 @@ pub fn completed(r: Reading) -> Units
     requires { Small r }
     ensures { list_of result ≡ completes r }
 {
-    if !r.ok {
-        return Units::None;
-    }
-    if r.need != 0 {
+    if !r.ok || r.need != 0 {
         return Units::None;
     }
     if r.point < 0x10000 {
@@ -158,14 +139,12 @@ fn past_ascii(value: &[u8], from: usize) -> usize
     requires { from ≤ length value.now }
     ensures { Skipped value.now from result }
 {
-    let mut i = from;
-    while i < value.len() {
+    for i in from..value.len() {
         if 0x80 <= value[i] {
             return i;
         }
-        i += 1;
     }
-    i
+    value.len()
 }
 
 // Where a reader goes on from `from`: between two code points behind the ASCII bytes that follow.
@@ -173,10 +152,7 @@ fn go_on(value: &[u8], from: usize, r: Reading) -> usize
     requires { from ≤ length value.now }
     ensures { GoesOn value.now from r result }
 {
-    if !r.ok {
-        return from;
-    }
-    if r.need != 0 {
+    if !r.ok || r.need != 0 {
         return from;
     }
     past_ascii(value, from)
@@ -188,11 +164,12 @@ pub fn is_utf8(value: &[u8]) -> bool
 {
     let mut r = further(0, 0);
     let mut i = past_ascii(value, 0);
+    // Stays a while loop: it goes from a byte that counts to the next, past ASCII bytes.
     while i < value.len() {
         r = next_byte(r, value[i]);
         i = go_on(value, i + 1, r);
     }
-    if r.ok { r.need == 0 } else { false }
+    r.ok && r.need == 0
 }
 
 // How many units that is.
@@ -212,11 +189,9 @@ pub fn count_units(value: &[u8]) -> usize
 {
     let mut n = 0;
     let mut r = further(0, 0);
-    let mut i = 0;
-    while i < value.len() {
-        r = next_byte(r, value[i]);
+    for b in value {
+        r = next_byte(r, *b);
         n += count_of(completed(r));
-        i += 1;
     }
     n
 }
@@ -257,11 +232,9 @@ pub fn put_units(out: &mut [u8], at: usize, value: &[u8])
 {
     let mut to = at;
     let mut r = further(0, 0);
-    let mut i = 0;
-    while i < value.len() {
-        r = next_byte(r, value[i]);
+    for b in value {
+        r = next_byte(r, *b);
         to = put_completed(out, to, completed(r));
-        i += 1;
     }
 }
 
@@ -291,11 +264,9 @@ pub fn hash_value(value: &[u8]) -> u32
 {
     let mut h: u32 = 0;
     let mut r = further(0, 0);
-    let mut i = 0;
-    while i < value.len() {
-        r = next_byte(r, value[i]);
+    for b in value {
+        r = next_byte(r, *b);
         h = hash_completed(h, completed(r));
-        i += 1;
     }
     h
 }

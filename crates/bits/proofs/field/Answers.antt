@@ -4,9 +4,6 @@ use Rattle.bits.specs.Fields.{field_of}
 use Rattle.bits.proofs.MaskLaws.{bit}
 use Rattle.bits.proofs.field.Goals as goal
 
-pub overflow_sub-result : goal.overflow_sub-result
-overflow_sub-result c = omega (arith, bit c.args.width (omega arith), pow_pos c.args.width)
-
 pub returns : goal.returns
 unfolding field_of
 returns c = rw (bit c.args.width (omega arith), and_mask) (refl, mod-lt _ (pow_pos _))

@@ -1,11 +1,8 @@
-use Rattle.std.proofs.Common.{arith, pow_pos, shl_exact}
+use Rattle.std.proofs.Common.{arith, shl_exact}
 use lib.Bits.{mask_lt}
 use lib.Pow.{ones_lt}
 use Rattle.bits.proofs.MaskLaws.{bit, put_is}
 use Rattle.bits.proofs.with_field.Goals as goal
-
-pub overflow_sub-ones : goal.overflow_sub-ones
-overflow_sub-ones c = omega (arith, bit c.args.width (omega arith), pow_pos c.args.width)
 
 pub returns : goal.returns
 returns c =

@@ -3,9 +3,6 @@ use Rattle.std.proofs.Common.{◌≡◌, ◌+◌, ◌-◌, sym, ◌∙◌, arith
 use Rattle.bits.proofs.FieldLaws.{field-low, field-high}
 use Rattle.bits.proofs.words_field.Goals as goal
 
-pub field-requires : goal.field-requires
-field-requires c = omega (arith, c.requires.low c.if-at-lt64.true)
-
 pub returns-then-at-lt64 : goal.returns-then-at-lt64
 returns-then-at-lt64 c =
     let a = c.args in

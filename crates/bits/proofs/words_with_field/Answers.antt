@@ -3,9 +3,6 @@ use Rattle.std.proofs.Common.{◌≡◌, ◌+◌, ◌-◌, arith}
 use Rattle.bits.proofs.FieldLaws.{with_low, with_high}
 use Rattle.bits.proofs.words_with_field.Goals as goal
 
-pub with_field-requires : goal.with_field-requires
-with_field-requires c = omega (arith, c.requires.low c.if-at-lt64.true)
-
 pub returns-then-at-lt64 : goal.returns-then-at-lt64
 returns-then-at-lt64 c =
     let a = c.args in

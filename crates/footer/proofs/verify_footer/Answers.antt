@@ -1,15 +1,10 @@
 -- Too short, or the two parts of the buffer: what is hashed, and what is compared with it.
 use mathlib.Core.Path.{sym, ◌∙◌}
-use native.Mathlib.Omega.{arith}
-use lib.Seq.{length-take-le}
 use Rattle.footer.proofs.FooterLaws.{verified_short, verified-long}
 use Rattle.footer.proofs.verify_footer.Goals as goal
 
 pub returns-then-buf-lt-FOOTER_LEN : goal.returns-then-buf-lt-FOOTER_LEN
 returns-then-buf-lt-FOOTER_LEN c = sym (verified_short c.args.buf.now c.if-buf-lt-FOOTER_LEN.true)
-
-pub slice_bounds-compute_file_hash-end : goal.slice_bounds-compute_file_hash-end
-slice_bounds-compute_file_hash-end c = sym (length-take-le _ c.args.buf.now (omega arith))
 
 pub returns : goal.returns
 returns c =

@@ -1,6 +1,5 @@
 use mathlib.Core.Path.{ap}
-use Prim.Native.Nat.{◌-◌}
-use mathlib.Core.Bool.{true, not}
+use mathlib.Core.Bool.{not}
 use native.Mathlib.Omega.{arith}
 use Rattle.bits.proofs.PassLaws.{pass_none, pass_next}
 use Rattle.image.proofs.CheckLaws.{headers_in_lem}
@@ -9,7 +8,7 @@ use Rattle.function_checks.proofs.AloneLaws.{alone_is, alone_stop, alone_end}
 use Rattle.function_checks.proofs.stands_alone.Goals as goal
 
 pub loop-j-init : goal.loop-j-init
-loop-j-init c = (omega arith, pass_none _)
+loop-j-init c = pass_none _
 
 pub function_at-g-requires : goal.function_at-g-requires
 function_at-g-requires c =
@@ -18,9 +17,6 @@ function_at-g-requires c =
       i_bound = omega
           (arith, (sectioned c.args.p c.args.image.now c.requires.laid.placed).functions);
     }
-
-pub leaves_alone-requires : goal.leaves_alone-requires
-leaves_alone-requires c = (c.requires.function_is.sized, c.function_at-g.ensures.1)
 
 pub returns-then-not-leaves_alone : goal.returns-then-not-leaves_alone
 returns-then-not-leaves_alone c =
@@ -34,16 +30,14 @@ returns-then-not-leaves_alone c =
 pub loop-j-preserved : goal.loop-j-preserved
 loop-j-preserved c =
     let a = c.args in
-    let l = c.loop-j in (
-      omega arith,
-      pass_next _ l.j _
-          (alone_is a.p.layout a.image.now a.id _ _ l.j _ c.requires.function_is.is c.function_at-g.ensures.0
-          c.leaves_alone.ensures) (ap not c.if-not-leaves_alone.false) l.invariant.1,
-    )
+    let l = c.loop-j in
+    pass_next _ l.j _
+    (alone_is a.p.layout a.image.now a.id _ _ l.j _ c.requires.function_is.is c.function_at-g.ensures.0
+    c.leaves_alone.ensures) (ap not c.if-not-leaves_alone.false) l.invariant
 
 pub returns : goal.returns
 returns c =
     let a = c.args in
     let l = c.loop-j in
     alone_end a.p.layout a.image.now a.id l.j _ (sectioned _ _ c.requires.laid.placed).functions (omega arith)
-    l.invariant.1
+    l.invariant

@@ -7,7 +7,7 @@ use Rattle.function_table.proofs.TailLaws.{function_fails, functions_end}
 use Rattle.function_table.proofs.are_functions_in_tail.Goals as goal
 
 pub loop-i-init : goal.loop-i-init
-loop-i-init c = (omega arith, pass_none _)
+loop-i-init c = pass_none _
 
 pub is_function_in_tail-requires : goal.is_function_in_tail-requires
 is_function_in_tail-requires c =
@@ -25,9 +25,9 @@ returns-then-not-is_function_in_tail c =
 pub loop-i-preserved : goal.loop-i-preserved
 loop-i-preserved c =
     let l = c.loop-i in
-    (omega arith, pass_next _ l.i _ c.is_function_in_tail.ensures (ap not c.if-not-is_function_in_tail.false) l.invariant.1)
+    pass_next _ l.i _ c.is_function_in_tail.ensures (ap not c.if-not-is_function_in_tail.false) l.invariant
 
 pub returns : goal.returns
 returns c =
     let l = c.loop-i in
-    functions_end _ _ l.i _ (sectioned _ _ c.requires).functions (omega arith) l.invariant.1
+    functions_end _ _ l.i _ (sectioned _ _ c.requires).functions (omega arith) l.invariant

@@ -1,5 +1,4 @@
 -- The places of every function before i lie in the tail.
-use Prim.Native.Nat.{◌≤◌, ◌-◌}
 use mathlib.Core.Path.{◌≡◌}
 use mathlib.Core.Bool.{true}
 use Rattle.bits.specs.Choice.{all_below}
@@ -9,7 +8,4 @@ use Rattle.function_table.proofs.are_functions_in_tail.Given as goal
 
 abbrev pub invariant-loop-i : goal.invariant-loop-i
 invariant-loop-i l =
-    (l.i ≤ l.p.functions) × (all_below l.i (λ j. function_in l.p.layout l.image (func_of l.p.layout l.image j)) ≡ true)
-
-abbrev pub decreases-loop-i : goal.decreases-loop-i
-decreases-loop-i l = l.p.functions - l.i
+    all_below l.i (λ j. function_in l.p.layout l.image (func_of l.p.layout l.image j)) ≡ true

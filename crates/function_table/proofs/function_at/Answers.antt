@@ -29,5 +29,6 @@ pub returns-then-is_large : goal.returns-then-is_large
 returns-then-is_large c =
     (header_is (large (goal.at.returns-then-is_large c).After-pointer_of) _ c.large_function.ensures.0, c.large_function.ensures.1)
 
-pub returns : goal.returns
-returns c = (small_is (small (goal.at.returns c).Else-is_large) _ c.small_function.ensures.0, c.small_function.ensures.1)
+pub returns-else-is_large : goal.returns-else-is_large
+returns-else-is_large c =
+    (small_is (small (goal.at.returns-else-is_large c).Else-is_large) _ c.small_function.ensures.0, c.small_function.ensures.1)

@@ -1,44 +1,7 @@
 -- By the layout: the words of the header, each within the width that the caller has shown to be there.
-use mathlib.Core.Path.{refl}
-use native.Mathlib.Omega.{arith}
 use Rattle.function_table.proofs.ReadLaws.{header_modern, header_legacy}
 use borrow.Author.Rules.{rules}
 use Rattle.function_table.proofs.large_function.Goals as goal
-
-pub large_word-requires : goal.large_word-requires
-large_word-requires c =
-    record {
-      k_lt_row_count = (omega arith, refl);
-      k_in_bounds = omega (arith, rw c.in-Modern.is at c.requires.0);
-    }
-
-pub large_word-requires-in-Modern : goal.large_word-requires-in-Modern
-large_word-requires-in-Modern c =
-    record {
-      k_lt_row_count = (omega arith, refl);
-      k_in_bounds = omega (arith, rw c.in-Modern.is at c.requires.0);
-    }
-
-pub large_word-requires-in-Legacy : goal.large_word-requires-in-Legacy
-large_word-requires-in-Legacy c =
-    record {
-      k_lt_row_count = (omega arith, refl);
-      k_in_bounds = omega (arith, rw c.in-Legacy.is at c.requires.0);
-    }
-
-pub large_word-requires-in-Legacy-2 : goal.large_word-requires-in-Legacy-2
-large_word-requires-in-Legacy-2 c =
-    record {
-      k_lt_row_count = (omega arith, refl);
-      k_in_bounds = omega (arith, rw c.in-Legacy.is at c.requires.0);
-    }
-
-pub large_word-requires-in-Legacy-3 : goal.large_word-requires-in-Legacy-3
-large_word-requires-in-Legacy-3 c =
-    record {
-      k_lt_row_count = (omega arith, refl);
-      k_in_bounds = omega (arith, rw c.in-Legacy.is at c.requires.0);
-    }
 
 pub returns-in-Modern : goal.returns-in-Modern
 returns-in-Modern c = (

@@ -1,7 +1,7 @@
 -- The record's place lies before the tail, so that its part of the image is as long as the record.
 use native.Mathlib.Omega.{arith}
 use Rattle.sections.proofs.SectionLaws.{records_few}
-use Rattle.function_table.proofs.ReadLaws.{SlotRead, slot_ends, slot_long, slot_record_lem}
+use Rattle.function_table.proofs.ReadLaws.{SlotRead, slot_ends, slot_record_lem}
 use Rattle.function_table.proofs.record_of.Goals as goal
 use Rattle.function_table.proofs.record_of.Goals.{After-record_row}
 
@@ -25,9 +25,6 @@ overflow_add-end c =
 
 pub slice_bounds-load_record-end : goal.slice_bounds-load_record-end
 slice_bounds-load_record-end c = (slot_ends (slot (goal.at.slice_bounds-load_record-end c).After-record_row)).0
-
-pub load_record-requires : goal.load_record-requires
-load_record-requires c = slot_long (slot (goal.at.load_record-requires c).After-record_row)
 
 pub returns : goal.returns
 returns c = slot_record_lem (slot (goal.at.returns c).After-record_row) _ c.load_record.ensures

@@ -1,28 +1,29 @@
 -- The image's own number first, then 7, then what `judge_body` says of a function that is there.
 use mathlib.Core.Path.{sym, ◌∙◌}
+use Rattle.std.proofs.lemmas.Result.{err_from_is_err_and}
 use Rattle.functions.proofs.JudgeLaws.{FunctionKnown, image_refused, no_function_lem, function-asked, body_asked, body_judged}
 use Rattle.functions.proofs.measure.Goals as goal
 use Rattle.functions.proofs.measure.Goals.{Else-p-id}
 
 -- the image is admitted, and has the function
 known : (c : Else-p-id) → let a = c.args in
-    FunctionKnown a.layout a.image.now a.id c.in-Laid.p
+    FunctionKnown a.layout a.image.now a.id c.in_ok-p.p
 known c = record {
   bytes = λ i. (c.type_inv.image i).fits;
-  laid = sym c.admit-admitted.ensures ∙ c.in-Laid.is;
+  laid = sym c.admit.ensures ∙ c.in_ok-p.was;
   known = c.if-p-id.false;
 }
 
-pub returns-in_default : goal.returns-in_default
-returns-in_default c =
+pub returns-in_err-p : goal.returns-in_err-p
+returns-in_err-p c =
     let a = c.args in
-    image_refused a.layout a.image.now a.id a.body.now _ c.admit-admitted.ensures _ c.in_default.is
-    _ c.number_of.ensures
+    let e = err_from_is_err_and c.from_residual.result c.from_residual.ensures.1 in
+    rw (e.1, e.2) (image_refused a.layout a.image.now a.id a.body.now _ c.admit.ensures _ c.in_err-p.was)
 
 pub returns-then-p-id : goal.returns-then-p-id
 returns-then-p-id c =
     let a = c.args in
-    no_function_lem a.layout a.image.now a.id a.body.now _ c.admit-admitted.ensures _ c.in-Laid.is
+    no_function_lem a.layout a.image.now a.id a.body.now _ c.admit.ensures _ c.in_ok-p.was
     c.if-p-id.true
 
 pub function_at-f-requires : goal.function_at-f-requires

@@ -16,6 +16,6 @@ returns c =
     let y : States a.layout c.layout_of.result
     = record { known = omega (arith, c.if-layout-gt-LAST_LAYOUT.false); is = c.layout_of.ensures } in
     record {
-      value = layout_count _ _ _ y _ _ c.fill_index.ensures.0 c.count_number.ensures;
+      value = layout_count _ _ _ y _ _ c.fill_index.ensures.0 c.number.ensures;
       index_after = layout_work _ _ _ _ y _ c.fill_index.ensures.1;
     }

@@ -1,11 +1,14 @@
 -- The words of what was found, or the refusal of the look-up.
 use mathlib.Core.Path.{refl}
+use Rattle.std.proofs.lemmas.Result.{err_from_is_err_and}
 use Rattle.bits.specs.Outcome.{roomed}
 use Rattle.hbc.proofs.put_looked_up.Goals as goal
 
-pub returns-in-Found : goal.returns-in-Found
-returns-in-Found c = rw c.in-Found.is c.put_words.ensures
-
-pub returns-in-Refused : goal.returns-in-Refused
+pub returns-in_err-entry : goal.returns-in_err-entry
 unfolding roomed
-returns-in-Refused c = rw c.in-Refused.is (refl, refl)
+returns-in_err-entry c =
+    let e = err_from_is_err_and c.from_residual.result c.from_residual.ensures.1 in
+    rw (e.1, e.2, c.in_err-entry.was) (refl, refl)
+
+pub returns : goal.returns
+returns c = rw c.in_ok-entry.was c.put_words.ensures

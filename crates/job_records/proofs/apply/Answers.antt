@@ -1,5 +1,7 @@
 -- 15 where the record is cut short, then by its head: each kind of patch promises its own outcome.
-use Rattle.std.proofs.Common.{arith}
+use Rattle.std.specs.Prelude.{Ok}
+use Rattle.std.proofs.lemmas.Result.{err_from_is_err_and}
+use Rattle.std.proofs.Common.{arith, ap, ◌∙◌}
 use Rattle.job_records.proofs.RecordLaws.{cut_record, string_patched, body_patched, head_refused}
 use Rattle.job_records.proofs.apply.Goals as goal
 
@@ -16,8 +18,8 @@ returns-in-String c =
     (record {
       stated = c.stated_patch.ensures.0;
       whole = omega (arith, c.if-bytes-stated_patch.false);
-      read = c.patch_head-judged.ensures;
-    }) _ _ _ _ c.in-String.is c.patch_string_by_id.ensures
+      read = c.patch_head.ensures;
+    }) _ _ _ _ (c.in_ok-id.was ∙ ap Ok c.in-String.is) c.patch_string_by_id.ensures
 
 pub returns-in-Body : goal.returns-in-Body
 returns-in-Body c =
@@ -26,15 +28,17 @@ returns-in-Body c =
     (record {
       stated = c.stated_patch.ensures.0;
       whole = omega (arith, c.if-bytes-stated_patch.false);
-      read = c.patch_head-judged.ensures;
-    }) _ _ _ _ c.in-Body.is c.patch_function_bytes.ensures
+      read = c.patch_head.ensures;
+    }) _ _ _ _ (c.in_ok-id.was ∙ ap Ok c.in-Body.is) c.patch_function_bytes.ensures
 
-pub returns-in-Refused : goal.returns-in-Refused
-returns-in-Refused c =
+pub returns-in_err-id : goal.returns-in_err-id
+returns-in_err-id c =
     let a = c.args in
-    head_refused a.layout a.image.now a.head.now a.bytes.now a.out.now _ _
+    let e = err_from_is_err_and c.from_residual.result c.from_residual.ensures.1 in
+    rw (e.1, e.2)
+    (head_refused a.layout a.image.now a.head.now a.bytes.now a.out.now _ _
     (record {
       stated = c.stated_patch.ensures.0;
       whole = omega (arith, c.if-bytes-stated_patch.false);
-      read = c.patch_head-judged.ensures;
-    }) _ c.in-Refused.is
+      read = c.patch_head.ensures;
+    }) _ c.in_err-id.was)

@@ -8,16 +8,16 @@ returns-then-image-stated c =
     cut_image c.args.layout c.args.stated c.args.image.now
     c.if-image-stated.true
 
-pub returns-in_default : goal.returns-in_default
-returns-in_default c =
+pub returns-in-Err : goal.returns-in-Err
+returns-in-Err c =
     let a = c.args in
     image_refused a.layout a.stated a.image.now _
-    (record { whole = omega (arith, c.if-image-stated.false); judged = c.admit-judged.ensures }) _ _
-    c.in_default.is c.number_of.ensures
+    (record { whole = omega (arith, c.if-image-stated.false); judged = c.admit.ensures }) _
+    c.in-Err.is
 
 pub returns : goal.returns
 returns c =
     let a = c.args in
     image_laid a.layout a.stated a.image.now _
-    (record { whole = omega (arith, c.if-image-stated.false); judged = c.admit-judged.ensures }) _
-    c.in-Laid.is
+    (record { whole = omega (arith, c.if-image-stated.false); judged = c.admit.ensures }) _
+    c.in_default.is

@@ -1,8 +1,8 @@
 use Rattle.job_records.proofs.RecordLaws.{stated_image_is}
 use Rattle.job_records.proofs.stated_image.Goals as goal
 
-pub returns-in-Image : goal.returns-in-Image
-returns-in-Image c = stated_image_is _ _ _ c.image_head-judged.ensures c.in-Image.is
+pub returns-in-Ok : goal.returns-in-Ok
+returns-in-Ok c = stated_image_is _ _ _ c.image_head.ensures c.in-Ok.is
 
-pub returns-in-Refused : goal.returns-in-Refused
-returns-in-Refused c = stated_image_is _ _ _ c.image_head-judged.ensures c.in-Refused.is
+pub returns-in-Err : goal.returns-in-Err
+returns-in-Err c = stated_image_is _ _ _ c.image_head.ensures c.in-Err.is

@@ -15,7 +15,7 @@ slice_bounds-put_bytes-end c =
               part = c.least-held.ensures.0;
               answers = c.apply-answer.ensures;
             };
-            long = c.in-Length.is;
+            long = c.in-Ok.is;
             room = c.requires;
           }),
       c.apply-answer.auto,
@@ -27,23 +27,23 @@ put_bytes-requires c =
     part_fits a.progress _ _ _ _ a.image.now a.head.now a.bytes.now a.out.now _ _ _
     (record {
       turn = record { under = c.in-Under.is; part = c.least-held.ensures.0; answers = c.apply-answer.ensures };
-      long = c.in-Length.is;
+      long = c.in-Ok.is;
       room = c.requires;
     }) (omega (arith, c.apply-answer.auto))
 
-pub returns-in-Refused : goal.returns-in-Refused
-returns-in-Refused c =
+pub returns-in-Err : goal.returns-in-Err
+returns-in-Err c =
     let a = c.args in
     stepped_refused a.progress _ _ _ _ a.image.now a.head.now a.bytes.now a.out.now _ _
     (record { under = c.in-Under.is; part = c.least-held.ensures.0; answers = c.apply-answer.ensures }) _
-    c.in-Refused.is
+    c.in-Err.is
 
-pub returns-in-Length : goal.returns-in-Length
-returns-in-Length c =
+pub returns-in-Ok : goal.returns-in-Ok
+returns-in-Ok c =
     let a = c.args in
     stepped_made a.progress _ _ _ _ a.image.now a.head.now a.bytes.now a.out.now _ _ _
     (record {
       turn = record { under = c.in-Under.is; part = c.least-held.ensures.0; answers = c.apply-answer.ensures };
-      long = c.in-Length.is;
+      long = c.in-Ok.is;
       room = c.requires;
     }) _ _ c.wrapping_add_u64.ensures.value c.put_bytes.ensures

@@ -1,5 +1,4 @@
 -- The large header of every function before j is clear.
-use Prim.Native.Nat.{◌≤◌, ◌-◌}
 use mathlib.Core.Path.{◌≡◌}
 use mathlib.Core.Bool.{true}
 use Rattle.bits.specs.Choice.{all_below}
@@ -7,7 +6,4 @@ use Rattle.large_headers.specs.Clear.{header_clear}
 use Rattle.large_headers.proofs.are_headers_clear.Given as goal
 
 abbrev pub invariant-loop-j : goal.invariant-loop-j
-invariant-loop-j l = (l.j ≤ l.n) × (all_below l.j (header_clear l.layout l.image) ≡ true)
-
-abbrev pub decreases-loop-j : goal.decreases-loop-j
-decreases-loop-j l = l.n - l.j
+invariant-loop-j l = all_below l.j (header_clear l.layout l.image) ≡ true

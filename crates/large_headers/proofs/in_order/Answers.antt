@@ -1,6 +1,5 @@
 use mathlib.Core.Path.{ap}
-use Prim.Native.Nat.{◌-◌}
-use mathlib.Core.Bool.{true, not}
+use mathlib.Core.Bool.{not}
 use native.Mathlib.Omega.{arith}
 use Rattle.bits.proofs.PassLaws.{pass_none}
 use Rattle.image.specs.Functions.{func_of}
@@ -16,44 +15,33 @@ turn : (c : After-is_behind) → let a = c.args in
     (as_func c.function_at-f.result) c.loop-i.end c.is_behind.result
 turn c = record {
   is = c.function_at-f.ensures.0;
-  end = c.loop-i.invariant.1;
+  end = c.loop-i.invariant.0;
   test = c.is_behind.ensures;
 }
 
 pub loop-i-init : goal.loop-i-init
 loop-i-init c =
     let z = order_none c.large_width-width.result (func_of c.args.layout c.args.image.now) in
-    (omega arith, z.0, z.1, z.2, pass_none _)
-
-pub function_at-f-requires : goal.function_at-f-requires
-function_at-f-requires c =
-    record {
-      readable = c.requires.readable;
-      i_bound = omega arith;
-    }
+    (z.0, z.1, z.2, pass_none _)
 
 pub returns-then-not-is_behind : goal.returns-then-not-is_behind
 returns-then-not-is_behind c =
     image_order _ _ _ _ _ c.large_width-width.ensures.0 c.requires.n_value
     (not_behind (turn (goal.at.returns-then-not-is_behind c).After-is_behind) _ (ap not c.if-not-is_behind.true) (omega arith))
 
-pub end_with-end-requires : goal.end_with-end-requires
-end_with-end-requires c = (c.function_at-f.ensures.1, omega arith)
-
 pub loop-i-preserved : goal.loop-i-preserved
 loop-i-preserved c =
     let l = c.loop-i in
     let f = c.function_at-f.ensures.0 in (
-      omega arith,
-      end_next _ _ l.i _ f l.end _ l.invariant.1 c.end_with-end.ensures,
+      end_next _ _ l.i _ f l.end _ l.invariant.0 c.end_with-end.ensures,
       first_next _ l.i _ f l.first
-          _ l.invariant.2 c.first_with-first.ensures,
-      bodies_next _ l.i _ f l.bodies _ l.invariant.3 c.bodies_with-bodies.ensures,
-      ascends_next (turn (goal.at.loop-i-preserved c).After-is_behind) (ap not c.if-not-is_behind.false) l.invariant.4,
+          _ l.invariant.1 c.first_with-first.ensures,
+      bodies_next _ l.i _ f l.bodies _ l.invariant.2 c.bodies_with-bodies.ensures,
+      ascends_next (turn (goal.at.loop-i-preserved c).After-is_behind) (ap not c.if-not-is_behind.false) l.invariant.3,
     )
 
 pub returns : goal.returns
 returns c =
     let l = c.loop-i in
     image_order _ _ _ l.i _ c.large_width-width.ensures.0 (omega (arith, c.requires.n_value))
-    (order_end _ _ l.i l.bodies l.first l.invariant.3 l.invariant.2 l.invariant.4)
+    (order_end _ _ l.i l.bodies l.first l.invariant.2 l.invariant.1 l.invariant.3)

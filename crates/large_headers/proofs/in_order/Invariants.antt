@@ -1,5 +1,4 @@
 -- The end and the start of the headers before i, and the end of the bodies before i, as far as all stand in order.
-use Prim.Native.Nat.{◌≤◌, ◌-◌}
 use mathlib.Core.Path.{◌≡◌}
 use mathlib.Core.Bool.{true}
 use Rattle.bits.specs.Choice.{all_below}
@@ -9,8 +8,5 @@ use Rattle.large_headers.proofs.in_order.Given as goal
 
 abbrev pub invariant-loop-i : goal.invariant-loop-i
 invariant-loop-i l =
-    (l.i ≤ l.n) × (l.end ≡ headers_end l.width (func_of l.layout l.image) l.i) × (l.first ≡ headers_start (func_of l.layout l.image) l.i)
+    (l.end ≡ headers_end l.width (func_of l.layout l.image) l.i) × (l.first ≡ headers_start (func_of l.layout l.image) l.i)
     × (l.bodies ≡ bodies_end (func_of l.layout l.image) l.i) × (all_below l.i (ascends_at l.width (func_of l.layout l.image)) ≡ true)
-
-abbrev pub decreases-loop-i : goal.decreases-loop-i
-decreases-loop-i l = l.n - l.i

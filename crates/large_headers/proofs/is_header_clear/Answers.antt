@@ -1,10 +1,9 @@
-use Prim.Native.Nat.{◌-◌}
-use mathlib.Core.Path.{ap}
-use mathlib.Core.Bool.{true, not}
+use mathlib.Core.Path.{ap, refl}
+use lib.Dec.{eqb}
+use mathlib.Core.Bool.{not}
 use native.Mathlib.Omega.{arith}
 use Rattle.bits.proofs.PassLaws.{pass_none, pass_next}
 use Rattle.function_table.specs.Functions.{as_func}
-use Rattle.large_headers.specs.Clear.{clear_at}
 use Rattle.large_headers.proofs.ClearLaws.{WithHeader, ClearTurn, no_header, clear_at_lem, header-not_clear, header_clear_lem}
 use Rattle.large_headers.proofs.is_header_clear.Goals as goal
 use Rattle.large_headers.proofs.is_header_clear.Goals.{After-is_clear_of, Else-not-g}
@@ -21,38 +20,21 @@ headed c = record {
 -- function i is tested against it
 turn : (c : After-is_clear_of) → let a = c.args in
     ClearTurn a.layout a.image.now a.j a.n c.loop-i.i c.large_width-width.result
-    (as_func c.function_at-g.result) (as_func c.function_at-f.result) c.are_two.result
+    (as_func c.function_at-g.result) (as_func c.function_at-f.result) (not (eqb c.loop-i.i c.args.j))
     c.is_clear_of.result
 turn c = record {
   headed = record { is = c.function_at-g.ensures.0; large = c.if-not-g.false; count = c.requires.n_value.0 };
   width = c.large_width-width.ensures.0;
   is = c.function_at-f.ensures.0;
-  two = c.are_two.ensures;
+  two = refl;
   test = c.is_clear_of.ensures;
 }
-
-pub function_at-g-requires : goal.function_at-g-requires
-function_at-g-requires c =
-    record {
-      readable = c.requires.readable;
-      i_bound = omega arith;
-    }
 
 pub returns-then-not-g : goal.returns-then-not-g
 returns-then-not-g c = no_header _ _ _ _ c.function_at-g.ensures.0 c.if-not-g.true
 
 pub loop-i-init : goal.loop-i-init
-loop-i-init c = (omega arith, pass_none _)
-
-pub function_at-f-requires : goal.function_at-f-requires
-function_at-f-requires c =
-    record {
-      readable = c.requires.readable;
-      i_bound = omega arith;
-    }
-
-pub is_clear_of-requires : goal.is_clear_of-requires
-is_clear_of-requires c = (c.function_at-g.ensures.1, c.function_at-f.ensures.1, omega arith)
+loop-i-init c = pass_none _
 
 pub returns-then-not-is_clear_of : goal.returns-then-not-is_clear_of
 returns-then-not-is_clear_of c =
@@ -60,13 +42,11 @@ returns-then-not-is_clear_of c =
 
 pub loop-i-preserved : goal.loop-i-preserved
 loop-i-preserved c =
-    let l = c.loop-i in (
-      omega arith,
-      pass_next _ l.i _ (clear_at_lem (turn (goal.at.loop-i-preserved c).After-is_clear_of))
-          (ap not c.if-not-is_clear_of.false) l.invariant.1,
-    )
+    let l = c.loop-i in
+    pass_next _ l.i _ (clear_at_lem (turn (goal.at.loop-i-preserved c).After-is_clear_of))
+    (ap not c.if-not-is_clear_of.false) l.invariant
 
 pub returns : goal.returns
 returns c =
     let l = c.loop-i in
-    header_clear_lem (headed (goal.at.returns c).Else-not-g) l.i (omega arith) l.invariant.1
+    header_clear_lem (headed (goal.at.returns c).Else-not-g) l.i (omega arith) l.invariant

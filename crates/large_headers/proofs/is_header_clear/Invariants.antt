@@ -1,5 +1,4 @@
 -- The large header of function j is clear of every function before i.
-use Prim.Native.Nat.{◌≤◌, ◌-◌}
 use mathlib.Core.Path.{◌≡◌}
 use mathlib.Core.Bool.{true}
 use Rattle.bits.specs.Choice.{all_below}
@@ -7,7 +6,4 @@ use Rattle.large_headers.specs.Clear.{clear_at}
 use Rattle.large_headers.proofs.is_header_clear.Given as goal
 
 abbrev pub invariant-loop-i : goal.invariant-loop-i
-invariant-loop-i l = (l.i ≤ l.n) × (all_below l.i (clear_at l.layout l.image l.j) ≡ true)
-
-abbrev pub decreases-loop-i : goal.decreases-loop-i
-decreases-loop-i l = l.n - l.i
+invariant-loop-i l = all_below l.i (clear_at l.layout l.image l.j) ≡ true

@@ -10,7 +10,7 @@ use Rattle.listing_lines.proofs.put_units.Goals as goal
 pub loop-i-init : goal.loop-i-init
 loop-i-init c =
     let a = c.args in
-    (omega arith, refl, put_start a.image.now a.start a.wide a.first a.n a.out.now a.at)
+    (refl, put_start a.image.now a.start a.wide a.first a.n a.out.now a.at)
 
 pub overflow_add-first : goal.overflow_add-first
 overflow_add-first c =
@@ -33,16 +33,12 @@ loop-i-preserved c =
     let a = c.args in
     let l = c.loop-i in
     let p = c.put_hex in (
-      omega arith,
-      p.auto.out ∙ l.invariant.1,
+      p.auto.out ∙ l.invariant.0,
       put_turn a.image.now a.start a.wide a.first a.n l.out p.new.out _ a.at
           l.i c.unit_at.result
           (record { left = c.loop-i-test.true; unit = c.unit_at.ensures.0; wrote = p.ensures })
-          l.invariant.2,
+          l.invariant.1,
     )
-
-pub shape_of-out : goal.shape_of-out
-shape_of-out c = c.loop-i.invariant.1
 
 pub returns : goal.returns
 returns c =
@@ -53,7 +49,7 @@ returns c =
       (
         omega arith,
         sym (put-end a.image.now a.start a.wide a.first a.n l.out a.at l.i (omega arith))
-            ∙ l.invariant.2,
+            ∙ l.invariant.1,
       ),
       refl,
     )

@@ -9,9 +9,6 @@ use Rattle.listing_lines.proofs.put_units.Given as goal
 
 abbrev pub invariant-loop-i : goal.invariant-loop-i
 invariant-loop-i l =
-    (l.i ≤ l.n) × (length l.out ≡ length l.initial.out)
+    (length l.out ≡ length l.initial.out)
     × (sets l.out (l.at + l.i * 4) (hexes (units_shown l.image l.start l.wide (l.first + l.i) (l.n - l.i))) ≡ sets l.initial.out l.at
     (hexes (units_shown l.image l.start l.wide l.first l.n)))
-
-abbrev pub decreases-loop-i : goal.decreases-loop-i
-decreases-loop-i l = l.n - l.i

@@ -1,17 +1,20 @@
 -- A head that is none gives its number; any other is judged with what is behind it.
+use Rattle.std.specs.Prelude.{Err, Result, ℕ}
+use Rattle.std.proofs.lemmas.Result.{err_from_is_err_and}
 use mathlib.Core.Path.{sym, ap, ◌∙◌}
-use Rattle.input_records.specs.declared.ImageHead.{ImageHead}
+use Rattle.format.specs.declared.Layout.{Layout}
 use Rattle.listing_pieces.specs.Pieces.{opened_record, opened}
 use Rattle.listing_pieces.proofs.open.Goals as goal
 
-pub returns-in-Refused : goal.returns-in-Refused
+pub returns-in_err-layout : goal.returns-in_err-layout
 unfolding opened
-returns-in-Refused c =
-    rw (← c.image_head-head.ensures)
-    (ap (λ (h : ImageHead). opened_record h c.args.input.now) (sym c.in-Refused.is))
+returns-in_err-layout c =
+    let (k, is, same) = err_from_is_err_and c.from_residual.result c.from_residual.ensures.1 in
+    is ∙ ap Err same
+    ∙ ap (λ (h : Result (Layout × ℕ) ℕ). opened_record h c.args.input.now) (sym c.in_err-layout.was ∙ c.image_head.ensures)
 
-pub returns-in-Image : goal.returns-in-Image
+pub returns : goal.returns
 unfolding opened
-returns-in-Image c =
-    c.open_image.ensures ∙ ap (λ (h : ImageHead). opened_record h c.args.input.now)
-    (sym c.in-Image.is ∙ c.image_head-head.ensures)
+returns c =
+    c.open_image.ensures
+    ∙ ap (λ (h : Result (Layout × ℕ) ℕ). opened_record h c.args.input.now) (sym c.in_ok-layout.was ∙ c.image_head.ensures)

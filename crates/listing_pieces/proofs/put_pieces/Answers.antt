@@ -1,4 +1,3 @@
-use Prim.Native.Nat.{◌-◌}
 use native.Mathlib.Omega.{arith}
 use Rattle.listing_pieces.proofs.PointLaws.{going_first, going_next, going_last}
 use Rattle.listing_pieces.proofs.put_pieces.Goals as goal
@@ -15,23 +14,14 @@ put_piece-piece-requires c =
       at_in_bounds = omega (arith, g.room, c.loop-i-test.true);
     }
 
-pub overflow_add-i : goal.overflow_add-i
-overflow_add-i c = omega (arith, c.loop-i-test.true)
-
-pub loop-i-smaller : goal.loop-i-smaller
-loop-i-smaller c = omega (arith, c.loop-i-test.true)
-
 pub loop-i-preserved : goal.loop-i-preserved
 loop-i-preserved c =
     let l = c.loop-i in
     let w = c.put_piece-piece in
-    going_next c.args.p c.args.image.now _ _ l.out l.point l.at l.i l.invariant
+    going_next c.args.p c.args.image.now _ _ l.out l.point l.at l._i l.invariant
     c.loop-i-test.true w.new.out w.result w.ensures
-
-pub shape_of-out : goal.shape_of-out
-shape_of-out c = c.loop-i.invariant.same
 
 pub returns : goal.returns
 returns c =
     let l = c.loop-i in
-    going_last c.args.p c.args.image.now _ _ l.out l.point l.at l.i l.invariant c.loop-i-test.false
+    going_last c.args.p c.args.image.now _ _ l.out l.point l.at l._i l.invariant c.loop-i-test.false

@@ -1,6 +1,5 @@
 use mathlib.Core.Path.{ap}
-use Prim.Native.Nat.{◌-◌}
-use mathlib.Core.Bool.{true, not}
+use mathlib.Core.Bool.{not}
 use native.Mathlib.Omega.{arith}
 use Rattle.bits.proofs.PassLaws.{pass_none, pass_next}
 use Rattle.format.specs.Move.{moved}
@@ -10,7 +9,7 @@ use Rattle.moved_fields.proofs.FitLaws.{fit_is, fields_stop, fields_end}
 use Rattle.moved_fields.proofs.fields_fit.Goals as goal
 
 pub loop-i-init : goal.loop-i-init
-loop-i-init c = (omega arith, pass_none _)
+loop-i-init c = pass_none _
 
 pub function_at-f-requires : goal.function_at-f-requires
 function_at-f-requires c =
@@ -19,9 +18,6 @@ function_at-f-requires c =
       i_bound = omega
           (arith, (sectioned c.args.p c.args.image.now c.requires.laid.placed).functions);
     }
-
-pub does_fit-requires : goal.does_fit-requires
-does_fit-requires c = (c.function_at-f.ensures.1, c.requires.to_bound, c.offset_field-offset.ensures.1)
 
 pub returns-then-not-does_fit : goal.returns-then-not-does_fit
 returns-then-not-does_fit c =
@@ -35,17 +31,15 @@ returns-then-not-does_fit c =
 pub loop-i-preserved : goal.loop-i-preserved
 loop-i-preserved c =
     let a = c.args in
-    let l = c.loop-i in (
-      omega arith,
-      pass_next _ l.i _
-          (fit_is a.p.layout a.image.now (moved a.from a.to) l.i c.offset_field-offset.result _ _
-          c.offset_field-offset.ensures.0 c.function_at-f.ensures.0 c.does_fit.ensures)
-          (ap not c.if-not-does_fit.false) l.invariant.1,
-    )
+    let l = c.loop-i in
+    pass_next _ l.i _
+    (fit_is a.p.layout a.image.now (moved a.from a.to) l.i c.offset_field-offset.result _ _
+    c.offset_field-offset.ensures.0 c.function_at-f.ensures.0 c.does_fit.ensures)
+    (ap not c.if-not-does_fit.false) l.invariant
 
 pub returns : goal.returns
 returns c =
     let a = c.args in
     let l = c.loop-i in
     fields_end a.p.layout a.image.now (moved a.from a.to) l.i _ (sectioned _ _ c.requires.laid.placed).functions
-    (omega arith) l.invariant.1
+    (omega arith) l.invariant

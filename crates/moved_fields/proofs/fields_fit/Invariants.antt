@@ -1,5 +1,4 @@
 -- The moved places of every function before i fit its record.
-use Prim.Native.Nat.{◌≤◌, ◌-◌}
 use mathlib.Core.Path.{◌≡◌}
 use mathlib.Core.Bool.{true}
 use Rattle.bits.specs.Choice.{all_below}
@@ -8,7 +7,4 @@ use Rattle.moved_fields.proofs.FitLaws.{fits_at}
 use Rattle.moved_fields.proofs.fields_fit.Given as goal
 
 abbrev pub invariant-loop-i : goal.invariant-loop-i
-invariant-loop-i l = (l.i ≤ l.p.functions) × (all_below l.i (fits_at l.p.layout l.image (moved l.from l.to)) ≡ true)
-
-abbrev pub decreases-loop-i : goal.decreases-loop-i
-decreases-loop-i l = l.p.functions - l.i
+invariant-loop-i l = all_below l.i (fits_at l.layout l.image (moved l.from l.to)) ≡ true

@@ -6,6 +6,6 @@ pub returns-then-is_escape : goal.returns-then-is_escape
 unfolding quote_next
 returns-then-is_escape c = rw (← c.is_escape.ensures, c.if-is_escape.true)
 
-pub returns : goal.returns
+pub returns-else-is_escape : goal.returns-else-is_escape
 unfolding quote_next
-returns c = rw (← c.is_escape.ensures, c.if-is_escape.false)
+returns-else-is_escape c = rw (← c.is_escape.ensures, c.if-is_escape.false)

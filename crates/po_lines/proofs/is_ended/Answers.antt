@@ -1,10 +1,16 @@
 -- The last byte of a file that has one; a file of no bytes is ended.
+use mathlib.Core.Path.{sym, ◌∙◌}
 use native.Mathlib.Omega.{arith}
+use borrow.Author.Tests.{eqb-true, eqb-false}
 use Rattle.po_lines.proofs.LineLaws.{ended_some, ended_none}
 use Rattle.po_lines.proofs.is_ended.Goals as goal
 
-pub returns-then-file-eq0 : goal.returns-then-file-eq0
-returns-then-file-eq0 c = ended_none c.args.file.now c.if-file-eq0.true
+pub returns-then-is_empty : goal.returns-then-is_empty
+returns-then-is_empty c =
+    c.if-is_empty.true
+    ∙ ended_none c.args.file.now (eqb-true _ _ (sym c.is_empty.ensures ∙ c.if-is_empty.true))
 
-pub returns : goal.returns
-returns c = ended_some c.args.file.now (omega arith)
+pub returns-else-is_empty : goal.returns-else-is_empty
+returns-else-is_empty c =
+    let some = eqb-false _ _ (sym c.is_empty.ensures ∙ c.if-is_empty.false) in
+    ended_some c.args.file.now (omega (arith, some))

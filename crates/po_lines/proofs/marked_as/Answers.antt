@@ -1,21 +1,23 @@
 -- The tests are those of the definition, in its order: each that failed before the one that held.
-use borrow.Author.Tests.{eq-eqb, ne_eqb}
+use mathlib.Core.Path.{sym, ◌∙◌}
 use Rattle.po_lines.specs.Kinds.{marked_as}
 use Rattle.po_lines.proofs.marked_as.Goals as goal
+use Rattle.po_lines.proofs.marked_as.Goals.{then-is_empty-via-then-is_empty, then-is_empty-via-else-is_empty+then-begins}
 
-pub returns-then-line-eq0 : goal.returns-then-line-eq0
+pub returns-then-is_empty : goal.returns-then-is_empty
 unfolding marked_as
-returns-then-line-eq0 c = rw (eq-eqb _ 0 c.if-line-eq0.true)
-
-pub returns-then-begins : goal.returns-then-begins
-unfolding marked_as
-returns-then-begins c = rw (ne_eqb _ 0 c.if-line-eq0.false, ← c.begins.ensures, c.if-begins.true)
+returns-then-is_empty c =
+    elim c.then-is_empty.branch [
+      | then-is_empty-via-then-is_empty w ↦ rw (sym c.is_empty.ensures ∙ w.if-is_empty.true)
+      | then-is_empty-via-else-is_empty+then-begins w ↦
+          rw (sym c.is_empty.ensures ∙ w.if-is_empty.false, ← w.begins.ensures, w.if-begins.true)
+    ]
 
 pub returns-then-begins-2 : goal.returns-then-begins-2
 unfolding marked_as
 returns-then-begins-2 c =
     rw (
-      ne_eqb _ 0 c.if-line-eq0.false,
+      sym c.is_empty.ensures ∙ c.if-is_empty.false,
       ← c.begins.ensures,
       c.if-begins.false,
       ← c.begins-2.ensures,
@@ -26,7 +28,7 @@ pub returns-then-begins-3 : goal.returns-then-begins-3
 unfolding marked_as
 returns-then-begins-3 c =
     rw (
-      ne_eqb _ 0 c.if-line-eq0.false,
+      sym c.is_empty.ensures ∙ c.if-is_empty.false,
       ← c.begins.ensures,
       c.if-begins.false,
       ← c.begins-2.ensures,
@@ -39,7 +41,7 @@ pub returns-then-begins-4 : goal.returns-then-begins-4
 unfolding marked_as
 returns-then-begins-4 c =
     rw (
-      ne_eqb _ 0 c.if-line-eq0.false,
+      sym c.is_empty.ensures ∙ c.if-is_empty.false,
       ← c.begins.ensures,
       c.if-begins.false,
       ← c.begins-2.ensures,
@@ -54,7 +56,7 @@ pub returns : goal.returns
 unfolding marked_as
 returns c =
     rw (
-      ne_eqb _ 0 c.if-line-eq0.false,
+      sym c.is_empty.ensures ∙ c.if-is_empty.false,
       ← c.begins.ensures,
       c.if-begins.false,
       ← c.begins-2.ensures,

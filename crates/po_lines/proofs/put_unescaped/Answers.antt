@@ -1,5 +1,4 @@
-use mathlib.Core.Path.{refl, ap, sym, ◌∙◌}
-use Prim.Native.Nat.{◌-◌}
+use mathlib.Core.Path.{ap, sym, ◌∙◌}
 use native.Mathlib.Omega.{arith}
 use lib.ListN.{length}
 use Rattle.po_lines.specs.declared.Quote.{Quote}
@@ -7,40 +6,37 @@ use Rattle.po_lines.specs.Quoted.{is_closed}
 use Rattle.po_lines.proofs.QuoteLaws.{end_turn, end_last, count_turn, put_turn, text_last}
 use Rattle.po_lines.proofs.put_unescaped.Goals as goal
 
-pub loop-i-init : goal.loop-i-init
-loop-i-init c = (omega arith, refl, omega arith, refl, refl, refl)
-
-pub take_byte-step-requires : goal.take_byte-step-requires
-take_byte-step-requires c = let l = c.loop-i in omega (arith, l.invariant.1, l.invariant.2)
-
-pub loop-i-preserved : goal.loop-i-preserved
-loop-i-preserved c =
+pub loop-b-preserved : goal.loop-b-preserved
+loop-b-preserved c =
     let p = c.take_byte-step in
-    let l = c.loop-i in
+    let l = c.loop-b in
+    let i = l.b-index in
     let s = c.args.text.now in
     let n = p.ensures.next in (
-      omega arith,
-      p.auto.out ∙ l.invariant.1,
-      omega (arith, l.invariant.2, p.ensures.few),
-      end_turn l.quote s l.i _ (omega arith) n ∙ l.invariant.3,
-      omega (arith, l.invariant.4, p.ensures.wrote.0, count_turn l.quote s l.i _ (omega arith) n),
-      put_turn l.quote s l.i _ (omega arith) n l.out _ _ l.to _ p.ensures.wrote l.invariant.5,
+      p.auto.out ∙ l.invariant.0,
+      omega (arith, l.invariant.1, p.ensures.few),
+      end_turn l.quote s i _ (omega arith) n ∙ l.invariant.2,
+      omega (arith, l.invariant.3, p.ensures.wrote.0, count_turn l.quote s i _ (omega arith) n),
+      put_turn l.quote s i _ (omega arith) n l.out _ _ l.to _ p.ensures.wrote l.invariant.4,
     )
 
-pub is_closed-requires : goal.is_closed-requires
-is_closed-requires c = tt
-
-pub shape_of-out : goal.shape_of-out
-shape_of-out c = c.loop-i.invariant.1
-
-pub returns : goal.returns
-returns c =
-    let l = c.loop-i in
+pub returns-then-is_closed : goal.returns-then-is_closed
+returns-then-is_closed c =
+    let l = c.loop-b in
     let s = c.args.text.now in
-    let e = text_last l.quote s l.i (omega arith) in
+    let e = text_last l.quote s l.b-index (omega arith) in
     record {
-      wrote = (omega (arith, l.invariant.4, ap length e), rw e at l.invariant.5);
-      few = omega (arith, l.invariant.0, l.invariant.2);
-      closed = c.is_closed.ensures
-          ∙ ap (λ (q : Quote). is_closed q) (sym (end_last l.quote s l.i (omega arith)) ∙ l.invariant.3);
+      wrote = (omega (arith, l.invariant.3, ap length e), rw e at l.invariant.4);
+      few = omega (arith, l.invariant.1);
+      closed = ap (λ (q : Quote). is_closed q) (sym l.invariant.2 ∙ end_last l.quote s l.b-index (omega arith))
+          ∙ sym c.is_closed.ensures
+          ∙ c.if-is_closed.true;
     }
+
+pub returns-else-is_closed : goal.returns-else-is_closed
+returns-else-is_closed c =
+    let l = c.loop-b in
+    let s = c.args.text.now in
+    ap (λ (q : Quote). is_closed q) (sym l.invariant.2 ∙ end_last l.quote s l.b-index (omega arith))
+    ∙ sym c.is_closed.ensures
+    ∙ c.if-is_closed.false

@@ -1,6 +1,5 @@
 -- The walk down the chain of the bucket: no msgid behind the cursor is the same.
 use mathlib.Core.Bool.{true}
-use Prim.Native.Nat.{◌-◌}
 use Rattle.chains.proofs.WalkLaws.{Walked}
 use Rattle.po_pairs.specs.Held.{bucket_in}
 use Rattle.po_pairs.proofs.PairLaws.{SameId}

@@ -1,51 +1,26 @@
 -- The line leads outside the subset, or what is read grows by it.
 use mathlib.Core.Path.{sym, ◌∙◌}
-use native.Mathlib.Omega.{arith}
 use Rattle.po_pairs.proofs.OrderLaws.{never}
-use Rattle.po_pairs.proofs.TurnLaws.{turned_astray, line_outside, line_astray, words_fit, opens_fit, end_fits, more_fits}
-use Rattle.po_pairs.proofs.TurnLaws.{line_read}
+use Rattle.po_pairs.proofs.TurnLaws.{turned_astray, line_outside, line_astray, line_read}
 use Rattle.po_pairs.proofs.take_turn.Goals as goal
-
-pub take_line-taken-requires : goal.take_line-taken-requires
-take_line-taken-requires c =
-    let q = c.requires in
-    (q.2, omega (arith, q.1.low, q.0.bytes))
 
 pub returns-in_default : goal.returns-in_default
 returns-in_default c =
     let a = c.args in
     turned_astray a.file.now _ _ a.p _ c.astray.ensures
-    (line_outside a.file.now a.text.now a.ends.now a.p c.requires.1
-    (rw c.in_default.is at c.take_line-taken.ensures))
+    (line_outside a.file.now a.text.now a.ends.now a.p c.requires.1 c.in_default.ensures)
 
 pub returns-then-is_astray : goal.returns-then-is_astray
 returns-then-is_astray c =
     let a = c.args in
-    let line = rw c.in-Sound.is at c.take_line-taken.ensures in
     turned_astray a.file.now _ _ a.p _ c.astray-then-is_astray.ensures
-    (line_astray a.file.now a.text.now a.ends.now a.p c.requires.1 _ _ line
+    (line_astray a.file.now a.text.now a.ends.now a.p c.requires.1 _ _ c.in-Some.ensures
     (sym (rw c.follow-stand.ensures at c.is_astray.ensures) ∙ c.if-is_astray.true))
-
-pub put_end-values-requires : goal.put_end-values-requires
-put_end-values-requires c =
-    let a = c.args in
-    let line = rw c.in-Sound.is at c.take_line-taken.ensures in
-    let ok = sym (rw c.follow-stand.ensures at c.is_astray.ensures) ∙ c.if-is_astray.false in
-    record {
-      to_bound = (
-        end_fits a.file.now a.text.now a.ends.now a.p c.requires.1 _ _ line c.requires.0,
-        words_fit a.file.now a.text.now a.ends.now a.p c.requires.1 _ _ line c.requires.0,
-      );
-      n_in_bounds = (
-        opens_fit a.file.now a.text.now a.ends.now a.p c.requires.1 _ _ line c.requires.0,
-        more_fits a.file.now a.text.now a.ends.now a.p c.requires.1 _ _ line c.requires.0 ok,
-      );
-    }
 
 pub returns : goal.returns
 returns c =
     let a = c.args in
-    let line = rw c.in-Sound.is at c.take_line-taken.ensures in
+    let line = c.in-Some.ensures in
     let ok = sym (rw c.follow-stand.ensures at c.is_astray.ensures) ∙ c.if-is_astray.false in
     let e = c.put_end-values.ensures in
     record {

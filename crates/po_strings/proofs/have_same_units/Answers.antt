@@ -1,7 +1,5 @@
 use mathlib.Core.Path.{sym, ◌∙◌}
-use Prim.Native.Nat.{◌-◌}
 use native.Mathlib.Omega.{arith}
-use Rattle.footer.specs.Footer.{same}
 use Rattle.footer.proofs.SameLaws.{longer_differs}
 use Rattle.string_find.proofs.FindLaws.{length_at}
 use Rattle.po_strings.specs.Texts.{units_in}
@@ -17,7 +15,7 @@ returns-then-a-b c =
     (sym (length_at s d.a.start d.a.wide 0 d.a.count) ∙ e ∙ length_at s d.b.start d.b.wide 0 d.b.count))
 
 pub loop-i-init : goal.loop-i-init
-loop-i-init c = let d = c.args in (omega arith, same_start d.image.now d.a d.b)
+loop-i-init c = let d = c.args in same_start d.image.now d.a d.b
 
 pub unit_of-requires : goal.unit_of-requires
 unit_of-requires c = (c.requires.0, c.loop-i-test.true)
@@ -29,20 +27,18 @@ pub returns-then-unit_of : goal.returns-then-unit_of
 returns-then-unit_of c =
     let d = c.args in
     let k = c.loop-i-test.true in
-    differ d.image.now d.a d.b c.loop-i.i k (omega (arith, k, c.if-a-b.false)) _ c.loop-i.invariant.1
+    differ d.image.now d.a d.b c.loop-i.i k (omega (arith, k, c.if-a-b.false)) _ c.loop-i.invariant
     (λ e. c.if-unit_of.true (c.unit_of.ensures.0 ∙ e ∙ sym c.unit_of-in-loop-i.ensures.0))
 
 pub loop-i-preserved : goal.loop-i-preserved
 loop-i-preserved c =
     let d = c.args in
-    let k = c.loop-i-test.true in (
-      omega (arith, k),
-      agree d.image.now d.a d.b c.loop-i.i k (omega (arith, k, c.if-a-b.false)) _ c.loop-i.invariant.1
-          (sym c.unit_of.ensures.0 ∙ c.if-unit_of.false ∙ c.unit_of-in-loop-i.ensures.0),
-    )
+    let k = c.loop-i-test.true in
+    agree d.image.now d.a d.b c.loop-i.i k (omega (arith, k, c.if-a-b.false)) _ c.loop-i.invariant
+    (sym c.unit_of.ensures.0 ∙ c.if-unit_of.false ∙ c.unit_of-in-loop-i.ensures.0)
 
 pub returns : goal.returns
 returns c =
     let d = c.args in
     same_end d.image.now d.a d.b c.loop-i.i _ c.loop-i-test.false (omega (arith, c.loop-i-test.false, c.if-a-b.false))
-    c.loop-i.invariant.1
+    c.loop-i.invariant

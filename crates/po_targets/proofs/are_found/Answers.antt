@@ -1,6 +1,5 @@
 use mathlib.Core.Path.{ap}
-use mathlib.Core.Bool.{true, not}
-use Prim.Native.Nat.{◌-◌}
+use mathlib.Core.Bool.{not}
 use native.Mathlib.Omega.{arith}
 use Rattle.bits.proofs.PassLaws.{pass_none, pass_next, pass_stop, pass_end}
 use Rattle.po_targets.specs.Marks.{settled}
@@ -9,7 +8,7 @@ use Rattle.po_targets.proofs.are_found.Goals as goal
 pub loop-q-init : goal.loop-q-init
 loop-q-init c =
     let a = c.args in
-    (omega arith, pass_none (settled a.text.now a.ends.now a.m a.work.now))
+    pass_none (settled a.text.now a.ends.now a.m a.work.now)
 
 pub word_at-requires : goal.word_at-requires
 word_at-requires c =
@@ -30,14 +29,12 @@ returns-then-not-is_settled c =
 
 pub loop-q-preserved : goal.loop-q-preserved
 loop-q-preserved c =
-    let a = c.args in (
-      omega arith,
-      pass_next (settled a.text.now a.ends.now a.m a.work.now) c.loop-q.q _
-          (rw c.word_at.ensures.0 at c.is_settled.ensures) (ap not c.if-not-is_settled.false) c.loop-q.invariant.1,
-    )
+    let a = c.args in
+    pass_next (settled a.text.now a.ends.now a.m a.work.now) c.loop-q.q _
+    (rw c.word_at.ensures.0 at c.is_settled.ensures) (ap not c.if-not-is_settled.false) c.loop-q.invariant
 
 pub returns : goal.returns
 returns c =
     let l = c.loop-q in
     let a = c.args in
-    pass_end (settled a.text.now a.ends.now a.m a.work.now) _ _ (omega (arith, l.invariant.0)) l.invariant.1
+    pass_end (settled a.text.now a.ends.now a.m a.work.now) _ _ (omega arith) l.invariant

@@ -59,9 +59,9 @@ returns-then-is_pair c =
     let a = c.args in
     let l = c.loop-c in
     let e : l.c ≡ suc (l.c - 1) = omega (arith, c.loop-c-test.true) in (
-      down_is (id_in a.text.now a.ends.now) (str_in a.text.now a.ends.now) _ a.m a.pairs l.c l.invariant (l.c - 1) e
+      sym e ∙ down_is (id_in a.text.now a.ends.now) (str_in a.text.now a.ends.now) _ a.m a.pairs l.c l.invariant (l.c - 1) e
           (sym c.is_pair.ensures ∙ c.if-is_pair.true),
-      l.invariant.low,
+      omega (arith, e, l.invariant.low),
     )
 
 pub overflow_add-m : goal.overflow_add-m

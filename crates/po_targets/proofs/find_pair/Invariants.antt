@@ -1,5 +1,4 @@
 -- No pair from the cursor on fits the string, and the cursor stands on a pair of the string's bucket.
-use Prim.Native.Nat.{◌-◌}
 use Rattle.image.specs.Strings.{string_of, units_of}
 use Rattle.po_targets.specs.Marks.{id_in, str_in}
 use Rattle.po_targets.proofs.PairLaws.{Down}

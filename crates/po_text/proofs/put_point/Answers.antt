@@ -5,7 +5,6 @@ use native.Mathlib.Omega.{arith}
 use lib.ListN.{length-set}
 use Rattle.text.proofs.TextLaws.{wrote_then}
 use Rattle.po_text.proofs.EscapeLaws.{written_one, written_two, written_three, written_four}
-use mathlib.Core.Path.{◌∙◌}
 use Prim.Native.Nat.{◌+◌, ◌/◌, ◌%◌}
 use Rattle.po_text.proofs.put_point.Goals as goal
 
@@ -30,9 +29,6 @@ pub put_two-requires-then-c-lt65536 : goal.put_two-requires-then-c-lt65536
 put_two-requires-then-c-lt65536 c =
     let k = rw (written_three _ c.if-c-lt2048.false c.if-c-lt65536.true) at c.requires.1 in
     (omega arith, omega arith, simp length-set (omega (arith, k)))
-
-pub shape_of-out-then-c-lt65536 : goal.shape_of-out-then-c-lt65536
-shape_of-out-then-c-lt65536 c = c.put_two-then-c-lt65536.auto.out ∙ simp length-set
 
 pub returns-then-c-lt65536 : goal.returns-then-c-lt65536
 returns-then-c-lt65536 c =

@@ -1,5 +1,4 @@
 -- No written string from the cursor up to this one has its value; at the end of the chain none has.
-use Prim.Native.Nat.{◌-◌}
 use Rattle.po_write.proofs.WalkLaws.{Walks}
 use Rattle.po_write.proofs.is_first.Given as goal
 

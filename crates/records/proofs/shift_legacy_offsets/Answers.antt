@@ -7,19 +7,19 @@ use Rattle.format.specs.Table.{legacy_offset}
 use Rattle.records.specs.Records.{field_sum, info_sum, shift_small}
 use Rattle.records.proofs.SumLaws.{sum_lt, info_lt}
 use Rattle.records.proofs.shift_legacy_offsets.Goals as goal
-use Rattle.records.proofs.shift_legacy_offsets.Goals.{After-field_sum-offset_sum, After-info_sum-moved_info}
+use Rattle.records.proofs.shift_legacy_offsets.Goals.{After-field_sum, After-info_sum}
 
-offset-is : (c : After-field_sum-offset_sum) → let a = c.args in
-    c.field_sum-offset_sum.result ≡ field_sum legacy_offset a.delta (whole a.w)
-offset-is c = c.field_sum-offset_sum.ensures ∙ rw (to_z-of_z c.ranges.delta)
+offset-is : (c : After-field_sum) → let a = c.args in
+    c.field_sum.result ≡ field_sum legacy_offset a.delta (whole a.w)
+offset-is c = c.field_sum.ensures ∙ rw (to_z-of_z c.ranges.delta)
 
-info-is : (c : After-info_sum-moved_info) → let a = c.args in
-    c.info_sum-moved_info.result ≡ info_sum a.delta (whole a.w)
-info-is c = c.info_sum-moved_info.ensures ∙ rw (to_z-of_z c.ranges.delta)
+info-is : (c : After-info_sum) → let a = c.args in
+    c.info_sum.result ≡ info_sum a.delta (whole a.w)
+info-is c = c.info_sum.ensures ∙ rw (to_z-of_z c.ranges.delta)
 
-pub returns-in_default : goal.returns-in_default
+pub returns-in_err-offset : goal.returns-in_err-offset
 unfolding shift_small
-returns-in_default c = rw (← offset-is (goal.at.returns-in_default c).After-field_sum-offset_sum, c.in_default.is)
+returns-in_err-offset c = rw (← offset-is (goal.at.returns-in_err-offset c).After-field_sum, c.in_err-offset.was, c.from_residual.ensures)
 
 pub with_exact-placed-requires : goal.with_exact-placed-requires
 with_exact-placed-requires c =
@@ -27,17 +27,18 @@ with_exact-placed-requires c =
     record {
       k_value = search rules;
       v_bound = sum_lt legacy_offset.width a.delta _ _
-          (sym (offset-is (goal.at.with_exact-placed-requires c).After-field_sum-offset_sum) ∙ c.in-Fits.is);
+          (sym (offset-is (goal.at.with_exact-placed-requires c).After-field_sum) ∙ c.in_ok-offset.was);
     }
 
-pub returns-in_default-moved_info : goal.returns-in_default-moved_info
+pub returns-in_err-info : goal.returns-in_err-info
 unfolding shift_small
-returns-in_default-moved_info c =
+returns-in_err-info c =
     rw (
-      ← offset-is (goal.at.returns-in_default-moved_info c).After-field_sum-offset_sum,
-      c.in-Fits.is,
-      ← info-is (goal.at.returns-in_default-moved_info c).After-info_sum-moved_info,
-      c.in_default-moved_info.is,
+      ← offset-is (goal.at.returns-in_err-info c).After-field_sum,
+      c.in_ok-offset.was,
+      ← info-is (goal.at.returns-in_err-info c).After-info_sum,
+      c.in_err-info.was,
+      c.from_residual-in_err-info.ensures,
     )
 
 pub with_exact-requires : goal.with_exact-requires
@@ -45,17 +46,17 @@ with_exact-requires c =
     let a = c.args in
     record {
       k_value = search rules;
-      v_bound = info_lt a.delta _ _ (sym (info-is (goal.at.with_exact-requires c).After-info_sum-moved_info) ∙ c.in-Fits-moved_info.is);
+      v_bound = info_lt a.delta _ _ (sym (info-is (goal.at.with_exact-requires c).After-info_sum) ∙ c.in_ok-info.was);
     }
 
 pub returns : goal.returns
 unfolding shift_small
 returns c =
     rw (
-      ← offset-is (goal.at.returns c).After-field_sum-offset_sum,
-      c.in-Fits.is,
-      ← info-is (goal.at.returns c).After-info_sum-moved_info,
-      c.in-Fits-moved_info.is,
+      ← offset-is (goal.at.returns c).After-field_sum,
+      c.in_ok-offset.was,
+      ← info-is (goal.at.returns c).After-info_sum,
+      c.in_ok-info.was,
       c.with_exact.ensures.0,
       c.with_exact-placed.ensures.0,
     )

@@ -7,24 +7,24 @@ use Rattle.format.specs.Table.{modern_offset}
 use Rattle.records.specs.Records.{field_sum, shift_small}
 use Rattle.records.proofs.SumLaws.{sum_lt}
 use Rattle.records.proofs.shift_modern_offset.Goals as goal
-use Rattle.records.proofs.shift_modern_offset.Goals.{After-field_sum-sum}
+use Rattle.records.proofs.shift_modern_offset.Goals.{After-field_sum}
 
-sum_is : (c : After-field_sum-sum) → let a = c.args in
-    c.field_sum-sum.result ≡ field_sum modern_offset a.delta (whole a.w)
-sum_is c = c.field_sum-sum.ensures ∙ rw (to_z-of_z c.ranges.delta)
+sum_is : (c : After-field_sum) → let a = c.args in
+    c.field_sum.result ≡ field_sum modern_offset a.delta (whole a.w)
+sum_is c = c.field_sum.ensures ∙ rw (to_z-of_z c.ranges.delta)
 
-pub returns-in_default : goal.returns-in_default
+pub returns-in_err-offset : goal.returns-in_err-offset
 unfolding shift_small
-returns-in_default c = rw (← sum_is (goal.at.returns-in_default c).After-field_sum-sum, c.in_default.is)
+returns-in_err-offset c = rw (← sum_is (goal.at.returns-in_err-offset c).After-field_sum, c.in_err-offset.was, c.from_residual.ensures)
 
 pub with_exact-requires : goal.with_exact-requires
 with_exact-requires c =
     let a = c.args in
     record {
       k_value = search rules;
-      v_bound = sum_lt modern_offset.width a.delta _ _ (sym (sum_is (goal.at.with_exact-requires c).After-field_sum-sum) ∙ c.in-Fits.is);
+      v_bound = sum_lt modern_offset.width a.delta _ _ (sym (sum_is (goal.at.with_exact-requires c).After-field_sum) ∙ c.in_ok-offset.was);
     }
 
 pub returns : goal.returns
 unfolding shift_small
-returns c = rw (← sum_is (goal.at.returns c).After-field_sum-sum, c.in-Fits.is, c.with_exact.ensures.0)
+returns c = rw (← sum_is (goal.at.returns c).After-field_sum, c.in_ok-offset.was, c.with_exact.ensures.0)

@@ -8,9 +8,6 @@ debug_of-requires c =
     let a = c.args in
     (header_there a.layout a.image.now a.m _ c.requires).0
 
-pub move_place-debug-requires : goal.move_place-debug-requires
-move_place-debug-requires c = (c.debug_of.ensures.1, omega (arith, c.requires.most))
-
 pub put_exact-requires : goal.put_exact-requires
 put_exact-requires c =
     let a = c.args in

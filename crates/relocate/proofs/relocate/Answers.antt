@@ -12,16 +12,6 @@ header_word-n-requires c =
       k_in_bounds = omega (arith, (header_there a.layout a.image.now a.m _ c.requires).0);
     }
 
-pub put_debug-requires : goal.put_debug-requires
-put_debug-requires c = c.requires
-
-pub relocate_functions-requires : goal.relocate_functions-requires
-relocate_functions-requires c =
-    record {
-      movable = rw c.put_debug.auto.out c.requires;
-      n_value = c.header_word-n.ensures.0;
-    }
-
 pub returns : goal.returns
 returns c =
     let a = c.args in

@@ -40,16 +40,6 @@ moved c = record {
   own = c.large_function-old.ensures.0;
 }
 
-pub record_of-words-requires : goal.record_of-words-requires
-record_of-words-requires c =
-    record {
-      fits = c.requires.movable.fits;
-      i_bound = c.requires.i_bound;
-    }
-
-pub function_after-f-requires : goal.function_after-f-requires
-function_after-f-requires c = (c.small_function.ensures.1, omega (arith, c.requires.movable.most))
-
 pub small_record-requires : goal.small_record-requires
 small_record-requires c =
     fields_held _ _ _ _ _ _ _ _ (small-moved (goal.at.small_record-requires c).After-function_after-f) _ c.requires.movable
@@ -78,9 +68,6 @@ large_function-old-requires c =
       place = c.pointer_of-ptr.ensures.0;
     } in
     (header-fits z c.requires.movable.headers c.requires.i_bound, c.requires.movable.fits.most)
-
-pub function_after-f-requires-2 : goal.function_after-f-requires-2
-function_after-f-requires-2 c = (c.large_function-old.ensures.1, omega (arith, c.requires.movable.most))
 
 pub large_record-record-requires : goal.large_record-record-requires
 large_record-record-requires c =

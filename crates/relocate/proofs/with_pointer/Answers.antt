@@ -1,11 +1,6 @@
 use Rattle.bits.specs.Words.{whole}
-use Rattle.relocate.proofs.FunctionLaws.{pointer_modern, pointer_legacy}
+use Rattle.relocate.proofs.FunctionLaws.{pointer_legacy}
 use Rattle.relocate.proofs.with_pointer.Goals as goal
-
-pub returns-in-Modern : goal.returns-in-Modern
-returns-in-Modern c =
-    let a = c.args in
-    pointer_modern a.layout a.ptr (whole a.words) c.in-Modern.is _ c.with_modern_pointer.ensures.0
 
 pub returns-in-Legacy : goal.returns-in-Legacy
 returns-in-Legacy c =

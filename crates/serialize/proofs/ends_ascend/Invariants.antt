@@ -1,14 +1,9 @@
 -- No end before i is below the one before it.
-use Prim.Native.Nat.{◌≤◌, ◌-◌}
 use mathlib.Core.Path.{◌≡◌}
 use mathlib.Core.Bool.{true}
-use lib.ListN.{length}
 use Rattle.bits.specs.Choice.{all_below}
 use Rattle.serialize.proofs.BuilderLaws.{ascending}
 use Rattle.serialize.proofs.ends_ascend.Given as goal
 
 abbrev pub invariant-loop-i : goal.invariant-loop-i
-invariant-loop-i l = (l.i ≤ length l.ends) × (all_below l.i (ascending l.ends) ≡ true)
-
-abbrev pub decreases-loop-i : goal.decreases-loop-i
-decreases-loop-i l = length l.ends - l.i
+invariant-loop-i l = all_below l.i (ascending l.ends) ≡ true

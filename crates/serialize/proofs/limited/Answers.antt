@@ -1,9 +1,9 @@
 -- A count that is over the limit makes the sum so; below it no sum wraps.
+use Rattle.std.specs.Prelude.{Ok}
 use Prim.Native.Nat.{◌+◌}
 use mathlib.Core.Path.{◌≡◌, ap}
 use native.Mathlib.Omega.{arith}
 use borrow.Author.Tests.{lt-ltb, le-ltb}
-use Rattle.bits.specs.declared.Answer.TheVariants.{Length}
 use Rattle.footer.specs.Footer.{footer_length}
 use Rattle.footer.specs.Finalize.{size_limit}
 use Rattle.serialize.specs.Parts.{length_of}
@@ -28,4 +28,4 @@ returns c =
     let a = c.args in
     let n = length_of a.strings a.size a.body in
     let e : c.up4-large_at.result + c.width.result + footer_length ≡ n = omega arith in
-    rw (le-ltb size_limit n (omega arith)) (ap Length e)
+    rw (le-ltb size_limit n (omega arith)) (ap Ok e)

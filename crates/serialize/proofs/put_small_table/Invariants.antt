@@ -1,5 +1,4 @@
 -- The small entries of the strings before i stand in their place.
-use Prim.Native.Nat.{◌≤◌, ◌-◌}
 use mathlib.Core.Path.{◌≡◌}
 use lib.ListN.{length}
 use lib.Seq.{sets}
@@ -8,7 +7,4 @@ use Rattle.serialize.proofs.put_small_table.Given as goal
 
 abbrev pub invariant-loop-i : goal.invariant-loop-i
 invariant-loop-i l =
-    (l.i ≤ length l.ends) × (length l.image ≡ length l.initial.image) × (l.image ≡ sets l.initial.image small_at (small_table l.ends l.i))
-
-abbrev pub decreases-loop-i : goal.decreases-loop-i
-decreases-loop-i l = length l.ends - l.i
+    (length l.image ≡ length l.initial.image) × (l.image ≡ sets l.initial.image small_at (small_table l.ends l.i))

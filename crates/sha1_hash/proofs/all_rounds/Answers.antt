@@ -3,4 +3,4 @@ use Rattle.sha1_hash.proofs.RingLaws.{variables}
 use Rattle.sha1_hash.proofs.all_rounds.Goals as goal
 
 pub returns : goal.returns
-returns c = variables _ _ _ _ _ c.rounds_from_64-s80.ensures
+returns c = variables _ _ _ _ _ c.sixteen_rounds-s80.ensures

@@ -1,15 +1,18 @@
-use borrow.Author.Tests.{eq-eqb, ne_eqb}
+use native.Mathlib.Omega.{arith}
+use borrow.Author.Tests.{ne_eqb}
 use Rattle.sha1_hash.specs.Functions.{f_in}
 use Rattle.sha1_hash.proofs.mixed.Goals as goal
 
-pub returns-then-quarter-eq0 : goal.returns-then-quarter-eq0
+pub returns-in-0 : goal.returns-in-0
 unfolding f_in
-returns-then-quarter-eq0 c = rw (eq-eqb _ _ c.if-quarter-eq0.true) c.choose.ensures
+returns-in-0 c = rw c.in-0.is c.choose.ensures
 
-pub returns-then-quarter-eq2 : goal.returns-then-quarter-eq2
+pub returns-in-2 : goal.returns-in-2
 unfolding f_in
-returns-then-quarter-eq2 c = rw (ne_eqb _ _ c.if-quarter-eq0.false, eq-eqb _ _ c.if-quarter-eq2.true) c.most.ensures
+returns-in-2 c = rw c.in-2.is c.most.ensures
 
-pub returns : goal.returns
+pub returns-in_default : goal.returns-in_default
 unfolding f_in
-returns c = rw (ne_eqb _ _ c.if-quarter-eq0.false, ne_eqb _ _ c.if-quarter-eq2.false) c.odd.ensures
+returns-in_default c =
+    let q = c.args.quarter in
+    rw (ne_eqb q 0 (λ e. omega arith), ne_eqb q 2 (λ e. omega arith)) c.odd.ensures

@@ -7,7 +7,7 @@ use Rattle.string_edits.specs.Lists.{is_new}
 use Rattle.string_edits.proofs.are_different.Goals as goal
 
 pub loop-j-init : goal.loop-j-init
-loop-j-init c = (omega arith, pass_none (is_new (λ i. get_or c.args.ids.now i 0)))
+loop-j-init c = pass_none (is_new (λ i. get_or c.args.ids.now i 0))
 
 pub returns-then-not-is_new : goal.returns-then-not-is_new
 returns-then-not-is_new c =
@@ -17,13 +17,11 @@ returns-then-not-is_new c =
 
 pub loop-j-preserved : goal.loop-j-preserved
 loop-j-preserved c =
-    let a = c.args in (
-      omega arith,
-      pass_next (is_new (λ i. get_or a.ids.now i 0)) c.loop-j.j _ c.is_new.ensures (ap not c.if-not-is_new.false)
-          c.loop-j.invariant.1,
-    )
+    let a = c.args in
+    pass_next (is_new (λ i. get_or a.ids.now i 0)) c.loop-j.j _ c.is_new.ensures (ap not c.if-not-is_new.false)
+    c.loop-j.invariant
 
 pub returns : goal.returns
 returns c =
     let a = c.args in
-    pass_end (is_new (λ i. get_or a.ids.now i 0)) _ _ (omega (arith, c.loop-j.invariant.0)) c.loop-j.invariant.1
+    pass_end (is_new (λ i. get_or a.ids.now i 0)) _ _ (omega arith) c.loop-j.invariant

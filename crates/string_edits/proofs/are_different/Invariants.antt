@@ -1,14 +1,10 @@
 -- Each id before number j is new.
 use mathlib.Core.Path.{◌≡◌}
 use mathlib.Core.Bool.{true}
-use Prim.Native.Nat.{◌≤◌, ◌-◌}
-use lib.ListN.{length, get_or}
+use lib.ListN.{get_or}
 use Rattle.bits.specs.Choice.{all_below}
 use Rattle.string_edits.specs.Lists.{is_new}
 use Rattle.string_edits.proofs.are_different.Given as goal
 
 abbrev pub invariant-loop-j : goal.invariant-loop-j
-invariant-loop-j l = (l.j ≤ length l.ids) × (all_below l.j (is_new (λ i. get_or l.ids i 0)) ≡ true)
-
-abbrev pub decreases-loop-j : goal.decreases-loop-j
-decreases-loop-j l = length l.ids - l.j
+invariant-loop-j l = all_below l.j (is_new (λ i. get_or l.ids i 0)) ≡ true

@@ -7,7 +7,7 @@ use Rattle.string_edits.specs.Lists.{value_in}
 use Rattle.string_edits.proofs.are_utf8.Goals as goal
 
 pub loop-j-init : goal.loop-j-init
-loop-j-init c = let a = c.args in (omega arith, pass_none (λ i. is_utf8 (value_in a.text.now a.ends.now i)))
+loop-j-init c = let a = c.args in pass_none (λ i. is_utf8 (value_in a.text.now a.ends.now i))
 
 pub value_at-requires : goal.value_at-requires
 value_at-requires c = c.requires _ c.loop-j-test.true
@@ -20,14 +20,11 @@ returns-then-not-is_utf8 c =
 
 pub loop-j-preserved : goal.loop-j-preserved
 loop-j-preserved c =
-    let a = c.args in (
-      omega arith,
-      pass_next (λ i. is_utf8 (value_in a.text.now a.ends.now i)) c.loop-j.j _
-          (c.is_utf8.ensures ∙ ap is_utf8 c.value_at.ensures.0) (ap not c.if-not-is_utf8.false) c.loop-j.invariant.1,
-    )
+    let a = c.args in
+    pass_next (λ i. is_utf8 (value_in a.text.now a.ends.now i)) c.loop-j.j _
+    (c.is_utf8.ensures ∙ ap is_utf8 c.value_at.ensures.0) (ap not c.if-not-is_utf8.false) c.loop-j.invariant
 
 pub returns : goal.returns
 returns c =
     let a = c.args in
-    pass_end (λ i. is_utf8 (value_in a.text.now a.ends.now i)) _ _ (omega (arith, c.loop-j.invariant.0))
-    c.loop-j.invariant.1
+    pass_end (λ i. is_utf8 (value_in a.text.now a.ends.now i)) _ _ (omega arith) c.loop-j.invariant

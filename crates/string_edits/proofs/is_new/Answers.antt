@@ -9,7 +9,7 @@ use Rattle.bits.proofs.PassLaws.{pass_none, pass_more, pass_end}
 use Rattle.string_edits.proofs.is_new.Goals as goal
 
 pub loop-i-init : goal.loop-i-init
-loop-i-init c = let a = c.args in (omega arith, pass_none (λ k. not (eqb (get_or a.ids.now k 0) (get_or a.ids.now a.j 0))))
+loop-i-init c = let a = c.args in pass_none (λ k. not (eqb (get_or a.ids.now k 0) (get_or a.ids.now a.j 0)))
 
 pub returns-then-ids-i : goal.returns-then-ids-i
 returns-then-ids-i c =
@@ -20,14 +20,11 @@ returns-then-ids-i c =
 
 pub loop-i-preserved : goal.loop-i-preserved
 loop-i-preserved c =
-    let a = c.args in (
-      omega arith,
-      pass_more (λ k. not (eqb (get_or a.ids.now k 0) (get_or a.ids.now a.j 0))) c.loop-i.i
-          (rw (ne_eqb (get_or a.ids.now c.loop-i.i 0) (get_or a.ids.now a.j 0) c.if-ids-i.false)) c.loop-i.invariant.1,
-    )
+    let a = c.args in
+    pass_more (λ k. not (eqb (get_or a.ids.now k 0) (get_or a.ids.now a.j 0))) c.loop-i.i
+    (rw (ne_eqb (get_or a.ids.now c.loop-i.i 0) (get_or a.ids.now a.j 0) c.if-ids-i.false)) c.loop-i.invariant
 
 pub returns : goal.returns
 returns c =
     let a = c.args in
-    pass_end (λ k. not (eqb (get_or a.ids.now k 0) (get_or a.ids.now a.j 0))) _ _ (omega (arith, c.loop-i.invariant.0))
-    c.loop-i.invariant.1
+    pass_end (λ k. not (eqb (get_or a.ids.now k 0) (get_or a.ids.now a.j 0))) _ _ (omega arith) c.loop-i.invariant

@@ -5,16 +5,16 @@ use Rattle.string_edits.proofs.ToldLaws.{next_nearest}
 use Rattle.string_edits.proofs.next_listed.Goals as goal
 
 pub loop-j-init : goal.loop-j-init
-loop-j-init c = (omega arith, near_none c.args.ids.now c.args.from c.requires)
+loop-j-init c = near_none c.args.ids.now c.args.from c.requires
 
 pub nearer-best-requires : goal.nearer-best-requires
-nearer-best-requires c = (c.loop-j-test.true, c.loop-j.invariant.1)
+nearer-best-requires c = (c.loop-j-test.true, c.loop-j.invariant)
 
 pub loop-j-preserved : goal.loop-j-preserved
-loop-j-preserved c = (omega arith, rw add-one c.nearer-best.ensures)
+loop-j-preserved c = rw add-one c.nearer-best.ensures
 
 pub returns : goal.returns
 returns c =
     let a = c.args in
     let l = c.loop-j in
-    next_nearest a.ids.now a.from l.j l.best (omega (arith, l.invariant.0)) l.invariant.1
+    next_nearest a.ids.now a.from l.j l.best (omega arith) l.invariant

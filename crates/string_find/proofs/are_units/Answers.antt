@@ -13,29 +13,29 @@ use Rattle.string_find.proofs.are_units.Goals.{After-completed-units}
 
 -- the byte that is read, and the units that it completes
 turn : (c : After-completed-units) → let a = c.args in
-    let l = c.loop-i in
-    Turn a.image.now a.value.now (list_of c.completed-units.result) a.start l.j l.i a.wide l.r
+    let l = c.loop-byte in
+    Turn a.image.now a.value.now (list_of c.completed-units.result) a.start l.j l.byte-index a.wide l.r
     c.next_byte-r.result
     (same (units_at a.image.now a.start a.wide 0 (length (utf16 a.value.now))) (utf16 a.value.now))
 turn c = record {
-  known = c.loop-i-test.true;
+  known = c.loop-byte-test.true;
   read = c.next_byte-r.ensures.0;
   units = c.completed-units.ensures;
-  left = c.loop-i.invariant.3;
+  left = c.loop-byte.invariant.2;
 }
 
 pub further-r-requires : goal.further-r-requires
 further-r-requires c = tt
 
-pub loop-i-init : goal.loop-i-init
-loop-i-init c =
+pub loop-byte-init : goal.loop-byte-init
+loop-byte-init c =
     let a = c.args in
     let e = c.further-r.ensures in
     let z = from_start a.image.now a.value.now a.start a.wide _ e in
-    (omega arith, subst Small (sym e) small-between, z.0, z.1)
+    (subst Small (sym e) small-between, z.0, z.1)
 
 pub next_byte-r-requires : goal.next_byte-r-requires
-next_byte-r-requires c = c.loop-i.invariant.1
+next_byte-r-requires c = c.loop-byte.invariant.0
 
 pub completed-units-requires : goal.completed-units-requires
 completed-units-requires c = c.next_byte-r.ensures.1
@@ -44,7 +44,7 @@ pub are_next-requires : goal.are_next-requires
 are_next-requires c =
     let a = c.args in
     room_less a.wide a.start _ (length (utf16 a.value.now)) _
-    (omega (arith, count_left _ _ _ _ _ _ _ _ _ _ (turn (goal.at.are_next-requires c).After-completed-units) _ c.loop-i.invariant.2))
+    (omega (arith, count_left _ _ _ _ _ _ _ _ _ _ (turn (goal.at.are_next-requires c).After-completed-units) _ c.loop-byte.invariant.1))
     c.requires
 
 pub returns-then-not-are_next : goal.returns-then-not-are_next
@@ -62,20 +62,19 @@ overflow_add-j c =
       arith,
       c.count_of-j.ensures.0,
       room-low a.wide a.start _ _ c.requires,
-      count_left _ _ _ _ _ _ _ _ _ _ (turn (goal.at.overflow_add-j c).After-completed-units) _ c.loop-i.invariant.2,
+      count_left _ _ _ _ _ _ _ _ _ _ (turn (goal.at.overflow_add-j c).After-completed-units) _ c.loop-byte.invariant.1,
     )
 
-pub loop-i-preserved : goal.loop-i-preserved
-loop-i-preserved c =
-    let t = turn (goal.at.loop-i-preserved c).After-completed-units in (
-      omega arith,
+pub loop-byte-preserved : goal.loop-byte-preserved
+loop-byte-preserved c =
+    let t = turn (goal.at.loop-byte-preserved c).After-completed-units in (
       c.next_byte-r.ensures.1,
-      rw c.count_of-j.ensures.0 (count_left _ _ _ _ _ _ _ _ _ _ t _ c.loop-i.invariant.2),
+      rw c.count_of-j.ensures.0 (count_left _ _ _ _ _ _ _ _ _ _ t _ c.loop-byte.invariant.1),
       rw c.count_of-j.ensures.0 (agrees _ _ _ _ _ _ _ _ _ _ t _ c.are_next.ensures (ap not c.if-not-are_next.false)),
     )
 
 pub returns : goal.returns
 returns c =
     let a = c.args in
-    let l = c.loop-i in
-    all_agree a.image.now a.value.now a.start l.j l.i a.wide l.r (omega arith) _ l.invariant.3
+    let l = c.loop-byte in
+    all_agree a.image.now a.value.now a.start l.j l.byte-index a.wide l.r (omega arith) _ l.invariant.2

@@ -8,8 +8,8 @@ use Rattle.string_index.proofs.fill.Goals as goal
 pub first_string-c-requires : goal.first_string-c-requires
 first_string-c-requires c = tt
 
-pub loop-c-init : goal.loop-c-init
-loop-c-init c =
+pub loop-id-init : goal.loop-id-init
+loop-id-init c =
     let a = c.args in
     let f = c.first_string-c.ensures in (
       omega (arith, f.1),
@@ -21,21 +21,18 @@ loop-c-init c =
 pub put_string-c-requires : goal.put_string-c-requires
 put_string-c-requires c =
     let h = c.requires in
-    let v = c.loop-c.invariant in
+    let v = c.loop-id.invariant in
     record {
       laid = (h.0, omega (arith, h.1, v.1));
-      cursor_of = (v.2, c.loop-c-test.true);
+      cursor_of = (v.2, omega (arith, v.0));
     }
 
-pub loop-c-smaller : goal.loop-c-smaller
-loop-c-smaller c = omega (arith, c.put_string-c.ensures.cursor_of_2.1)
-
-pub loop-c-preserved : goal.loop-c-preserved
-loop-c-preserved c =
+pub loop-id-preserved : goal.loop-id-preserved
+loop-id-preserved c =
     let a = c.args in
-    let l = c.loop-c in
+    let l = c.loop-id in
     let r = c.put_string-c in (
-      omega (arith, r.ensures.cursor_of_2.1),
+      omega (arith, r.ensures.cursor_of_2.1, l.invariant.0),
       r.auto.index ∙ l.invariant.1,
       r.ensures.cursor_of_2.0,
       rw r.ensures.cursor_of_2.1
@@ -43,10 +40,10 @@ loop-c-preserved c =
     )
 
 pub shape_of-index : goal.shape_of-index
-shape_of-index c = c.loop-c.invariant.1
+shape_of-index c = c.loop-id.invariant.1
 
 pub returns : goal.returns
 returns c =
     let a = c.args in
-    let l = c.loop-c in
-    all_filled a.p a.image.now c.requires.0.placed a.index.now _ l.c.id (omega arith) l.invariant.3
+    let l = c.loop-id in
+    all_filled a.p a.image.now c.requires.0.placed a.index.now _ l.c.id (omega (arith, l.invariant.0)) l.invariant.3

@@ -1,16 +1,12 @@
 -- The entries of the strings before the cursor are there.
 use mathlib.Core.Path.{◌≡◌}
-use Prim.Native.Nat.{◌-◌, ◌≤◌}
 use lib.ListN.{length}
 use Rattle.string_walk.specs.Places.{CursorOf}
 use Rattle.string_index.specs.Index.{entry_of}
 use Rattle.string_index.specs.Filling.{put_entries}
 use Rattle.string_index.proofs.fill.Given as goal
 
-abbrev pub invariant-loop-c : goal.invariant-loop-c
-invariant-loop-c l =
-    (l.c.id ≤ l.p.strings) × (length l.index ≡ length l.initial.index) × CursorOf l.p l.image l.c
+abbrev pub invariant-loop-id : goal.invariant-loop-id
+invariant-loop-id l =
+    (l.c.id ≡ l._id) × (length l.index ≡ length l.initial.index) × CursorOf l.p l.image l.c
     × (l.index ≡ put_entries l.p.strings (entry_of l.p.layout l.image) l.c.id l.initial.index)
-
-abbrev pub decreases-loop-c : goal.decreases-loop-c
-decreases-loop-c l = l.p.strings - l.c.id

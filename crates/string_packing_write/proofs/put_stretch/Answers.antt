@@ -1,6 +1,6 @@
 use mathlib.Core.Path.{refl, ◌∙◌, subst⁻¹}
 use mathlib.Core.List.{List}
-use Prim.Native.Nat.{ℕ}
+use Prim.Native.Nat.{ℕ, ◌≤◌, ◌<◌}
 use native.Mathlib.Omega.{arith}
 use lib.ListN.{length}
 use Rattle.sections.proofs.SectionLaws.{Sectioned, sectioned}
@@ -37,54 +37,52 @@ next_stretch-s-requires c =
 pub value_of-value-requires : goal.value_of-value-requires
 value_of-value-requires c = c.next_stretch-s.ensures.within
 
-pub loop-c-init : goal.loop-c-init
-loop-c-init c = (omega arith, omega (arith, c.next_stretch-s.ensures.stretch_of.more), refl, λ v w. (w.reached, λ out h. h))
+pub loop-id-init : goal.loop-id-init
+loop-id-init c = (refl, refl, λ v w. (w.reached, λ out h. h))
 
 pub put_string-c-requires : goal.put_string-c-requires
 put_string-c-requires c =
-    let l = c.loop-c in
+    let l = c.loop-id in
     let w = writing (goal.at.put_string-c-requires c).After-value_of-value in
-    let r = (l.invariant.3 _ w).0 in
+    let r = (l.invariant.2 _ w).0 in
     record {
       in_turn = (
         record {
           laid = c.requires.writable.0.laid;
-          known = omega (arith, c.loop-c-test.true, w.stretch.most);
+          known = omega (arith, l.invariant.0, w.stretch.most);
           going = r.going;
           small = w.stretch.small;
         },
         w.stretch.shaped,
       );
-      string_fits = rw l.invariant.2 (held_fits _ _ _ _ _ _ _ _ _ w l.c l.invariant.0 c.loop-c-test.true r);
+      string_fits = rw l.invariant.1 (held_fits _ _ _ _ _ _ _ _ _ w l.c (omega (arith, l.invariant.0)) (omega (arith, l.invariant.0)) r);
     }
 
-pub loop-c-smaller : goal.loop-c-smaller
-loop-c-smaller c = omega (arith, c.put_string-c.ensures.behind.string, c.loop-c-test.true)
-
-pub loop-c-preserved : goal.loop-c-preserved
-loop-c-preserved c =
-    let l = c.loop-c in
+pub loop-id-preserved : goal.loop-id-preserved
+loop-id-preserved c =
+    let l = c.loop-id in
     let e = c.put_string-c.ensures in (
       omega (arith, e.behind.string, l.invariant.0),
-      omega (arith, e.behind.string, c.loop-c-test.true),
-      c.put_string-c.auto.out ∙ l.invariant.2,
+      c.put_string-c.auto.out ∙ l.invariant.1,
       λ v w.
-          let (r, on) = l.invariant.3 v w in (
-            held_reached _ _ _ v _ _ _ _ _ w l.c l.invariant.0 c.loop-c-test.true r _ e.behind,
-            held_laid _ _ _ v _ _ _ _ _ w l.c l.invariant.0 c.loop-c-test.true r _ e.behind _ _ _ on e.out_after,
+          let (r, on) = l.invariant.2 v w in
+          let low : c.args.from.old.id ≤ l.c.old.id = omega (arith, l.invariant.0) in
+          let high : l.c.old.id < c.next_stretch-s.result.end = omega (arith, l.invariant.0) in (
+            held_reached _ _ _ v _ _ _ _ _ w l.c low high r _ e.behind,
+            held_laid _ _ _ v _ _ _ _ _ w l.c low high r _ e.behind _ _ _ on e.out_after,
           ),
     )
 
 pub shape_of-out : goal.shape_of-out
-shape_of-out c = c.loop-c.invariant.2
+shape_of-out c = c.loop-id.invariant.1
 
 pub returns : goal.returns
 returns c =
     let w = writing (goal.at.returns c).After-value_of-value in
-    let v = c.loop-c.invariant in
-    let (r, on) = v.3 _ w in
+    let v = c.loop-id.invariant in
+    let (r, on) = v.2 _ w in
     record {
       reached_2 = r;
-      id_lt_id = (omega (arith, v.1, c.loop-c-test.false, w.stretch.more), omega (arith, v.1, w.stretch.most));
+      id_lt_id = (omega (arith, v.0, w.stretch.more), omega (arith, v.0, w.stretch.more, w.stretch.most));
       laid_on = on;
     }

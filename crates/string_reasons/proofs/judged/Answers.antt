@@ -4,25 +4,23 @@ use Rattle.sections.proofs.SectionLaws.{Sectioned, sectioned}
 use Rattle.string_reasons.proofs.AnswerLaws.{path_moves, judged_none, judged_some, judged_in_place}
 use Rattle.string_reasons.proofs.judged.Goals as goal
 
-pub rebuild_refusal-number-requires : goal.rebuild_refusal-number-requires
-rebuild_refusal-number-requires c =
+pub judge_rebuild-requires : goal.judge_rebuild-requires
+judge_rebuild-requires c =
     let a = c.args in
     record {
       laid = c.requires.laid;
       value_value = path_moves a.p.layout a.image.now a.id a.value.now _ c.requires.path_value c.in_default.not-InPlace;
     }
 
-pub returns-then-number-eq0 : goal.returns-then-number-eq0
-returns-then-number-eq0 c =
+pub returns-in-Ok : goal.returns-in-Ok
+returns-in-Ok c =
     let a = c.args in
-    judged_none a.p.layout a.image.now a.id a.value.now _ c.requires.path_value a.mode _ c.rebuild_refusal-number.ensures
-    c.if-number-eq0.true
+    judged_none a.p.layout a.image.now a.id a.value.now _ c.requires.path_value a.mode _ c.in-Ok.ensures
 
-pub returns-in_default : goal.returns-in_default
-returns-in_default c =
+pub returns-in-Err : goal.returns-in-Err
+returns-in-Err c =
     let a = c.args in
-    judged_some a.p.layout a.image.now a.id a.value.now _ c.requires.path_value a.mode _ c.rebuild_refusal-number.ensures
-    c.if-number-eq0.false
+    judged_some a.p.layout a.image.now a.id a.value.now _ c.requires.path_value a.mode _ c.in-Err.ensures
 
 pub returns : goal.returns
 returns c =

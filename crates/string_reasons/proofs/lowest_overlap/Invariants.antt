@@ -2,7 +2,7 @@
 use mathlib.Core.Path.{◌≡◌}
 use mathlib.Core.Bool.{true}
 use mathlib.Core.List.{List}
-use Prim.Native.Nat.{ℕ, ◌≤◌, ◌-◌}
+use Prim.Native.Nat.{ℕ}
 use Rattle.bits.specs.Choice.{all_below}
 use Rattle.sections.specs.Places.{Laid}
 use Rattle.string_index.specs.Filling.{Indexed}
@@ -11,7 +11,4 @@ use Rattle.string_reasons.proofs.lowest_overlap.Given as goal
 
 abbrev pub invariant-loop-i : goal.invariant-loop-i
 invariant-loop-i l =
-    (l.i ≤ l.p.strings) × ((s : List ℕ) → Laid l.p s → Indexed l.p s l.index → all_below l.i (is_apart l.p.layout s l.id) ≡ true)
-
-abbrev pub decreases-loop-i : goal.decreases-loop-i
-decreases-loop-i l = l.p.strings - l.i
+    (s : List ℕ) → Laid l.p s → Indexed l.p s l.index → all_below l.i (is_apart l.p.layout s l.id) ≡ true

@@ -3,7 +3,9 @@ use mathlib.Core.List.{List}
 use Prim.Native.Nat.{ℕ}
 use native.Mathlib.Nat.{sub-zero}
 use native.Mathlib.Omega.{arith}
+use Rattle.std.proofs.lemmas.Result.{err_from_is_err_and}
 use Rattle.bits.specs.Choice.{both}
+use Rattle.bits.specs.Outcome.{passed}
 use Rattle.string_edits.specs.Told.{told, coming_in}
 use Rattle.string_edits.specs.declared.Form.TheVariants.{Marks}
 use Rattle.string_in_place.specs.Known.{Given}
@@ -81,28 +83,30 @@ slice_bounds-stop_at-end c =
           _ (met (goal.at.slice_bounds-stop_at-end c).After-string_at-step),
     )
 
-pub stop_at-number-requires : goal.stop_at-number-requires
-stop_at-number-requires c =
+pub stop_at-requires : goal.stop_at-requires
+stop_at-requires c =
     let a = c.args in
-    let g = given (goal.at.stop_at-number-requires c).After-first_string-c in
+    let g = given (goal.at.stop_at-requires c).After-first_string-c in
     record {
       fits_value = rw sub-zero
           (front_fits a.mode a.p a.image.now a.marks.now a.text.now a.ends.now a.room c.requires _ g _ _ _
-          c.loop-next.invariant _ _ (met (goal.at.stop_at-number-requires c).After-string_at-step) _
-          (answer (goal.at.stop_at-number-requires c).After-fits_too-fits));
+          c.loop-next.invariant _ _ (met (goal.at.stop_at-requires c).After-string_at-step) _
+          (answer (goal.at.stop_at-requires c).After-fits_too-fits));
       laid = (
         c.requires.laid,
         rw sub-zero (front-listed a.marks.now a.text.now a.ends.now c.string_at-step.result.next.id c.requires.listed),
       );
     }
 
-pub returns-then-number-ne0 : goal.returns-then-number-ne0
-returns-then-number-ne0 c =
+pub returns-in_err-stop_at : goal.returns-in_err-stop_at
+returns-in_err-stop_at c =
     let a = c.args in
-    pass_stop a.mode a.p a.image.now a.marks.now a.text.now a.ends.now a.room c.requires _
-    (given (goal.at.returns-then-number-ne0 c).After-first_string-c) _ _ _ c.loop-next.invariant _ _
-    (met (goal.at.returns-then-number-ne0 c).After-string_at-step) _ (answer (goal.at.returns-then-number-ne0 c).After-fits_too-fits) _
-    (rw sub-zero at c.stop_at-number.ensures) c.if-number-ne0.true
+    let e = err_from_is_err_and c.from_residual.result c.from_residual.ensures.1 in
+    rw (e.1, e.2)
+    (pass_stop a.mode a.p a.image.now a.marks.now a.text.now a.ends.now a.room c.requires _
+    (given (goal.at.returns-in_err-stop_at c).After-first_string-c) _ _ _ c.loop-next.invariant _ _
+    (met (goal.at.returns-in_err-stop_at c).After-string_at-step) _ (answer (goal.at.returns-in_err-stop_at c).After-fits_too-fits) _
+    (rw sub-zero at c.stop_at.ensures) _ c.in_err-stop_at.was)
 
 pub next_edit-next-requires-in-loop-next : goal.next_edit-next-requires-in-loop-next
 next_edit-next-requires-in-loop-next c =
@@ -132,8 +136,10 @@ loop-next-preserved c =
     pass_next a.mode a.p a.image.now a.marks.now a.text.now a.ends.now a.room c.requires _
     (given (goal.at.loop-next-preserved c).After-first_string-c) _ _ _ c.loop-next.invariant _ _
     (met (goal.at.loop-next-preserved c).After-string_at-step) _ (answer (goal.at.loop-next-preserved c).After-fits_too-fits) _
-    (rw sub-zero at c.stop_at-number.ensures) c.if-number-ne0.false _ c.next_edit-next-in-loop-next.ensures
+    (rw sub-zero at c.stop_at.ensures) _ c.in_ok-stop_at.was _ c.next_edit-next-in-loop-next.ensures
 
 pub returns : goal.returns
 returns c =
-    pass_end _ _ _ _ _ _ _ c.requires _ (given (goal.at.returns c).After-first_string-c) _ _ _ c.loop-next.invariant c.loop-next-test.false
+    ap passed
+    (pass_end _ _ _ _ _ _ _ c.requires _ (given (goal.at.returns c).After-first_string-c) _ _ _ c.loop-next.invariant
+    c.loop-next-test.false)

@@ -1,4 +1,5 @@
 -- The plan for all old strings and all new values, each in the overflow table, meets nothing.
+use mathlib.Core.Path.{◌∙◌}
 use native.Mathlib.Omega.{arith}
 use Rattle.sections.proofs.SectionLaws.{sectioned}
 use Rattle.string_edits.specs.Told.{told, values_in}
@@ -42,12 +43,13 @@ plan_sizes-plan-requires c =
           c.old_bytes.ensures.1 c.new_bytes.ensures.1;
     }
 
-pub refusal-requires : goal.refusal-requires
-refusal-requires c =
+pub judge-requires : goal.judge-requires
+judge-requires c =
     let q = c.requires in
     (q.laid, most_tail _ _ _ _ _ q _ _ c.old_bytes.ensures.0 c.new_bytes.ensures.0 _ c.plan_sizes-plan.ensures)
 
 pub returns : goal.returns
 returns c =
-    roomy_is _ _ _ _ _ c.requires _ _ c.old_bytes.ensures.0 c.new_bytes.ensures.0 _
-    c.plan_sizes-plan.ensures c.args.room (omega (arith, c.if-room-image.false)) _ c.refusal.ensures
+    c.is_ok.ensures.value
+    ∙ roomy_is _ _ _ _ _ c.requires _ _ c.old_bytes.ensures.0 c.new_bytes.ensures.0 _
+    c.plan_sizes-plan.ensures c.args.room (omega (arith, c.if-room-image.false)) _ c.judge.ensures

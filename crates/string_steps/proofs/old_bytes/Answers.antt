@@ -4,8 +4,8 @@ use Rattle.string_walk.proofs.RecordLaws.{record_small}
 use Rattle.string_steps.proofs.SizeLaws.{sum_none, sum_end, old_next}
 use Rattle.string_steps.proofs.old_bytes.Goals as goal
 
-pub loop-c-init : goal.loop-c-init
-loop-c-init c =
+pub loop-id-init : goal.loop-id-init
+loop-id-init c =
     let e = c.first_string-c.ensures in
     let q = c.requires in
     (omega (arith, e.1), e.0 _ _ q.placed, rw e.1 (sum_none _), omega arith)
@@ -14,7 +14,7 @@ pub string_at-step-requires : goal.string_at-step-requires
 string_at-step-requires c =
     record {
       laid = c.requires;
-      cursor_of = (c.loop-c.invariant.1, c.loop-c-test.true);
+      cursor_of = (c.loop-id.invariant.1, omega (arith, c.loop-id.invariant.0));
     }
 
 pub size_of-sum-requires : goal.size_of-sum-requires
@@ -27,19 +27,16 @@ overflow_add-sum c =
     let q = c.requires in
     let z = sectioned _ _ q.placed in
     let small = (record_small _ _ q.placed _ _ c.string_at-step.ensures.string).0 in
-    omega (arith, c.size_of-sum.ensures.2, c.loop-c.invariant.3, c.loop-c.invariant.0)
+    omega (arith, c.size_of-sum.ensures.2, c.loop-id.invariant.3, c.loop-id.invariant.0)
 
-pub loop-c-smaller : goal.loop-c-smaller
-loop-c-smaller c = omega (arith, c.string_at-step.ensures.id, c.loop-c-test.true)
-
-pub loop-c-preserved : goal.loop-c-preserved
-loop-c-preserved c =
+pub loop-id-preserved : goal.loop-id-preserved
+loop-id-preserved c =
     let q = c.requires in
     let e = c.string_at-step.ensures in
-    let n = old_next _ _ q.placed _ _ e _ _ c.size_of-sum.ensures.0 c.loop-c.invariant.2 c.loop-c.invariant.3 in
-    (omega (arith, e.id, c.loop-c-test.true), e.next, n.0, n.1)
+    let n = old_next _ _ q.placed _ _ e _ _ c.size_of-sum.ensures.0 c.loop-id.invariant.2 c.loop-id.invariant.3 in
+    (omega (arith, e.id, c.loop-id.invariant.0), e.next, n.0, n.1)
 
 pub returns : goal.returns
 returns c =
-    let v = c.loop-c.invariant in
-    sum_end _ _ _ _ _ (omega (arith, v.0, c.loop-c-test.false)) v.2 v.3
+    let v = c.loop-id.invariant in
+    sum_end _ _ _ _ _ (omega (arith, v.0)) v.2 v.3

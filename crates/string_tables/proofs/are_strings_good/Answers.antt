@@ -7,7 +7,7 @@ use Rattle.string_tables.proofs.StringLaws.{count_none, EntryRead, count_next, e
 use Rattle.string_tables.proofs.are_strings_good.Goals as goal
 
 pub loop-i-init : goal.loop-i-init
-loop-i-init c = (omega arith, omega arith, record { placed = c.requires; count = count_none _; good = pass_none _ })
+loop-i-init c = (omega arith, record { placed = c.requires; count = count_none _; good = pass_none _ })
 
 pub entry_at-requires : goal.entry_at-requires
 entry_at-requires c =
@@ -34,16 +34,11 @@ pub returns-then-not-is_entry_good : goal.returns-then-not-is_entry_good
 returns-then-not-is_entry_good c =
     entry_fails _ _ _ _ _ _
     (record {
-      walked = c.loop-i.invariant.2;
+      walked = c.loop-i.invariant.1;
       known = c.loop-i-test.true;
       word = c.word-entry.ensures.0;
       place = c.entry_at.ensures;
     }) _ c.is_entry_good.ensures (ap not c.if-not-is_entry_good.true)
-
-pub overflow_add-k : goal.overflow_add-k
-overflow_add-k c =
-    let h = sectioned c.args.p c.args.image.now c.requires in
-    omega arith
 
 pub loop-i-preserved : goal.loop-i-preserved
 loop-i-preserved c =
@@ -51,15 +46,14 @@ loop-i-preserved c =
     let e : EntryRead c.args.p c.args.image.now l.i l.k c.word-entry.result c.entry_at.result
     =
     record {
-      walked = l.invariant.2;
+      walked = l.invariant.1;
       known = c.loop-i-test.true;
       word = c.word-entry.ensures.0;
       place = c.entry_at.ensures;
     } in (
       omega arith,
-      omega arith,
       record {
-        placed = l.invariant.2.placed;
+        placed = l.invariant.1.placed;
         count = count_next _ _ _ _ _ _ e _ _ c.is_full.ensures c.if_set-k.ensures.0;
         good = entries_next _ _ _ _ _ _ e _ c.is_entry_good.ensures (ap not c.if-not-is_entry_good.false);
       },
@@ -68,4 +62,4 @@ loop-i-preserved c =
 pub returns : goal.returns
 returns c =
     let l = c.loop-i in
-    entries_end _ _ l.i l.k l.invariant.2 (omega arith)
+    entries_end _ _ l.i l.k l.invariant.1 (omega arith)

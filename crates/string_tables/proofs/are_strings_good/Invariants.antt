@@ -1,10 +1,7 @@
 -- Every entry before i is good, and k of them overflow.
-use Prim.Native.Nat.{◌≤◌, ◌-◌}
+use Prim.Native.Nat.{◌≤◌}
 use Rattle.string_tables.proofs.StringLaws.{Walked}
 use Rattle.string_tables.proofs.are_strings_good.Given as goal
 
 abbrev pub invariant-loop-i : goal.invariant-loop-i
-invariant-loop-i l = (l.i ≤ l.p.strings) × (l.k ≤ l.i) × Walked l.p l.image l.i l.k
-
-abbrev pub decreases-loop-i : goal.decreases-loop-i
-decreases-loop-i l = l.p.strings - l.i
+invariant-loop-i l = (l.k ≤ l.i) × Walked l.p l.image l.i l.k

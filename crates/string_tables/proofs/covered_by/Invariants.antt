@@ -1,5 +1,5 @@
 -- What the kinds before k cover, in exact sums.
-use Prim.Native.Nat.{◌≤◌, ◌-◌, ◌*◌}
+use Prim.Native.Nat.{◌≤◌, ◌*◌}
 use mathlib.Core.Path.{◌≡◌}
 use Rattle.image.specs.Kinds.{covered, identified}
 use Rattle.format.specs.Table.{kind_entry}
@@ -8,9 +8,6 @@ use Rattle.string_tables.proofs.covered_by.Given as goal
 
 abbrev pub invariant-loop-k : goal.invariant-loop-k
 invariant-loop-k l =
-    (l.k ≤ l.n) × (l.strings ≡ covered (entry_in l.at kind_entry l.image) l.k)
+    (l.strings ≡ covered (entry_in l.at kind_entry l.image) l.k)
     × (l.identifiers ≡ identified (entry_in l.at kind_entry l.image) l.k)
     × (l.strings ≤ l.k * 2147483648) × (l.identifiers ≤ l.k * 2147483648)
-
-abbrev pub decreases-loop-k : goal.decreases-loop-k
-decreases-loop-k l = l.n - l.k

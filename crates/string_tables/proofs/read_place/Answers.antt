@@ -1,24 +1,7 @@
 -- An overflowed entry has its place in its pair, any other in its own fields.
-use mathlib.Core.Path.{refl, ◌∙◌, sym}
 use native.Mathlib.Omega.{arith}
 use Rattle.string_tables.proofs.StringLaws.{pair_place, own_place}
 use Rattle.string_tables.proofs.read_place.Goals as goal
-
-pub word-at-requires : goal.word-at-requires
-word-at-requires c =
-    let h = c.requires.width_in_bounds (sym c.is_full.ensures ∙ c.if-is_full.true) in
-    record {
-      k_lt_row_count = (omega arith, refl);
-      k_in_bounds = omega arith;
-    }
-
-pub word-count-requires : goal.word-count-requires
-word-count-requires c =
-    let h = c.requires.width_in_bounds (sym c.is_full.ensures ∙ c.if-is_full.true) in
-    record {
-      k_lt_row_count = (omega arith, refl);
-      k_in_bounds = omega arith;
-    }
 
 pub returns-then-is_full : goal.returns-then-is_full
 returns-then-is_full c =

@@ -9,19 +9,19 @@ use Rattle.translate.proofs.apply.Goals.{After-mark}
 
 -- what the look-up left
 marked : (c : After-mark) → let a = c.args in
-    let w = c.read_pairs-read.new in
-    MarkedOf a.p a.image.now a.file.now w.text w.ends c.mark.new.work c.in-Read.count
-marked c = let k = c.read_pairs-read.auto in
+    let w = c.read_pairs.new in
+    MarkedOf a.p a.image.now a.file.now w.text w.ends c.mark.new.work c.in-Some.count
+marked c = let k = c.read_pairs.auto in
     record {
       laid = c.requires.0;
       lends = lent_still _ _ _ _ _ _ _ _ c.requires.1 k.text k.ends (c.mark.auto.work ∙ k.work);
-      old = c.read_pairs-read.new.work;
-      read = read_of c.args.file.now _ _ _ _ _ c.read_pairs-read.ensures c.in-Read.is;
+      old = c.read_pairs.new.work;
+      read = read_of c.args.file.now _ _ _ _ _ c.read_pairs.ensures c.in-Some.is;
       mark = c.mark.ensures.by_index;
     }
 
-pub read_pairs-read-requires : goal.read_pairs-read-requires
-read_pairs-read-requires c =
+pub read_pairs-requires : goal.read_pairs-requires
+read_pairs-requires c =
     let q = c.requires.1 in
     (record { bytes = q.for_text; words = q.for_ends; low = q.low }, omega (arith, q.for_ends, q.for_work))
 
@@ -29,13 +29,13 @@ pub returns-in_default : goal.returns-in_default
 returns-in_default c =
     let a = c.args in
     unread a.mode _ _ a.out.now a.file.now
-    (read_outside a.file.now _ _ _ _ c.read_pairs-read.ensures c.in_default.is)
+    (read_outside a.file.now _ _ _ _ c.read_pairs.ensures c.in_default.is)
 
 pub mark-requires : goal.mark-requires
 mark-requires c =
-    let k = c.read_pairs-read.auto in
+    let k = c.read_pairs.auto in
     let l = lent_still _ _ _ _ _ _ _ _ c.requires.1 k.text k.ends k.work in
-    let rd = read_of c.args.file.now _ _ _ _ _ c.read_pairs-read.ensures c.in-Read.is in
+    let rd = read_of c.args.file.now _ _ _ _ _ c.read_pairs.ensures c.in-Some.is in
     record {
       laid = c.requires.0;
       entered = (entered _ _ _ _ _ _ l rd, omega (arith, l.for_ends, l.for_work));

@@ -6,9 +6,6 @@ use Rattle.utf.proofs.go_on.Goals as goal
 pub returns-then-not-r : goal.returns-then-not-r
 returns-then-not-r c = goes_still c.args.value.now c.args.from c.args.r c.requires
 
-pub returns-then-r-ne0 : goal.returns-then-r-ne0
-returns-then-r-ne0 c = goes_still c.args.value.now c.args.from c.args.r c.requires
-
 pub returns : goal.returns
 returns c =
     let a = c.args in

@@ -7,9 +7,6 @@ use Rattle.utf.specs.Utf8.{Small, between, reading_of, is_well}
 use Rattle.utf.proofs.ReadingLaws.{small-between, reading_next, judged_first, judged_ok, judged_wrong}
 use Rattle.utf.proofs.is_utf8.Goals as goal
 
-pub further-r-requires : goal.further-r-requires
-further-r-requires c = tt
-
 pub loop-i-init : goal.loop-i-init
 loop-i-init c =
     let s = c.args.value.now in
@@ -18,12 +15,6 @@ loop-i-init c =
       rw c.further-r.ensures (g.same between refl refl) ∙ judged_first s,
       subst Small (sym c.further-r.ensures) small-between,
     )
-
-pub next_byte-r-requires : goal.next_byte-r-requires
-next_byte-r-requires c = c.loop-i.invariant.2
-
-pub loop-i-smaller : goal.loop-i-smaller
-loop-i-smaller c = omega (arith, c.go_on-i.ensures.onward, c.go_on-i.ensures.within)
 
 pub loop-i-preserved : goal.loop-i-preserved
 loop-i-preserved c =
@@ -44,4 +35,4 @@ returns-then-r c =
 pub returns-else-r : goal.returns-else-r
 returns-else-r c =
     let l = c.loop-i in
-    judged_wrong l.r c.args.value.now l.i (omega arith) l.invariant.1 c.if-r.false
+    c.if-r.false ∙ judged_wrong l.r c.args.value.now l.i (omega arith) l.invariant.1 c.if-r.false

@@ -14,13 +14,10 @@ word c = row_at c.get.result c.args.first (length c.args.values.now) c.loop-i.i 
     c.requires.values_value (omega arith)
 
 pub loop-i-init : goal.loop-i-init
-loop-i-init c = (omega arith, refl, rw (add-zero c.args.first))
+loop-i-init c = (refl, rw (add-zero c.args.first))
 
 pub place-at-requires : goal.place-at-requires
 place-at-requires c = omega (arith, word_fits c.get.result (word (goal.at.place-at-requires c).After-get))
-
-pub overflow_cast-values : goal.overflow_cast-values
-overflow_cast-values c = omega (arith, c.type_inv.values c.loop-i.i)
 
 pub put_word-requires : goal.put_word-requires
 put_word-requires c =
@@ -31,10 +28,9 @@ pub loop-i-preserved : goal.loop-i-preserved
 loop-i-preserved c =
     let l = c.loop-i in
     let s = c.args in (
-      omega arith,
       c.put_word.auto.s
-          ∙ l.invariant.1,
-      run-next s.layout s.first l.i s.values.now l.buf _ l.invariant.2 c.get.result _
+          ∙ l.invariant.0,
+      run-next s.layout s.first l.i s.values.now l.buf _ l.invariant.1 c.get.result _
           (record {
             more = omega arith;
             row = c.get.ensures;
@@ -44,10 +40,10 @@ loop-i-preserved c =
     )
 
 pub shape_of-buf : goal.shape_of-buf
-shape_of-buf c = c.loop-i.invariant.1
+shape_of-buf c = c.loop-i.invariant.0
 
 pub returns : goal.returns
 returns c =
     let l = c.loop-i in
     let s = c.args in
-    run_end s.layout s.first l.i s.values.now l.buf _ l.invariant.2 (omega arith)
+    run_end s.layout s.first l.i s.values.now l.buf _ l.invariant.1 (omega arith)

@@ -1,8 +1,0 @@
-use Rattle.std.proofs.Common.{arith, le-ltb, lt-ltb}
-use Rattle.bits.proofs.least.Goals as goal
-
-pub returns-then-a-b : goal.returns-then-a-b
-returns-then-a-b c = (rw (lt-ltb c.args.a c.args.b c.if-a-b.true), omega (arith, c.if-a-b.true))
-
-pub returns-else-a-b : goal.returns-else-a-b
-returns-else-a-b c = (rw (le-ltb c.args.a c.args.b (omega (arith, c.if-a-b.false))), omega arith)
