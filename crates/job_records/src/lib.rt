@@ -15,7 +15,7 @@ use input_records::PatchHead;
 use refusals::Refusal;
 
 // How far a job has come: an image of so many bytes is held, and the record at this place is next; or
-// the record at this place was refused with this number.
+// the record at this place was refused, for this.
 // It stays an enum: a refused job is a state that the functions below take like any other, no plainer as a `Result`.
 #[derive(Clone, Copy)]
 pub enum Progress {

@@ -17,7 +17,7 @@ use refusals::Refusal;
 use sections::Places;
 use string_edits::Form;
 
-// The first of these that holds, in this order: the number of a refusal; in place; the entry is wide; the value is not
+// The first of these that holds, in this order: a refusal; in place; the entry is wide; the value is not
 // ASCII; the lengths of entry and value, in bytes, which differ; the lowest other string whose entry overlaps.
 // It stays one enum: a refusal is among the six that the theorems `reason_exactly` and `one_reason` tell apart.
 #[derive(Clone, Copy)]

@@ -64,6 +64,7 @@ fn built(head: &[u8; HEAD], buffer: &mut [u8]) -> Option<Answer> {
     let text = word(head, 1) as usize;
     let count = word(head, 2) as usize;
     let out_at = text + count * 4 + word(head, 3) as usize;
+    // No buffer is longer than LONGEST: the last test is there for the proof, which sees a slice of any length.
     if count > test_frames::LIST || out_at > buffer.len() || out_at > LONGEST {
         return None;
     }
