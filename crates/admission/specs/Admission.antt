@@ -20,11 +20,6 @@ answer_for l s n = pick (eqb n 0) (Ok (places_of l s)) (Err n)
 unfoldable pub admission : Layout → List ℕ → Result Places ℕ
 admission l s = answer_for l s (refusal l s)
 
--- the number of an answer, 0 being none
-abbrev pub number_of : Result Places ℕ → ℕ
-number_of (Ok p) = 0
-number_of (Err n) = n
-
 -- ---- its stages, in order
 
 -- numbers 1 to 3: the first four checks

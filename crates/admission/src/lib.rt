@@ -67,6 +67,6 @@ pub fn admit(image: &[u8], layout: Layout) -> Result<Places, Refusal>
     ensures { result ≡ admission layout image.now }
 {
     let p = lay_out(image, layout)?;
-    let _ = judge_strings(image, p)?;
+    judge_strings(image, p)?;
     judge_functions(image, p)
 }

@@ -1,6 +1,6 @@
 // Keys in buckets, over lent words: the head of each bucket, then a link for each key. A head or a
 // link is one more than the number of a key, 0 where there is none. A link leads to a lower key, so
-// a chain ends.
+// a chain ends. It stays numbers in lent words, where a map would do elsewhere: there is no heap.
 #![tactic(auto)]
 
 ghost use Rattle.std.specs.Prelude.{◌≡◌, ◌+◌, ◌≤◌, ◌<◌, length, get_or, replicate};

@@ -2,7 +2,8 @@
 // Rust's footer.rs and of `finalize_raw_image` of its serialize.rs.
 //
 // Where the Rust grows a vector, a function here takes a lent buffer and the length of what is in
-// it, and answers the new length; the buffer's other bytes stay. A refusal changes no byte.
+// it, and answers the new length; the buffer's other bytes stay. A refusal changes no byte. So it stays: there is
+// no heap, and the buffer is its caller's.
 #![tactic(auto)]
 
 ghost use Rattle.std.specs.Prelude.{◌≡◌, ◌+◌, ◌≤◌, length, take};

@@ -91,7 +91,7 @@ fn half_word(s: &[u8], at: usize) -> usize
     requires { at + 2 ≤ length s.now }
     ensures { (result ≡ number_at s.now at 2) × (result < 65536) }
 {
-    (bits::wide(s[at]) + bits::wide(s[at + 1]) * 256) as usize
+    s[at] as usize + s[at + 1] as usize * 256
 }
 
 // Judges the bytes before a new value or body: what is patched, its id and the length of what is

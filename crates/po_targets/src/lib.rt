@@ -1,6 +1,6 @@
 // The pairs of a translators' file, looked up among the plain strings of an image: each string is hashed
 // where it stands, and the chain of its bucket is walked. A string that a pair goes to is marked, and
-// each pair that is to be applied must be found.
+// each pair that is to be applied must be found. The words stay runs of numbers: they are lent, and there is no heap.
 #![tactic(auto)]
 
 ghost use Rattle.std.specs.Prelude.{◌≡◌, not, ℕ, suc, ◌+◌, ◌≤◌, ◌<◌, eqb, length, get_or};

@@ -1,6 +1,7 @@
 // A translators' file of the plain strings of an image (02, No. 1): one pair for each value that a file
 // can have, in id order. Equal values are found by chains over their hashes in lent words, so that the
-// work grows with the strings; nothing is written before the whole length is known.
+// work grows with the strings; nothing is written before the whole length is known. The words stay runs of numbers:
+// they are lent, and there is no heap.
 #![tactic(auto)]
 
 ghost use Rattle.std.specs.Prelude.{◌≡◌, true, ◌+◌, ◌*◌, ◌≤◌, ◌<◌, length, replicate};

@@ -2,7 +2,7 @@
 // and a table of strings. A port of `build_minimal_modern` of the Rust's serialize.rs.
 //
 // The strings come as one text and their end places: string i is the text from the end before it to
-// its own. Everything is judged before the first byte is written.
+// its own. They stay two slices: callers in C lend them so. Everything is judged before the first byte is written.
 #![tactic(auto)]
 
 ghost use Rattle.std.specs.Prelude.{◌≡◌, true, false, ◌+◌, ◌≤◌, ◌<◌, ◌^◌, length};

@@ -1,6 +1,6 @@
 // Edits of strings: the values as one text, where each value ends in it, and words that tell which
 // string gets which. What is judged of a list of ids, and which edit comes next in the order of ids:
-// nothing is sorted or copied.
+// nothing is sorted or copied. Text and ends stay two slices: callers in C lend them so, and there is no heap.
 #![tactic(auto)]
 
 ghost use Rattle.std.specs.Prelude.{◌≡◌, ℕ, suc, ◌≤◌, ◌<◌, length, get_or};

@@ -1,6 +1,7 @@
 // An index of the strings of an image (02, No. 13): for each id its offset in storage, its length and
 // its flags, in three runs of lent words. One pass over the tables fills it; a look-up reads three
-// words, where the walk goes over the tables from their starts.
+// words, where the walk goes over the tables from their starts. The runs stay apart: document 02 gives them so to
+// callers in C.
 #![tactic(auto)]
 
 ghost use Rattle.std.specs.Prelude.{◌≡◌, List, ℕ, ◌+◌, ◌≤◌, ◌<◌, ltb, length};
