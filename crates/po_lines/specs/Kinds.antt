@@ -109,12 +109,12 @@ continues_value Outside = false
 
 -- ---- what a writer of the value of a line promises
 
-pub record PutLine (old : List ℕ) (at : ℕ) (line : List ℕ) (k : Kind) (to : ℕ) (new : List ℕ) : Type 0 where
+pub record PutLine (old : List ℕ) (at : ℕ) (line : List ℕ) (k : Kind) (to : ℕ) (whole : Bool) (new : List ℕ) : Type 0 where
   pub wrote : Wrote old at (text_of k line) to new
   pub few : to ≤ at + length line
-  pub closed : is_whole k line ≡ true
+  pub closed : is_whole k line ≡ whole
 
--- so where its text, if it has any, is closed at its end
+-- the place behind it is answered where its text, if it has any, is closed at its end
 abbrev pub PutLineAs : List ℕ → ℕ → List ℕ → Kind → Option ℕ → List ℕ → Type 0
-PutLineAs old at line k (Some to) new = PutLine old at line k to new
-PutLineAs old at line k None new = is_whole k line ≡ false
+PutLineAs old at line k (Some to) new = PutLine old at line k to true new
+PutLineAs old at line k None new = (to : ℕ) × PutLine old at line k to false new

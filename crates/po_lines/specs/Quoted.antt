@@ -55,13 +55,13 @@ pub record Stepped (old : List ℕ) (at : ℕ) (q : Quote) (b : ℕ) (r : Step) 
   pub few : r.to ≤ at + 1
   pub next : r.quote ≡ quote_next q b
 
--- its value stands at a place of the buffer, up to `to`; it has no more bytes than the text
-pub record PutText (old : List ℕ) (at : ℕ) (text : List ℕ) (to : ℕ) (new : List ℕ) : Type 0 where
+-- its value stands at a place of the buffer, up to `to`; it has no more bytes than the text, which is closed or not
+pub record PutText (old : List ℕ) (at : ℕ) (text : List ℕ) (to : ℕ) (whole : Bool) (new : List ℕ) : Type 0 where
   pub wrote : Wrote old at (unescaped Open text) to new
   pub few : to ≤ at + length text
-  pub closed : is_closed (quote_end Open text) ≡ true
+  pub closed : is_closed (quote_end Open text) ≡ whole
 
--- so where the text is closed at its end
+-- the place behind it is answered where the text is closed at its end
 abbrev pub PutTextAs : List ℕ → ℕ → List ℕ → Option ℕ → List ℕ → Type 0
-PutTextAs old at text (Some to) new = PutText old at text to new
-PutTextAs old at text None new = is_closed (quote_end Open text) ≡ false
+PutTextAs old at text (Some to) new = PutText old at text to true new
+PutTextAs old at text None new = (to : ℕ) × PutText old at text to false new

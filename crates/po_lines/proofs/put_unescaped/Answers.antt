@@ -37,6 +37,13 @@ pub returns-else-is_closed : goal.returns-else-is_closed
 returns-else-is_closed c =
     let l = c.loop-b in
     let s = c.args.text.now in
-    ap (λ (q : Quote). is_closed q) (sym l.invariant.2 ∙ end_last l.quote s l.b-index (omega arith))
-    ∙ sym c.is_closed.ensures
-    ∙ c.if-is_closed.false
+    let e = text_last l.quote s l.b-index (omega arith) in (
+      l.to,
+      record {
+        wrote = (omega (arith, l.invariant.3, ap length e), rw e at l.invariant.4);
+        few = omega (arith, l.invariant.1);
+        closed = ap (λ (q : Quote). is_closed q) (sym l.invariant.2 ∙ end_last l.quote s l.b-index (omega arith))
+            ∙ sym c.is_closed.ensures
+            ∙ c.if-is_closed.false;
+      },
+    )

@@ -15,7 +15,7 @@ pub returns-in_err-behind : goal.returns-in_err-behind
 returns-in_err-behind c =
     let a = c.args in
     rw c.from_residual.ensures
-    (text_unclosed a.file.now a.at a.end c.requires.0 _ c.marked_as-kind.ensures c.in_err-behind.ensures)
+    (text_unclosed a.file.now a.at a.end c.requires.0 _ c.marked_as-kind.ensures c.in_err-behind.ensures.1.closed)
 
 pub returns : goal.returns
 returns c =
