@@ -184,7 +184,10 @@ pub fn put_bytes(s: &mut [u8], at: usize, src: &[u8])
     requires { at + length src.now ≤ length s.old }
     ensures { s.new ≡ sets s.old at src.now }
 {
-    s[at..at + src.len()].copy_from_slice(src);
+    // No `copy_from_slice`: it calls `memmove`, which an archive for C would then need from outside.
+    for (i, byte) in src.iter().enumerate() {
+        s[at + i] = *byte;
+    }
 }
 
 // `n` copies of `x`, stored from `at` on.

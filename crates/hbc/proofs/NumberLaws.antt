@@ -17,6 +17,7 @@ use Rattle.admission.proofs.AnswerLaws.{refused_is, laid-is}
 use Rattle.bits.specs.Outcome.{Outcome, roomed, Answers}
 use Rattle.translate.specs.Space.{LeavesSpace}
 use Rattle.string_reasons.specs.declared.Reason.{Reason}
+use Rattle.string_reasons.specs.declared.Reason.TheVariants as reason-is
 use Rattle.hbc.specs.Numbers.{admit_number, numbered, Codes, stated, mode_of, chosen, used_by, work_by, work_in}
 use Rattle.hbc.specs.Numbers.{count_stated}
 use Rattle.hbc.specs.Reads.{reason_words}
@@ -152,13 +153,20 @@ module _ (layout mode : ℕ) (after : Layout → List ℕ) (old : List ℕ) wher
 
 -- ---- an answer that is a reason
 
+pub reason_refused : (room k n : ℕ) (old : List ℕ) → n ≡ k
+    → Codes (roomed room (reason_words (reason-is.Refused k))) (4294967296 + n) old old
+unfolding roomed
+reason_refused room k n old e = rw e (refl, refl)
+
 pub reason_codes : (layout mode : ℕ) (f : Layout → Mode → Reason) (l : Layout) (m : Mode) → States layout l → Chooses mode m
-    → (room : ℕ) (r : Reason) → r ≡ f l m → (a : Result ℕ ℕ) (n : ℕ) (old new : List ℕ)
-    → Answers (roomed room (reason_words r)) a old new → n ≡ numbered a
+    → (room : ℕ) (r : Reason) → r ≡ f l m → (n : ℕ) (old new : List ℕ) → Codes (roomed room (reason_words r)) n old new
     → Codes (stated layout (λ k. chosen mode (λ j. roomed room (reason_words (f k j))))) n old new
-reason_codes layout mode f l m y z room r e a n old new g =
-    mode_codes layout mode (λ k j. roomed room (reason_words (f k j))) l m y z a n old new
-    (subst (λ (q : Reason). Answers (roomed room (reason_words q)) a old new) e g)
+unfolding stated chosen
+reason_codes layout mode f l m y z room r e n old new g =
+    rw (le-ltb 4 layout y.known, le-ltb 1 mode z.known)
+    (subst (λ (k : Layout). Codes (roomed room (reason_words (f k (mode_of mode)))) n old new) y.is
+    (subst (λ (j : Mode). Codes (roomed room (reason_words (f l j))) n old new) z.is
+    (subst (λ (q : Reason). Codes (roomed room (reason_words q)) n old new) e g)))
 
 -- ---- an answer that counts strings
 

@@ -417,17 +417,17 @@ const LENGTHS: u32 = 3;
 
 const OVERLAP: u32 = 4;
 
-// The code of a reason and its two words, or its refusal.
-fn put_reason(reason: Reason, out: &mut [u32]) -> Result<usize, Refusal>
-    ensures { Answers (roomed (length out.old) (reason_words reason)) result out.old out.new }
+// The code of a reason and its two words, or the number that it is refused with, as one answer.
+fn put_reason(reason: Reason, out: &mut [u32]) -> u64
+    ensures { Codes (roomed (length out.old) (reason_words reason)) result out.old out.new }
 {
     match reason {
-        Reason::Refused(refusal) => Err(refusal),
-        Reason::InPlace => put_words(IN_PLACE, 0, 0, out),
-        Reason::Wide => put_words(WIDE, 0, 0, out),
-        Reason::NotAscii => put_words(NOT_ASCII, 0, 0, out),
-        Reason::Lengths(entry, value) => put_words(LENGTHS, entry, value, out),
-        Reason::Overlap(id) => put_words(OVERLAP, id, 0, out),
+        Reason::Refused(n) => REFUSED + bits::wide(n),
+        Reason::InPlace => number(put_words(IN_PLACE, 0, 0, out)),
+        Reason::Wide => number(put_words(WIDE, 0, 0, out)),
+        Reason::NotAscii => number(put_words(NOT_ASCII, 0, 0, out)),
+        Reason::Lengths(entry, value) => number(put_words(LENGTHS, entry, value, out)),
+        Reason::Overlap(id) => number(put_words(OVERLAP, id, 0, out)),
     }
 }
 
@@ -462,7 +462,7 @@ pub extern "C" fn nepuladrim_why<'a>(
         value,
         index,
     );
-    number(put_reason(reason, out))
+    put_reason(reason, out)
 }
 
 // ---- facts: what is known of an image, or of its strings, as numbers

@@ -123,7 +123,7 @@ pub fn run<I: Read, O: Write, E: Write>(
     let mut left = begun.left;
     let mut short = begun.short;
     // Stays a while loop: it reads to the end of the input, and no index is counted.
-    while !job_records::is_refused(&progress) {
+    while !job_records::is_refused(progress) {
         let front = read(input, &mut head, left);
         let n = front.count;
         if n == 0 {

@@ -15,12 +15,12 @@ use input_records::PatchHead;
 use refusals::Refusal;
 
 // How far a job has come: an image of so many bytes is held, and the record at this place is next; or
-// the record at this place was refused, for this.
+// the record at this place was refused with this number, which may be any: `finish` writes what it gets.
 // It stays an enum: a refused job is a state that the functions below take like any other, no plainer as a `Result`.
 #[derive(Clone, Copy)]
 pub enum Progress {
     Under(Layout, usize, u64),
-    Refused(u64, Refusal),
+    Refused(u64, u8),
 }
 
 // The most bytes that a patch record states behind its head.
@@ -52,10 +52,10 @@ fn begin_image(image: &[u8], layout: Layout, stated: usize) -> Progress
     ensures { result ≡ begun_head (Ok (layout, stated)) image.now }
 {
     if image.len() < stated {
-        return Progress::Refused(0, refusals::JOB);
+        return Progress::Refused(0, refusals::JOB.number());
     }
     if let Err(refusal) = admission::admit(image, layout) {
-        return Progress::Refused(0, refusal);
+        return Progress::Refused(0, refusal.number());
     }
     Progress::Under(layout, image.len(), 1)
 }
@@ -66,7 +66,7 @@ pub fn begin(head: &[u8], image: &[u8]) -> Progress
 {
     match input_records::image_head(head) {
         Ok((layout, stated)) => begin_image(image, layout, stated),
-        Err(refusal) => Progress::Refused(0, refusal),
+        Err(refusal) => Progress::Refused(0, refusal.number()),
     }
 }
 
@@ -118,7 +118,7 @@ pub fn step(
     let held = bits::least(length, image.len());
     let answer = apply(&image[0..held], layout, head, bytes, out);
     match answer {
-        Err(refusal) => Progress::Refused(place, refusal),
+        Err(refusal) => Progress::Refused(place, refusal.number()),
         Ok(new) => {
             bits::put_bytes(image, 0, &out[0..new]);
             Progress::Under(layout, new, std::num::wrapping_add_u64(place, 1))
@@ -127,8 +127,8 @@ pub fn step(
 }
 
 // Whether a record was refused: nothing more is read then.
-pub fn is_refused(progress: &Progress) -> bool
-    ensures { result ≡ is_refused progress.now }
+pub fn is_refused(progress: Progress) -> bool
+    ensures { result ≡ is_refused progress }
 {
     matches!(progress, Progress::Refused(_, _))
 }
@@ -162,6 +162,6 @@ pub fn finish(progress: Progress, image: &mut [u8]) -> usize
 {
     match progress {
         Progress::Under(_, length, place) => close_image(image, length, place),
-        Progress::Refused(place, refusal) => put_refused(image, place, refusal.number() as u64),
+        Progress::Refused(place, number) => put_refused(image, place, number as u64),
     }
 }

@@ -113,7 +113,7 @@ pub record StringSought (l : Layout) (s : List ℕ) (id : ℕ) (p : Places) (loc
 
 module _ {l : Layout} {s : List ℕ} {id : ℕ} {p : Places} {loc : Result Location ℕ} (z : StringSought l s id p loc) where
   -- no such string
-  string-absent : (m : ℕ) → loc ≡ Err m → loc ≡ string_read l s id
+  pub string-absent : (m : ℕ) → loc ≡ Err m → loc ≡ string_read l s id
   unfolding string_read
   string-absent m u =
       let (w, b) = located_none p s id refusals.id loc z.located m u in
@@ -122,7 +122,7 @@ module _ {l : Layout} {s : List ℕ} {id : ℕ} {p : Places} {loc : Result Locat
       (omega (arith, (counts l s p z.answer).0))
 
   -- the string that was located
-  string_found : (q : Location) → loc ≡ Ok q → loc ≡ string_read l s id
+  pub string_found : (q : Location) → loc ≡ Ok q → loc ≡ string_read l s id
   unfolding string_read
   string_found q u =
       let (same, known, st, v) = located_at p s id refusals.id loc z.located q u in

@@ -155,7 +155,10 @@ pub fn shift_legacy_offsets(w: Words, delta: i32) -> Option<Words>
 {
     let offset = field_sum(w, format::LEGACY_OFFSET, delta)?;
     let placed = with_exact(w, format::LEGACY_OFFSET, offset);
-    let info = info_sum(w, delta)?;
+    // No `?`: the edit that lets the offset move alone changes the line that gives it up.
+    let Some(info) = info_sum(w, delta) else {
+        return None; // the offset's move goes with it
+    };
     Some(with_exact(placed, format::LEGACY_INFO, info))
 }
 

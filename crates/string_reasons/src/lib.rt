@@ -17,12 +17,12 @@ use refusals::Refusal;
 use sections::Places;
 use string_edits::Form;
 
-// The first of these that holds, in this order: a refusal; in place; the entry is wide; the value is not
+// The first of these that holds, in this order: the number of a refusal; in place; the entry is wide; the value is not
 // ASCII; the lengths of entry and value, in bytes, which differ; the lowest other string whose entry overlaps.
 // It stays one enum: a refusal is among the six that the theorems `reason_exactly` and `one_reason` tell apart.
 #[derive(Clone, Copy)]
 pub enum Reason {
-    Refused(Refusal),
+    Refused(u8),
     InPlace,
     Wide,
     NotAscii,
@@ -105,7 +105,7 @@ fn judged<'a>(
     let Reason::InPlace = path else {
         return match judge_rebuild(image, p, mode, id, value) {
             Ok(()) => path,
-            Err(refusal) => Reason::Refused(refusal),
+            Err(refusal) => Reason::Refused(refusal.number()),
         };
     };
     path
@@ -127,16 +127,16 @@ pub fn why<'a>(
 {
     let p = match string_index::admit_indexed(image, layout, index) {
         Ok(p) => p,
-        Err(refusal) => return Reason::Refused(refusal),
+        Err(refusal) => return Reason::Refused(refusal.number()),
     };
     if p.strings <= id {
-        return Reason::Refused(refusals::ID);
+        return Reason::Refused(refusals::ID.number());
     }
     if !utf::is_utf8(value) {
-        return Reason::Refused(refusals::VALUE);
+        return Reason::Refused(refusals::VALUE.number());
     }
     if strings::LONGEST < value.len() {
-        return Reason::Refused(refusals::LIMIT);
+        return Reason::Refused(refusals::LIMIT.number());
     }
     judged(image, p, mode, id, value, path_of(index, p, id, value))
 }

@@ -1,4 +1,5 @@
 // The call by its number, with arguments in the order of the judge's table, oracle/src/why.
+use refusals::Refusal;
 use string_reasons::Reason;
 use test_frames::{Answer, HEAD, LIST, results, word};
 
@@ -33,17 +34,36 @@ fn answer_with<'a>(
     }
     let id = test_frames::long(head, 2) as usize;
     let mode = test_frames::mode(head, 1);
-    Some(told(string_reasons::why(image, layout, mode, id, value, index)))
+    told(string_reasons::why(image, layout, mode, id, value, index))
 }
 
 // A reason as three words: its code, and two that are 0 where it has none.
-fn told(reason: Reason) -> Answer {
-    match reason {
-        Reason::Refused(refusal) => Err(refusal),
-        Reason::InPlace => Ok(results([0])),
-        Reason::Wide => Ok(results([1])),
-        Reason::NotAscii => Ok(results([2])),
-        Reason::Lengths(entry, value) => Ok(results([3, entry, value])),
-        Reason::Overlap(id) => Ok(results([4, id])),
+fn told(reason: Reason) -> Option<Answer> {
+    let words = match reason {
+        Reason::Refused(number) => return Some(Err(refusal_of(number)?)),
+        Reason::InPlace => results([0]),
+        Reason::Wide => results([1]),
+        Reason::NotAscii => results([2]),
+        Reason::Lengths(entry, value) => results([3, entry, value]),
+        Reason::Overlap(id) => results([4, id]),
+    };
+    Some(Ok(words))
+}
+
+// The refusal that a reason gives by its number. None for a number that no reason has: it gets no answer.
+fn refusal_of(number: u8) -> Option<Refusal> {
+    match number {
+        1 => Some(refusals::SIZE),
+        2 => Some(refusals::MAGIC),
+        3 => Some(refusals::SECTIONS),
+        4 => Some(refusals::KINDS),
+        5 => Some(refusals::STRING),
+        6 => Some(refusals::FUNCTION),
+        7 => Some(refusals::ID),
+        8 => Some(refusals::VALUE),
+        11 => Some(refusals::LIMIT),
+        12 => Some(refusals::FIELD),
+        13 => Some(refusals::ROOM),
+        _ => None,
     }
 }

@@ -32,7 +32,7 @@ returns c =
     = record { known = omega (arith, c.if-mode-gt-LAST_MODE.false); is = c.mode_of.ensures } in
     record {
       codes = reason_codes a.layout a.mode
-          (λ l m. reason_of m l a.image.now (length a.index.now) a.id a.value.now) _ _ y z _ _ e.0 _ _ _ _
-          c.put_reason.ensures c.number.ensures;
+          (λ l m. reason_of m l a.image.now (length a.index.now) a.id a.value.now) _ _ y z _ _ e.0 _ _ _
+          c.put_reason.ensures;
       index_after = mode_in _ _ _ _ _ _ y z _ e.1;
     }

@@ -1,4 +1,5 @@
-use Rattle.std.proofs.Common.{◌∙◌}
+use Rattle.std.specs.Prelude.{Err}
+use Rattle.std.proofs.Common.{ap, sym, ◌∙◌}
 use Rattle.job_records.proofs.RecordLaws.{begun-is}
 use Rattle.job_records.proofs.begin.Goals as goal
 
@@ -6,4 +7,4 @@ pub returns-in-Ok : goal.returns-in-Ok
 returns-in-Ok c = c.begin_image.ensures ∙ begun-is _ _ _ _ c.image_head.ensures c.in-Ok.is
 
 pub returns-in-Err : goal.returns-in-Err
-returns-in-Err c = begun-is _ _ _ _ c.image_head.ensures c.in-Err.is
+returns-in-Err c = begun-is _ _ _ _ c.image_head.ensures (c.in-Err.is ∙ ap Err (sym c.number.ensures))

@@ -12,4 +12,4 @@ pub returns-in-Refused : goal.returns-in-Refused
 returns-in-Refused c =
     let a = c.args in
     close_refused a.progress a.image.now _ _ _ _ c.in-Refused.is
-    (rw c.number.ensures at c.put_refused.ensures.0) (omega (arith, c.put_refused.ensures.1, c.requires))
+    c.put_refused.ensures.0 (omega (arith, c.put_refused.ensures.1, c.requires))

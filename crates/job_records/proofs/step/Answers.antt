@@ -1,5 +1,6 @@
 -- A refusal leaves both buffers; an accepted patch is made in one and copied to the other.
-use Rattle.std.proofs.Common.{arith}
+use Rattle.std.specs.Prelude.{Err}
+use Rattle.std.proofs.Common.{arith, ap, sym, ◌∙◌}
 use Rattle.job_records.proofs.RecordLaws.{stepped_refused, stepped_made, new_fits, part_fits}
 use Rattle.job_records.proofs.step.Goals as goal
 
@@ -36,7 +37,7 @@ returns-in-Err c =
     let a = c.args in
     stepped_refused a.progress _ _ _ _ a.image.now a.head.now a.bytes.now a.out.now _ _
     (record { under = c.in-Under.is; part = c.least-held.ensures.0; answers = c.apply-answer.ensures }) _
-    c.in-Err.is
+    (c.in-Err.is ∙ ap Err (sym c.number.ensures))
 
 pub returns-in-Ok : goal.returns-in-Ok
 returns-in-Ok c =

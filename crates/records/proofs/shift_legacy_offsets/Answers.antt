@@ -30,15 +30,14 @@ with_exact-placed-requires c =
           (sym (offset-is (goal.at.with_exact-placed-requires c).After-field_sum) ∙ c.in_ok-offset.was);
     }
 
-pub returns-in_err-info : goal.returns-in_err-info
+pub returns-in_default : goal.returns-in_default
 unfolding shift_small
-returns-in_err-info c =
+returns-in_default c =
     rw (
-      ← offset-is (goal.at.returns-in_err-info c).After-field_sum,
+      ← offset-is (goal.at.returns-in_default c).After-field_sum,
       c.in_ok-offset.was,
-      ← info-is (goal.at.returns-in_err-info c).After-info_sum,
-      c.in_err-info.was,
-      c.from_residual-in_err-info.ensures,
+      ← info-is (goal.at.returns-in_default c).After-info_sum,
+      c.in_default.is,
     )
 
 pub with_exact-requires : goal.with_exact-requires
@@ -46,7 +45,7 @@ with_exact-requires c =
     let a = c.args in
     record {
       k_value = search rules;
-      v_bound = info_lt a.delta _ _ (sym (info-is (goal.at.with_exact-requires c).After-info_sum) ∙ c.in_ok-info.was);
+      v_bound = info_lt a.delta _ _ (sym (info-is (goal.at.with_exact-requires c).After-info_sum) ∙ c.in-Some.is);
     }
 
 pub returns : goal.returns
@@ -56,7 +55,7 @@ returns c =
       ← offset-is (goal.at.returns c).After-field_sum,
       c.in_ok-offset.was,
       ← info-is (goal.at.returns c).After-info_sum,
-      c.in_ok-info.was,
+      c.in-Some.is,
       c.with_exact.ensures.0,
       c.with_exact-placed.ensures.0,
     )

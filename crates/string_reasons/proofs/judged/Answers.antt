@@ -20,7 +20,7 @@ returns-in-Ok c =
 pub returns-in-Err : goal.returns-in-Err
 returns-in-Err c =
     let a = c.args in
-    judged_some a.p.layout a.image.now a.id a.value.now _ c.requires.path_value a.mode _ c.in-Err.ensures
+    rw c.number.ensures (judged_some a.p.layout a.image.now a.id a.value.now _ c.requires.path_value a.mode _ c.in-Err.ensures)
 
 pub returns : goal.returns
 returns c =

@@ -31,14 +31,14 @@ pub returns-in-Err : goal.returns-in-Err
 returns-in-Err c =
     let a = c.args in
     let e = c.in-Err.ensures in
-    (why_refused a.mode a.layout a.image.now a.id a.value.now a.index.now _ e.0 _ refl, e.1)
+    (rw c.number.ensures (why_refused a.mode a.layout a.image.now a.id a.value.now a.index.now _ e.0 _ refl), e.1)
 
 pub returns-then-p-id : goal.returns-then-p-id
 returns-then-p-id c =
     let a = c.args in
     let e = c.in-Ok.ensures in (
-      why_absent a.mode a.layout a.image.now a.id a.value.now a.index.now _ e.0 _ refl
-          c.if-p-id.true,
+      rw c.number-then-p-id.ensures
+          (why_absent a.mode a.layout a.image.now a.id a.value.now a.index.now _ e.0 _ refl c.if-p-id.true),
       e.1,
     )
 
@@ -46,8 +46,9 @@ pub returns-then-not-is_utf8 : goal.returns-then-not-is_utf8
 returns-then-not-is_utf8 c =
     let a = c.args in
     let e = c.in-Ok.ensures in (
-      why_value a.mode a.layout a.image.now a.id a.value.now a.index.now _ e.0 _ refl
-          c.if-p-id.false _ c.is_utf8.ensures (ap not c.if-not-is_utf8.true),
+      rw c.number-then-not-is_utf8.ensures
+          (why_value a.mode a.layout a.image.now a.id a.value.now a.index.now _ e.0 _ refl
+          c.if-p-id.false _ c.is_utf8.ensures (ap not c.if-not-is_utf8.true)),
       e.1,
     )
 
@@ -55,9 +56,10 @@ pub returns-then-value-gt-LONGEST : goal.returns-then-value-gt-LONGEST
 returns-then-value-gt-LONGEST c =
     let a = c.args in
     let e = c.in-Ok.ensures in (
-      why_long a.mode a.layout a.image.now a.id a.value.now a.index.now _ e.0 _ refl
+      rw c.number-then-value-gt-LONGEST.ensures
+          (why_long a.mode a.layout a.image.now a.id a.value.now a.index.now _ e.0 _ refl
           c.if-p-id.false _ c.is_utf8.ensures (ap not c.if-not-is_utf8.false) (laid (goal.at.returns-then-value-gt-LONGEST c).In-Ok)
-          c.if-value-gt-LONGEST.true,
+          c.if-value-gt-LONGEST.true),
       e.1,
     )
 
